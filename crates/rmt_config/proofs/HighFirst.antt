@@ -31,14 +31,19 @@ bytes-last front (suc n) (suc k) x all =
     drop-append-le front (bytes_of k (x / 256)) (x % 256 ∷ []) (let l = length-bytes_of k (x / 256) in omega (arith, l, less))
     ∙ ap (λ (bytes : List ℕ). bytes ++ x % 256 ∷ []) (bytes-last front n k (x / 256) less)
 
+-- the lowest bytes of a number
+pub last-of : (bytes : List ℕ) (count n : ℕ) → count ≤ 8 → bytes ≡ bytes_high_first 8 n → drop (8 - count) bytes ≡ bytes_of count n
+last-of bytes count n few is =
+    let front = 8 - count in
+    let all : count + front ≡ 8 = omega (arith, few) in
+    ap (drop front) (is ∙ high_first 8 n) ∙ bytes-last front count 8 n (sym all)
+
 -- those that a call appends where it goes well
 pub last-appended : {T E : Type 0} (r : Result T E) (new old bytes : List ℕ) (count n : ℕ) → count ≤ 8 → bytes ≡ bytes_high_first 8 n
     → new ≡ cond (is_ok r) (old ++ take (8 - (8 - count)) (drop (8 - count) bytes)) old → OnOk r (new ≡ old ++ bytes_of count n)
 last-appended (Ok x) new old bytes count n few is e =
     let front = 8 - count in
-    let all : count + front ≡ 8 = omega (arith, few) in
-    let last : drop front bytes ≡ bytes_of count n =
-    ap (drop front) (is ∙ high_first 8 n) ∙ bytes-last front count 8 n (sym all) in
+    let last = last-of bytes count n few is in
     let long : length (bytes_of count n) ≤ 8 - front = let l = length-bytes_of count n in omega (arith, l, few) in
     e ∙ ap (λ (t : List ℕ). old ++ t) (ap (take (8 - front)) last ∙ take_all (8 - front) (bytes_of count n) long)
 last-appended (Err x) new old bytes count n few is e = tt

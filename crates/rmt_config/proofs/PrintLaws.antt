@@ -5,8 +5,7 @@ use Rattle.std.specs.Str.{bytes_eq}
 use Rattle.std.proofs.lemmas.Bool.{and_parts, and_from, eq-eqb, false≢true, not-true, not_from_false, or_from, or_parts}
 use Rattle.std.proofs.lemmas.Slice.Eq.{bytes_eq-Decides}
 use Rattle.rmt_bits.specs.Bits.{bytes_of}
-use Rattle.rmt_bits.specs.Hash.{fnv}
-use Rattle.rmt_config.specs.KeyPrints.{kept_of_keys, print_of}
+use Rattle.rmt_config.specs.KeyPrints.{kept_of_keys, print, print_of}
 use Rattle.rmt_config.specs.KeysSeen.{news, was_seen}
 use Rattle.rmt_config.specs.Order.{are_new}
 use Rattle.rmt_config.proofs.KeyListLaws.{kept-prints}
@@ -14,7 +13,7 @@ use Rattle.rmt_config.proofs.KeyListLaws.{kept-prints}
 not_same : (size k m : ℕ) → eqb (print_of size m) (print_of size k) ≡ false → (b : Bool) → bytes_eq (bytes_of size m) (bytes_of size k) ≡ b → b ≡ false
 not_same size k m e false is = refl
 not_same size k m e true is =
-    absurd (false≢true (sym e ∙ eq-eqb (print_of size m) (print_of size k) (ap fnv ((bytes_eq-Decides (bytes_of size m) (bytes_of size k)).0 is))))
+    absurd (false≢true (sym e ∙ eq-eqb (print_of size m) (print_of size k) (ap print ((bytes_eq-Decides (bytes_of size m) (bytes_of size k)).0 is))))
 
 unseen : (size k : ℕ) (before : List ℕ) → list_any (λ m. eqb m (print_of size k)) (map (print_of size) before) ≡ false → was_seen size k before ≡ false
 unseen size k [] e = refl

@@ -4,11 +4,13 @@ use Rattle.std.specs.Prelude.{All}
 use Rattle.std.proofs.lemmas.Bool.{cases_lt}
 use Rattle.std.proofs.lemmas.List.{append-nil}
 use Rattle.std.proofs.lemmas.Nat.{div-add-mod', mod_below, pow_pos, pow-add, shr-shr, mul-le}
-use Rattle.std.proofs.Math.Nat.{mod-eq_of_lt, mul-le-mul_left, div-one}
-use Rattle.rmt_bits.specs.Bits.{slice, bytes_of}
+use Rattle.std.proofs.Math.Nat.{mod-eq_of_lt, mul-le-mul_left, div-one, pow-le-pow_right}
+use Rattle.rmt_bits.specs.Bits.{slice, bytes_of, number_of}
+use Rattle.rmt_bits.proofs.ByteLaws.{number_of-bytes_of}
 use Rattle.rmt_config.specs.declared.form.layout.Layout.{Layout}
 use Rattle.rmt_config.specs.Layouts.{IsLayout, position_of}
 use Rattle.rmt_bits.proofs.BitLaws.{mod-low, slice-lt}
+use Rattle.rmt_config.specs.Shapes.{divided_up}
 use Rattle.rmt_config.specs.Types.{SramRow}
 use Rattle.rmt_config.specs.Cells.{sram_row, unit_row}
 use Rattle.rmt_config.proofs.CellPlaces.{mod-div_rows}
@@ -130,3 +132,10 @@ entry_there l i is =
 -- all bits of a slice
 pub slice-whole : (v low len : ℕ) → slice (slice v low len) 0 len ≡ slice v low len
 slice-whole v low len = ap (λ n. n % 2 ^ len) (div-one (slice v low len)) ∙ mod-eq_of_lt (slice-lt v low len)
+
+-- bits are the number of their bytes
+pub slice-number : (x low bits : ℕ) → number_of (bytes_of (divided_up bits 8) (slice x low bits)) ≡ slice x low bits
+slice-number x low bits =
+    let wide : 2 ^ bits ≤ 2 ^ (8 * divided_up bits 8) = pow-le-pow_right (omega arith) (omega arith) in
+    let small = slice-lt x low bits in
+    number_of-bytes_of (divided_up bits 8) (slice x low bits) (omega (arith, small, wide))

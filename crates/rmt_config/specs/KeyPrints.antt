@@ -1,21 +1,29 @@
 -- What is kept of the keys of exact parts, one after another: their bytes, or prints by which they are told apart, since keys of different prints differ.
-use Rattle.std.specs.Prelude.{◌≡◌, ℕ, List, [], ◌∷◌, ◌++◌, Bool, true, false, map}
+use Rattle.std.specs.Prelude.{◌≡◌, ℕ, ◌*◌, ◌/◌, ◌%◌, ◌^◌, List, [], ◌∷◌, ◌++◌, length, Bool, true, false, if◌then◌else◌, nat_le, bit_xor, map}
 use Rattle.std.specs.List.{flat_map, list_all}
-use Rattle.rmt_bits.specs.Bits.{bytes_of}
+use Rattle.rmt_bits.specs.Bits.{bytes_of, number_of}
 use Rattle.rmt_bits.specs.Hash.{fnv}
 use Rattle.rmt_config.specs.Types.{CellNumber, Config}
 use Rattle.rmt_config.specs.KeysSeen.{keys_listed}
 use Rattle.rmt_config.specs.NamesForm.{stands_in_candidates}
 use Rattle.rmt_config.specs.Rooms.{PartAt}
 
+-- the print of a number of 64 bits: the halves of a product, one on the other
+abbrev pub spread : ℕ → ℕ
+spread n = let product = n * 11400714819323198485 in bit_xor (product % 2 ^ 64) (product / 2 ^ 64)
+
+-- the print of bytes: that of their number where they are at most 8, else their hash
+abbrev pub print : List ℕ → ℕ
+print bytes = if nat_le (length bytes) 8 then spread (number_of bytes) else fnv bytes
+
 -- the print of a key as that many bytes
 abbrev pub print_of : ℕ → ℕ → ℕ
-print_of size key = fnv (bytes_of size key)
+print_of size key = print (bytes_of size key)
 
 -- what is kept of a key of these bytes: all of them, or its print
 abbrev pub kept_of : Bool → List ℕ → List ℕ
 kept_of true bytes = bytes
-kept_of false bytes = fnv bytes ∷ []
+kept_of false bytes = print bytes ∷ []
 
 -- what is kept of keys as that many bytes each
 abbrev pub kept_of_keys : Bool → ℕ → List ℕ → List ℕ

@@ -21,7 +21,8 @@ use Rattle.rmt_core.specs.Files.{Files, Long, Holds, found}
 use Rattle.rmt_core.specs.Given.{Given, OfFound, OfOpened, Opens, Reads, told}
 use Rattle.rmt_core.specs.Headline.{IsWithin}
 use Rattle.rmt_core.specs.Runs.{RunsBy, Way, run_status, said_within, told_within}
-use Rattle.rmt_core.specs.Sampling.{AreOfSample, GivesSample, sample_line}
+use Rattle.rmt_sample.specs.Meaning.{AreOfSample}
+use Rattle.rmt_core.specs.Sampling.{GivesSample, sample_line}
 use Rattle.rmt_core.specs.Simulating.{OfAnswer, Spelled}
 use Rattle.rmt_core.specs.Texts.{OfEntries, OfMeaning, Understands}
 use Rattle.rmt_core.specs.Verifying.{HasMap}

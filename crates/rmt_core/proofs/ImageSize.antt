@@ -24,7 +24,7 @@ use Rattle.rmt_config.specs.ImageSpelling.{spelled_image, spelled_names}
 use Rattle.rmt_refine.specs.declared.map.Map.{Map}
 use Rattle.rmt_refine.specs.Carries.{Carries}
 use Rattle.rmt_core.specs.Making.{AreOfTexts}
-use Rattle.rmt_core.proofs.size.Bytes.{bytes_few}
+use Rattle.rmt_image.proofs.size.Bytes.{bytes_few}
 use Rattle.rmt_core.proofs.size.Distinct.{new_few}
 use Rattle.rmt_core.proofs.size.Lines.{AreFew, few_entries}
 use Rattle.rmt_core.proofs.size.Names.{names_short}

@@ -53,7 +53,6 @@ pub mod RunLaws
 pub mod RunOnce
 pub mod RunsLaws
 pub mod SampleLaws
-pub mod SampleTexts
 pub mod SimPlain
 pub mod SimRuns
 pub mod SpelledNumbers
@@ -71,5 +70,4 @@ pub mod WaitLaws
 pub mod WaitingLaws
 pub mod WritesOnce
 pub mod WritingLaws
-pub mod sample
 pub mod size

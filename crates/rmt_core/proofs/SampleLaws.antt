@@ -14,24 +14,23 @@ use Rattle.rmt_sample.specs.Texts.{entries_text, packets_text, program_text}
 use Rattle.rmt_core.specs.declared.texts.Meant.{Meant}
 use Rattle.rmt_core.specs.declared.texts.TextFault.{TextFault}
 use Rattle.rmt_core.specs.declared.texts.TextFault.TheVariants as text
-use Rattle.rmt_core.specs.SampleProgram.{sample_program}
+use Rattle.rmt_sample.specs.Meaning.{AreOfSample}
+use Rattle.rmt_sample.specs.SampleProgram.{sample_program}
 use Rattle.rmt_core.specs.declared.placer.Placer.TheVariants.{ByRule}
 use Rattle.rmt_core.specs.declared.status.Status.{Status}
-use Rattle.rmt_core.specs.declared.placer.Placer.TheVariants.{ByRule}
-use Rattle.rmt_core.specs.declared.status.Status.TheVariants.{Done, NoMemory, ReadFault, TooLong, WriteFault}
+use Rattle.rmt_core.specs.declared.status.Status.TheVariants.{Done, NoFit, NoMemory, ReadFault, TooLong, WriteFault}
 use Rattle.rmt_core.specs.Commands.{IsPossible, Sample}
-use Rattle.rmt_core.specs.Compiling.{Builds}
 use Rattle.rmt_core.specs.Ends.{Answered, outside}
 use Rattle.rmt_core.specs.Given.{told}
-use Rattle.rmt_core.specs.Making.{IsBuilt}
-use Rattle.rmt_core.specs.Sampling.{answers_line, sample_line, sample_packets}
+use Rattle.rmt_core.specs.Making.{IsBuilt, TellsWhy}
+use Rattle.rmt_core.specs.Sampling.{GivesSample, answers_line, sample_line, sample_packets}
 use Rattle.rmt_core.specs.Tallies.{chip_line}
 use Rattle.rmt_core.specs.Telling.{Tells}
 use Rattle.rmt_core.proofs.MakeLaws.{builds}
 use Rattle.rmt_core.proofs.PacketLaws.{text_says_packets}
 use Rattle.rmt_core.proofs.GivenOnce.{OneMeaning}
 use Rattle.rmt_core.proofs.TextLaws.{IsFaultOf, is_fault_of, line_answered}
-use Rattle.rmt_core.proofs.sample.MeaningLaws.{sample_is_meant}
+use Rattle.rmt_sample.proofs.MeaningLaws.{sample_is_meant}
 
 -- the chip's answers are those of the plain run
 pub line_of_plain : (n : ℕ) (p : Program) (lists : List (List Entry)) (built : Built) → IsBuilt ByRule p lists built → sample_line n p lists built.config ≡ chip_line n built.config
@@ -45,13 +44,28 @@ pub chip_line_of : (n : ℕ) (c : Config) (text found line : List ℕ) → text 
 chip_line_of n c text found line text_is found_is line_is =
     found_is ∙ ap (λ t. answers_line n (map told_by_outcome (outcomes_of c (packets_of t).packets)) (length c.stages) (cycles_of c (packets_of t).packets)) text_is ∙ sym line_is
 
--- the line was told
-pub sample_answered : (shelf : ShelfState) (before after : SinkState) (n : ℕ) (p : Program) (lists : List (List Entry)) (built : Built) (result : Status)
-    → IsBuilt ByRule p lists built → Tells before after (sample_line n p lists built.config) Done result
-    → Answered (outside shelf before) (outside shelf after) (Builds ByRule shelf.files (λ image m c b. told shelf.files Done (sample_line n p lists c)) p lists) result
-sample_answered shelf before after n p lists built result is t =
-    line_answered _ _ (Builds ByRule shelf.files (λ image m c b. told shelf.files Done (sample_line n p lists c)) p lists) Done result (sample_line n p lists built.config)
-    (builds ByRule shelf.files (λ image m c b. told shelf.files Done (sample_line n p lists c)) p lists built is) (λ _. refl) (inl refl) t
+-- the texts that were made mean a program with entries
+pub of_sample : (n : ℕ) (p : Program) (lists : List (List Entry)) (text entry_text : List ℕ) → text ≡ program_text n → entry_text ≡ entries_text n → Means text (Ok p) → entries_of p entry_text ≡ Ok lists
+    → AreOfSample n p lists
+of_sample n p lists text entry_text text_is entries_are means says = record {
+  means = subst (λ t. Means t (Ok p)) text_is means;
+  says = subst (λ t. entries_of p t ≡ Ok lists) entries_are says;
+}
+
+module _ (shelf : ShelfState) (before after : SinkState) (n : ℕ) (p : Program) (lists : List (List Entry)) (of : AreOfSample n p lists) (result : Status) where
+  -- the line of what was built was told
+  pub sample_answered : (built : Built) → IsBuilt ByRule p lists built → Tells before after (sample_line n p lists built.config) Done result
+      → Answered (outside shelf before) (outside shelf after) (GivesSample shelf.files n) result
+  sample_answered built is t =
+      line_answered _ _ (GivesSample shelf.files n) Done result (sample_line n p lists built.config)
+      (p, lists, of, builds ByRule shelf.files (λ image m c b. told shelf.files Done (sample_line n p lists c)) p lists built is) (λ _. refl) (inl refl) t
+
+  -- it was told why nothing was built
+  pub refusal_answered : (line : List ℕ) → TellsWhy ByRule p lists line → Tells before after line NoFit result
+      → Answered (outside shelf before) (outside shelf after) (GivesSample shelf.files n) result
+  refusal_answered line why t =
+      line_answered _ _ (GivesSample shelf.files n) NoFit result line
+      (p, lists, of, why shelf.files (λ image m c b. told shelf.files Done (sample_line n p lists c))) (λ _. refl) (inr (inr (inr (inl refl)))) t
 
 -- what may come of telling it
 pub told_possible : (n : ℕ) {before after : SinkState} {line : List ℕ} {result : Status} → Tells before after line Done result → IsPossible (Sample n) result

@@ -4,11 +4,6 @@ pub mod Tables
 pub mod Lines
 pub mod Ranks
 pub mod Names
-pub mod Tails
-pub mod Front
-pub mod Units
-pub mod Stages
-pub mod Bytes
 pub mod Distinct
 pub mod Numbers
 pub mod Places

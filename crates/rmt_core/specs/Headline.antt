@@ -35,7 +35,7 @@ use Rattle.rmt_core.specs.Given.{Given}
 use Rattle.rmt_core.specs.Gives.{Gives}
 use Rattle.rmt_core.specs.NoFitText.{no_fit_line}
 use Rattle.rmt_core.specs.Placers.{IsPlacedBy, refusal_by}
-use Rattle.rmt_core.specs.Sampling.{AreOfSample}
+use Rattle.rmt_sample.specs.Meaning.{AreOfSample}
 use Rattle.rmt_core.specs.SimText.{cycles_line, flight_line}
 
 -- a command that writes an image of these texts, and no map over it

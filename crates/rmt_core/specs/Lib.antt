@@ -28,7 +28,6 @@ pub mod Simulating
 pub mod PlainText
 pub mod PlainRunning
 pub mod Reporting
-pub mod SampleProgram
 pub mod Sampling
 pub mod Tallies
 pub mod Switching

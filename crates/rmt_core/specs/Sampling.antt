@@ -1,5 +1,5 @@
 -- What `sample` gives: the counts of a run over the packets of a large input that is made from a number.
-use Rattle.std.specs.Prelude.{◌≡◌, ◌≤◌, ℕ, ◌-◌, Bool, true, false, List, ◌++◌, Ok, codes, length, map, sum_by}
+use Rattle.std.specs.Prelude.{ℕ, ◌-◌, Bool, true, false, List, ◌++◌, codes, length, map, sum_by}
 use Rattle.std.specs.Fmt.{decimal}
 use Rattle.std.specs.List.{filter}
 use Rattle.rmt_bits.specs.Packet.{Packet}
@@ -9,17 +9,15 @@ use Rattle.rmt_core.specs.Types.{Program, Config}
 use Rattle.rmt_ast.specs.declared.entry.Entry.{Entry}
 use Rattle.rmt_ast.specs.Answers.{answers_of}
 use Rattle.rmt_config.specs.ChipRun.{cycles_of}
-use Rattle.rmt_check.specs.Means.{Means}
-use Rattle.rmt_entries.specs.Entries.{entries_of}
 use Rattle.rmt_packets.specs.PacketText.{packets_of}
 use Rattle.rmt_refine.specs.RunsAs.{told_by_answer}
-use Rattle.rmt_sample.specs.Texts.{entries_text, packets_text, program_text}
+use Rattle.rmt_sample.specs.Meaning.{AreOfSample}
+use Rattle.rmt_sample.specs.Texts.{packets_text}
 use Rattle.rmt_core.specs.declared.placer.Placer.TheVariants.{ByRule}
 use Rattle.rmt_core.specs.declared.status.Status.TheVariants.{Done}
 use Rattle.rmt_core.specs.Compiling.{Builds}
 use Rattle.rmt_core.specs.Files.{Files}
 use Rattle.rmt_core.specs.Given.{Given, told}
-use Rattle.rmt_core.specs.SampleProgram.{sample_entries, sample_program}
 
 -- the packet of a verdict is sent
 abbrev pub is_sent : Verdict → Bool
@@ -61,17 +59,8 @@ sample_packets n = (packets_of (packets_text n)).packets
 abbrev pub sample_line : ℕ → Program → List (List Entry) → Config → List ℕ
 sample_line n p lists c = answers_line n (map told_by_answer (answers_of p lists (sample_packets n))) (length c.stages) (cycles_of c (sample_packets n))
 
--- the texts of a number mean a program with these entries
-pub record AreOfSample (n : ℕ) (p : Program) (lists : List (List Entry)) : Type 0 where
-  pub means : Means (program_text n) (Ok p)
-  pub says : entries_of p (entries_text n) ≡ Ok lists
-
 -- `sample N`: its texts mean a program with entries, of which a configuration is made, or the last line tells why there is none
 abbrev pub GivesSample : Files → ℕ → Given → Type 0
 GivesSample files n g =
     (p : Program) × (lists : List (List Entry)) × AreOfSample n p lists
     × Builds ByRule files (λ image m c b. told files Done (sample_line n p lists c)) p lists g
-
--- The texts of every number that `sample` takes mean one program with its entries, which stands in SampleProgram.
-abbrev pub SampleIsMeant : Type 0
-SampleIsMeant = (n : ℕ) → 1 ≤ n → n ≤ 100000 → AreOfSample n (sample_program n) (sample_entries n)

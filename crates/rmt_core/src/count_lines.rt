@@ -1,9 +1,10 @@
 //! The lines of counters.
 
-ghost use Rattle.std.specs.Prelude.{◌≡◌, ◌++◌, IfOk, OnOk, string_bytes};
+ghost use Rattle.std.specs.Prelude.{◌≡◌, ◌++◌, IfOk, OnOk};
 ghost use Rattle.std.specs.List.{flat_map};
 ghost use Rattle.rmt_core.specs.SimText.{count_line};
 
+use crate::numbers::add_number;
 use rmt_bits::answer::Count;
 use rmt_bits::counts::Counts;
 use std::alloc::{AllocError, Global};
@@ -16,29 +17,32 @@ pub fn count_lines(alloc: Global, counters: &Counts) -> Result<Vec<u8>, AllocErr
     let mut at = 0;
     while at < counters.len() {
         let counts = counters.run_at(at);
-        push_lines(alloc, &mut text, counts)?;
+        push_lines(&mut text, counts)?;
         at += counts.len();
     }
     Ok(text)
 }
 
 /// Adds the lines of some counters.
-fn push_lines(alloc: Global, text: &mut Vec<u8>, counts: &[Count]) -> Result<(), AllocError>
+fn push_lines(text: &mut Vec<u8>, counts: &[Count]) -> Result<(), AllocError>
     ensures { OnOk result (text.new.items ≡ text.old.items ++ flat_map count_line counts.now) }
 {
     for count in counts {
-        let line = count_text(alloc, count)?;
-        text.extend_from_slice(line.as_bytes())?;
+        push_line(text, count)?;
     }
     Ok(())
 }
 
-/// The line of a counter.
-fn count_text(alloc: Global, count: &Count) -> Result<String, AllocError>
-    ensures { IfOk result (λ text. string_bytes text ≡ count_line count.now) }
+/// Adds the line of a counter.
+fn push_line(text: &mut Vec<u8>, count: &Count) -> Result<(), AllocError>
+    ensures { OnOk result (text.new.items ≡ text.old.items ++ count_line count.now) }
 {
-    let entry = count.entry;
-    let packets = count.packets;
-    let bytes = count.bytes;
-    format!(in alloc; "count {entry} {packets} {bytes}\n")
+    text.extend_from_slice(b"count ")?;
+    add_number(u64::from(count.entry), text)?;
+    text.push(b' ')?;
+    add_number(count.packets, text)?;
+    text.push(b' ')?;
+    add_number(count.bytes, text)?;
+    text.push(b'\n')?;
+    Ok(())
 }

@@ -2,7 +2,6 @@
 
 ghost use Rattle.rmt_core.specs.FilesRead.{ReadFaultIsAbsence, SteadyFaultIsAbsence};
 ghost use Rattle.rmt_core.specs.Headline.{GivesAlways, GivesNeverNothing, GivesOne, ImproveHasNoMoreStages, IsComplete, LeavesFiles, MapIsBeside, OneTryIsCompile, RefusesAsCompile, SimPrintsPlain, VerifiesCompiled};
-ghost use Rattle.rmt_core.specs.Sampling.{SampleIsMeant};
 
 use rmt_check::laws::one_meaning;
 use rmt_cuckoo::never_both;
@@ -78,11 +77,6 @@ pub fn improve_is_no_worse()
 {
     one_meaning();
 }
-
-/// The texts of `sample` mean a program with its entries, for every number from 1 to 100,000.
-pub fn sample_is_meant()
-    ensures { SampleIsMeant }
-{}
 
 /// What `compile` wrote with a map belongs to the program: `verify` of the four files prints `yes`.
 pub fn verifies_compiled()

@@ -11,6 +11,7 @@ mod made_lines;
 mod making;
 mod names;
 mod no_fit;
+mod numbers;
 mod placer;
 mod placing;
 mod plain;

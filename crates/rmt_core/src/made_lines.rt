@@ -5,7 +5,8 @@ ghost use Rattle.std.specs.List.{flat_map};
 ghost use Rattle.rmt_core.specs.CompileText.{bound_line, chain_part, compile_text, minimal_line, proof_text, stages_line};
 ghost use Rattle.rmt_core.specs.NoFitText.{AreNodesOf};
 
-use crate::names::{add_node_name, add_number};
+use crate::names::add_node_name;
+use crate::numbers::add_number;
 use rmt_ast::program::Program;
 use rmt_bits::answer::Bytes;
 use rmt_bits::fault::OutOfMemory;
@@ -37,80 +38,67 @@ fn lines_of(
     ensures { IfOk result (λ text. text.items ≡ compile_text program.now config.now bound.now) }
 {
     let mut text = Vec::new(alloc);
-    add_stages_line(alloc, config, &mut text)?;
-    add_bound_line(alloc, program, bound, &mut text)?;
+    add_stages_line(config, &mut text)?;
+    add_bound_line(program, bound, &mut text)?;
     let minimal = config.stages.len() == bound.stages as usize;
     add_minimal_line(minimal, &mut text)?;
     Ok(text)
 }
 
 /// Appends the stages and the latency.
-fn add_stages_line(alloc: Global, config: &Config, text: &mut Vec<u8>) -> Result<(), AllocError>
+fn add_stages_line(config: &Config, text: &mut Vec<u8>) -> Result<(), AllocError>
     ensures { OnOk result (text.new.items ≡ text.old.items ++ stages_line config.now) }
 {
-    let stages = config.stages.len();
     let latency = latency(config.stages.as_slice());
-    let line = format!(in alloc; "stages {stages} latency {latency}\n")?;
-    text.extend_from_slice(line.as_bytes())
+    text.extend_from_slice(b"stages ")?;
+    add_number(config.stages.len() as u64, text)?;
+    text.extend_from_slice(b" latency ")?;
+    add_number(u64::from(latency), text)?;
+    text.extend_from_slice(b"\n")
 }
 
 /// Appends the bound and what proves it.
-fn add_bound_line(
-    alloc: Global,
-    program: &Program,
-    bound: &Bound,
-    text: &mut Vec<u8>,
-) -> Result<(), AllocError>
+fn add_bound_line(program: &Program, bound: &Bound, text: &mut Vec<u8>) -> Result<(), AllocError>
     ensures { OnOk result (text.new.items ≡ text.old.items ++ bound_line program.now bound.now) }
 {
-    let stages = bound.stages;
-    let head = format!(in alloc; "bound {stages} ")?;
-    text.extend_from_slice(head.as_bytes())?;
-    add_proof(alloc, program, &bound.proof, text)?;
+    text.extend_from_slice(b"bound ")?;
+    add_number(u64::from(bound.stages), text)?;
+    text.extend_from_slice(b" ")?;
+    add_proof(program, &bound.proof, text)?;
     text.extend_from_slice(b"\n")
 }
 
 /// Appends what proves a bound.
-fn add_proof(
-    alloc: Global,
-    program: &Program,
-    proof: &Proof,
-    text: &mut Vec<u8>,
-) -> Result<(), AllocError>
+fn add_proof(program: &Program, proof: &Proof, text: &mut Vec<u8>) -> Result<(), AllocError>
     ensures { OnOk result (text.new.items ≡ text.old.items ++ proof_text program.now proof.now) }
 {
     match proof {
         Proof::Chain(nodes) => {
             text.extend_from_slice(b"chain")?;
-            add_chain(alloc, program, nodes.as_slice(), text)
+            add_chain(program, nodes.as_slice(), text)
         }
         Proof::Sram(blocks) => {
             text.extend_from_slice(b"sram ")?;
-            add_number(alloc, u64::from(*blocks), text)
+            add_number(u64::from(*blocks), text)
         }
         Proof::Tcam(blocks) => {
             text.extend_from_slice(b"tcam ")?;
-            add_number(alloc, u64::from(*blocks), text)
+            add_number(u64::from(*blocks), text)
         }
         Proof::Slots(tables) => {
             text.extend_from_slice(b"slots ")?;
-            add_number(alloc, u64::from(*tables), text)
+            add_number(u64::from(*tables), text)
         }
     }
 }
 
 /// Appends the names of the nodes of a chain.
-fn add_chain(
-    alloc: Global,
-    program: &Program,
-    nodes: &[u32],
-    text: &mut Vec<u8>,
-) -> Result<(), AllocError>
+fn add_chain(program: &Program, nodes: &[u32], text: &mut Vec<u8>) -> Result<(), AllocError>
     ensures { OnOk result (text.new.items ≡ text.old.items ++ flat_map (chain_part program.now) nodes.now) }
 {
     for node in nodes {
         text.extend_from_slice(b" ")?;
-        add_node_name(alloc, program, *node, text)?;
+        add_node_name(program, *node, text)?;
     }
     Ok(())
 }

@@ -1,20 +1,12 @@
 //! The names of a program's things, as printed lines tell them.
 
 ghost use Rattle.std.specs.Prelude.{◌≡◌, ◌++◌, OnOk, option_copied};
-ghost use Rattle.std.specs.Fmt.{decimal};
 ghost use Rattle.rmt_refine.specs.Units.{table_at};
 ghost use Rattle.rmt_core.specs.NoFitText.{action_name, field_name, header_name, node_name};
 
+use crate::numbers::add_number;
 use rmt_ast::program::{Program, Table, What};
-use std::alloc::{AllocError, Global};
-
-/// Appends a number in decimal digits.
-pub fn add_number(alloc: Global, number: u64, text: &mut Vec<u8>) -> Result<(), AllocError>
-    ensures { OnOk result (text.new.items ≡ text.old.items ++ decimal number) }
-{
-    let digits = format!(in alloc; "{number}")?;
-    text.extend_from_slice(digits.as_bytes())
-}
+use std::alloc::AllocError;
 
 /// Appends the name of the header of a number.
 pub fn add_header_name(program: &Program, number: u32, text: &mut Vec<u8>) -> Result<(), AllocError>
@@ -57,19 +49,14 @@ fn table_of(program: &Program, node: u32) -> Option<&Table>
 }
 
 /// Appends the name of a node: that of its table, or `gate` and its number.
-pub fn add_node_name(
-    alloc: Global,
-    program: &Program,
-    node: u32,
-    text: &mut Vec<u8>,
-) -> Result<(), AllocError>
+pub fn add_node_name(program: &Program, node: u32, text: &mut Vec<u8>) -> Result<(), AllocError>
     ensures { OnOk result (text.new.items ≡ text.old.items ++ node_name program.now node) }
 {
     match table_of(program, node) {
         Some(table) => text.extend_from_slice(table.name.as_slice()),
         None => {
             text.extend_from_slice(b"gate")?;
-            add_number(alloc, u64::from(node), text)
+            add_number(u64::from(node), text)
         }
     }
 }

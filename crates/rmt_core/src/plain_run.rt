@@ -100,7 +100,7 @@ fn last_text(alloc: Global, plain: &Plain, bad: Option<Bad>) -> Result<Vec<u8>, 
         None => count_lines(alloc, plain.counters()),
         Some(bad) => {
             let line = bad_text(alloc, bad)?;
-            Vec::from_slice(alloc, line.as_bytes())
+            Ok(line.into_bytes())
         }
     }
 }

@@ -1,18 +1,13 @@
 //! The command `sample`.
 
 ghost use Rattle.std.specs.Prelude.{◌≡◌, ◌≢◌, ◌≤◌, ℕ, List};
-ghost use Rattle.rmt_ast.specs.EntryLists.{AreEntries};
-ghost use Rattle.rmt_ast.specs.WellFormed.{IsProgram};
 ghost use Rattle.rmt_config.specs.Form.{Formed};
 ghost use Rattle.rmt_config.specs.Limits.{IsWithinLimits};
-ghost use Rattle.rmt_sample.specs.Texts.{entries_text, packets_text, program_text};
+ghost use Rattle.rmt_sample.specs.Texts.{packets_text};
 ghost use Rattle.rmt_io.specs.Outside.{ShelfState, GainedNone, PrintingFailed, OnlyPrinted};
 ghost use Rattle.rmt_core.specs.Commands.{IsPossible, Sample as SampleOf};
-ghost use Rattle.rmt_core.specs.Compiling.{Builds};
 ghost use Rattle.rmt_core.specs.Ends.{Answered, outside};
-ghost use Rattle.rmt_core.specs.Given.{told};
-ghost use Rattle.rmt_core.specs.Making.{AreOfTexts};
-ghost use Rattle.rmt_core.specs.Sampling.{GivesSample, sample_line};
+ghost use Rattle.rmt_core.specs.Sampling.{GivesSample};
 ghost use Rattle.rmt_core.specs.Tallies.{chip_line};
 ghost use Rattle.rmt_core.specs.Telling.{Tells};
 
@@ -27,16 +22,16 @@ use crate::printing::end_with;
 use crate::sampling::line::run_line;
 use crate::status::Status;
 use crate::telling::tell;
-use crate::texts::{Meant, TextFault, understand};
+use crate::texts::{TextFault, understand};
 use rmt_build::built::Built;
 use rmt_check::laws::one_meaning;
 use rmt_io::sink::Sink;
 use rmt_sample::make::sample as make_texts;
-use rmt_sample::sample::Sample;
 use std::alloc::Global;
 
 /// Makes a large input from a number, 1 to 100,000, builds its program with its entries, runs its packets through the chip,
-/// and prints the line of the counts. It reads and writes no file.
+/// and prints the line of the counts. It reads and writes no file. The texts mean a program with entries, so no fault of a
+/// text comes.
 pub fn sample<O: Sink>(alloc: Global, number: u32, out: &mut O) -> Status
     requires some { 1 ≤ number }
     requires most { number ≤ 100000 }
@@ -50,64 +45,18 @@ pub fn sample<O: Sink>(alloc: Global, number: u32, out: &mut O) -> Status
         PrintingFailed (O.state out.old) (O.state out.new) }
     ensures only_printed { OnlyPrinted (O.state out.old) (O.state out.new) }
 {
-    match make_texts(alloc, number) {
-        Ok(texts) => sample_texts(alloc, number, &texts, out),
-        Err(_) => Status::NoMemory,
-    }
-}
-
-/// The same of the texts that the number gives. They mean a program with entries, so no fault of a text comes.
-fn sample_texts<O: Sink>(alloc: Global, number: u32, texts: &Sample, out: &mut O) -> Status
-    requires some { 1 ≤ number }
-    requires most { number ≤ 100000 }
-    requires program { texts.now.program ≡ program_text number }
-    requires entries { texts.now.entries ≡ entries_text number }
-    requires packets { texts.now.packets ≡ packets_text number }
-    ensures possible { IsPossible (SampleOf number) result }
-    ensures no_reading { result ≢ Status.ReadFault }
-    ensures answered { (shelf : ShelfState) →
-        Answered (outside shelf (O.state out.old)) (outside shelf (O.state out.new))
-        (GivesSample shelf.files number) result }
-    ensures quiet { result ≡ Status.NoMemory → GainedNone (O.state out.old) (O.state out.new) }
-    ensures write_fault { result ≡ Status.WriteFault →
-        PrintingFailed (O.state out.old) (O.state out.new) }
-    ensures only_printed { OnlyPrinted (O.state out.old) (O.state out.new) }
-{
     one_meaning();
-    match understand(alloc, texts.program.as_slice(), texts.entries.as_slice()) {
-        Ok(meant) => sample_meant(alloc, number, &meant, texts.packets.as_slice(), out),
-        Err(TextFault::NoMemory) => Status::NoMemory,
+    let Ok(texts) = make_texts(alloc, number) else {
+        return Status::NoMemory;
+    };
+    let meant = match understand(alloc, texts.program.as_slice(), texts.entries.as_slice()) {
+        Ok(meant) => meant,
+        Err(TextFault::NoMemory) => return Status::NoMemory,
         Err(TextFault::BadProgram { .. }) => unreachable!(),
         Err(TextFault::BadEntries { .. }) => unreachable!(),
-    }
-}
-
-/// The same of a program with its entries.
-fn sample_meant<O: Sink>(
-    alloc: Global,
-    number: u32,
-    meant: &Meant,
-    packets: &[u8],
-    out: &mut O,
-) -> Status
-    requires program { IsProgram meant.now.program }
-    requires entries { AreEntries meant.now.program meant.now.entries }
-    requires said { AreOfTexts meant.now.program meant.now.entries }
-    requires packets { packets.now ≡ packets_text number }
-    ensures possible { IsPossible (SampleOf number) result }
-    ensures no_reading { result ≢ Status.ReadFault }
-    ensures answered { (shelf : ShelfState) →
-        Answered (outside shelf (O.state out.old)) (outside shelf (O.state out.new))
-        (Builds Placer.ByRule shelf.files
-        (λ image m c b. told shelf.files Status.Done
-        (sample_line number meant.now.program meant.now.entries c)) meant.now.program meant.now.entries) result }
-    ensures quiet { result ≡ Status.NoMemory → GainedNone (O.state out.old) (O.state out.new) }
-    ensures write_fault { result ≡ Status.WriteFault →
-        PrintingFailed (O.state out.old) (O.state out.new) }
-    ensures only_printed { OnlyPrinted (O.state out.old) (O.state out.new) }
-{
+    };
     match fit(alloc, Placer::ByRule, &meant.program, &meant.entries) {
-        Ok(built) => tell_built(alloc, number, built, packets, out),
+        Ok(built) => tell_built(alloc, number, built, texts.packets.as_slice(), out),
         Err(Refusal::NoMemory) => Status::NoMemory,
         Err(Refusal::NoFit { line }) => end_with(out, line.as_slice(), Status::NoFit),
     }

@@ -1,6 +1,6 @@
 //! The text of the vectors in flight.
 
-ghost use Rattle.std.specs.Prelude.{◌≡◌, ◌+◌, ◌<◌, ◌++◌, List, slice_index, OnOk, IfOk};
+ghost use Rattle.std.specs.Prelude.{◌≡◌, ◌+◌, ◌<◌, ◌++◌, List, slice_index, OnOk};
 ghost use Rattle.rmt_config.specs.declared.config.Config.{Config};
 ghost use Rattle.rmt_config.specs.ChipRun.{latency_of};
 ghost use Rattle.rmt_config.specs.RunInputs.{Input};
@@ -8,10 +8,11 @@ ghost use Rattle.rmt_chip.specs.Stands.{Stands, in_flight};
 ghost use Rattle.rmt_core.specs.ChipText.{flying_below, line_at};
 ghost use Rattle.rmt_core.specs.ProbeText.{hex_text, word_text, words_below, vector_line};
 
+use crate::numbers::add_number;
 use rmt_bits::lane::word_size;
 use rmt_chip::chip::Chip;
 use rmt_config::vector::Vector;
-use std::alloc::{AllocError, Global};
+use std::alloc::AllocError;
 
 /// How many words a vector has.
 const WORDS: u8 = 224;
@@ -34,66 +35,61 @@ fn add_hex(count: u8, value: u32, text: &mut Vec<u8>) -> Result<(), AllocError>
 }
 
 /// Appends a word that is not 0 with its number.
-fn add_word(alloc: Global, word: u8, value: u32, text: &mut Vec<u8>) -> Result<(), AllocError>
+fn add_word(word: u8, value: u32, text: &mut Vec<u8>) -> Result<(), AllocError>
     requires { word < 224 }
     ensures { OnOk result (text.new.items ≡ text.old.items ++ word_text word value) }
 {
     if value == 0 {
         return Ok(());
     }
-    let head = format!(in alloc; " {word}:")?;
-    text.extend_from_slice(head.as_bytes())?;
+    text.push(b' ')?;
+    add_number(u64::from(word), text)?;
+    text.push(b':')?;
     add_hex(word_size(word) / 4, value, text)
 }
 
 /// Appends the words of a vector.
-fn add_words(alloc: Global, words: &Vector, text: &mut Vec<u8>) -> Result<(), AllocError>
+fn add_words(words: &Vector, text: &mut Vec<u8>) -> Result<(), AllocError>
     ensures { OnOk result (text.new.items ≡ text.old.items ++ words_below (λ w. slice_index words.now w) 224) }
 {
     for word in 0..WORDS {
-        add_word(alloc, word, words.get(word), text)?;
+        add_word(word, words.get(word), text)?;
     }
     Ok(())
 }
 
 /// Appends the line of a packet of this number and age.
-fn add_line(
-    alloc: Global,
-    number: u64,
-    age: u16,
-    words: &Vector,
-    text: &mut Vec<u8>,
-) -> Result<(), AllocError>
+fn add_line(number: u64, age: u16, words: &Vector, text: &mut Vec<u8>) -> Result<(), AllocError>
     ensures { OnOk result (text.new.items ≡ text.old.items ++ vector_line number age (λ w. slice_index words.now w)) }
 {
-    let head = format!(in alloc; "{number} {age}")?;
-    text.extend_from_slice(head.as_bytes())?;
-    add_words(alloc, words, text)?;
+    add_number(number, text)?;
+    text.push(b' ')?;
+    add_number(u64::from(age), text)?;
+    add_words(words, text)?;
     text.push(b'\n')?;
     Ok(())
 }
 
 /// Appends the line of the packet of this age, if one is in flight.
-fn add_age(alloc: Global, chip: &Chip, age: u16, text: &mut Vec<u8>) -> Result<(), AllocError>
+fn add_age(chip: &Chip, age: u16, text: &mut Vec<u8>) -> Result<(), AllocError>
     ensures { OnOk result ((c : Config) (made : List Input) → Stands c made chip.now →
         text.new.items ≡ text.old.items ++ line_at c age (in_flight c made age)) }
 {
     match chip.probe(age) {
-        Some(seen) => add_line(alloc, seen.number, age, seen.words, text),
+        Some(seen) => add_line(seen.number, age, seen.words, text),
         None => Ok(()),
     }
 }
 
-/// The lines of the packets in flight, the oldest first.
-pub fn vectors_text(alloc: Global, chip: &Chip) -> Result<Vec<u8>, AllocError>
-    ensures { IfOk result (λ lines. (c : Config) (made : List Input) → Stands c made chip.now →
-        lines.items ≡ flying_below c made (latency_of c.stages + 1)) }
+/// Appends the lines of the packets in flight, the oldest first.
+pub fn add_vectors(chip: &Chip, text: &mut Vec<u8>) -> Result<(), AllocError>
+    ensures { OnOk result ((c : Config) (made : List Input) → Stands c made chip.now →
+        text.new.items ≡ text.old.items ++ flying_below c made (latency_of c.stages + 1)) }
 {
-    let mut text = Vec::new(alloc);
     let mut below = u32::from(chip.latency()) + 1;
     while below > 0 {
         below -= 1;
-        add_age(alloc, chip, below as u16, &mut text)?;
+        add_age(chip, below as u16, text)?;
     }
-    Ok(text)
+    Ok(())
 }

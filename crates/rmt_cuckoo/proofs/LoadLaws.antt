@@ -1,10 +1,10 @@
 -- From a loading of all keys to what is promised of it, and from a closed search to keys that have too few cells.
-use Rattle.std.proofs.Common.{◌≡◌, ◌≢◌, ℕ, zero, suc, ◌+◌, ◌-◌, ◌<◌, ◌≤◌, Bool, true, false, List, [], ◌∷◌, ◌⊎◌, length, map, cond, eqb, ◌||◌, get_or, replicate, Contains, refl, ap, sym, ◌∙◌, subst, ⊎_elim, arith}
+use Rattle.std.proofs.Common.{◌≡◌, ◌≢◌, ℕ, zero, suc, ◌+◌, ◌-◌, ◌<◌, ◌≤◌, Bool, true, false, List, [], ◌∷◌, length, map, cond, eqb, ◌||◌, get_or, replicate, Contains, refl, ap, sym, ◌∙◌, subst, ⊎_elim, arith}
 use Rattle.std.specs.Prelude.{AllPairs, nat_eq}
 use Rattle.std.specs.List.{AllZip, flat_map, list_any}
 use Rattle.std.specs.Set.{distinct_count, is_member, unique_keys}
 use Rattle.std.proofs.lemmas.List.{get_or_default, get_or-map, get_or-replicate, get_or_past, length-map, length-replicate}
-use Rattle.std.proofs.lemmas.List.Elements.{All-contains, Contains-append_left, Contains-append_right, Contains-append_cases, Contains-get_or}
+use Rattle.std.proofs.lemmas.List.Elements.{All-contains, Contains-append_cases, Contains-get_or}
 use Rattle.std.proofs.lemmas.Bool.{both_ways, cases_lt, eqb-true, false≢true, or_cases, or_right}
 use Rattle.std.proofs.lemmas.Bool.Decides.{Decides-eqb, same_from_decides}
 use Rattle.std.proofs.lemmas.Cmp.{nat_eq_equiv}
@@ -19,7 +19,7 @@ use Rattle.rmt_cuckoo.specs.declared.loading.Loading.{Loading}
 use Rattle.rmt_cuckoo.specs.Loading.{IsLoading, IsOverfull, candidates, shared}
 use Rattle.rmt_cuckoo.specs.Choices.{AreChoices, choices_at}
 use Rattle.rmt_cuckoo.specs.Search.{IsLoaded, IsTree, IsMarked, IsSeen, IsSearching, no_step, cell_at, from_at, key_at}
-use Rattle.rmt_cuckoo.proofs.RowLaws.{choices_are}
+use Rattle.rmt_cuckoo.proofs.RowLaws.{choices_are, joined}
 use Rattle.rmt_cuckoo.proofs.SearchLaws.{key_known}
 
 -- ---- lists
@@ -40,12 +40,7 @@ zip_at R (x ∷ xs) [] d e h i lt = absurd h
 zip_at R (x ∷ xs) (y ∷ ys) d e h zero lt = (omega arith, h.0)
 zip_at R (x ∷ xs) (y ∷ ys) d e h (suc i) lt = let rest = zip_at R xs ys d e h.1 i (omega arith) in (omega (arith, rest.0), rest.1)
 
--- an item of one of the joined lists
-joined : {X : Type 0} (f : X → List ℕ) (xs : List X) (d : X) (i : ℕ) (q : ℕ) → i < length xs → Contains (f (get_or xs i d)) q → Contains (flat_map f xs) q
-joined f [] d i q lt h = absurd (omega arith)
-joined f (x ∷ xs) d zero q lt h = Contains-append_left (f x) (flat_map f xs) q h
-joined f (x ∷ xs) d (suc i) q lt h = Contains-append_right (f x) (flat_map f xs) q (joined f xs d i q (omega arith) h)
-
+-- which of the joined lists an item is of
 of_one : {X : Type 0} (f : X → List ℕ) (xs : List X) (d : X) (q : ℕ) → Contains (flat_map f xs) q → (i : ℕ) × (i < length xs) × Contains (f (get_or xs i d)) q
 of_one f [] d q h = absurd (omega (arith, h.1))
 of_one f (x ∷ xs) d q h =

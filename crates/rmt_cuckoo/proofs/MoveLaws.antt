@@ -4,7 +4,7 @@ use Rattle.std.proofs.lemmas.List.{get_or-set_same, get_or-set_other, length-set
 use Rattle.std.proofs.lemmas.Bool.{cases_eq}
 use Rattle.rmt_cuckoo.specs.declared.search.Step.{Step}
 use Rattle.rmt_cuckoo.specs.declared.loading.Loading.{Loading}
-use Rattle.rmt_cuckoo.specs.Search.{cell_at, from_at, key_at, IsLoaded, IsTree}
+use Rattle.rmt_cuckoo.specs.Search.{AreTaken, cell_at, from_at, key_at, IsLoaded, IsTree}
 use Rattle.rmt_cuckoo.proofs.SearchLaws.{taken_within, split_place}
 
 -- the holders after the key of cell c has moved to cell f
@@ -194,3 +194,37 @@ added choices n l m f old inside free chosen holders cells =
           ap (λ (y : ℕ). get_or m.cells.items (y - 1) 0) same ∙ old_cell (v - 1) (omega (arith, there, le)) ∙ old.cell x there)
           (cases_eq x f);
     }
+
+-- ---- the taken cells from the first one on
+
+-- one taken cell more
+pub taken_more : (holders : List ℕ) (many : ℕ) → AreTaken holders many → 0 < get_or holders many 0 → AreTaken holders (many + 1)
+taken_more holders many before next c lt =
+    ⊎_elim (λ (old : c < many). before c old) (λ (last : c ≡ many). subst (λ (x : ℕ). 0 < get_or holders x 0) (sym last) next) (split_place c many lt)
+
+-- so many cells are taken from the first one on, but perhaps a hole among them
+abbrev pub AreTakenBut : List ℕ → ℕ → ℕ → Type 0
+AreTakenBut holders hole many = (c : ℕ) → c < many → (c ≡ hole → ⊥) → 0 < get_or holders c 0
+
+-- a move to the hole makes another one
+pub hole_moves : (holders : List ℕ) (c f many : ℕ) → 0 < get_or holders c 0 → f < length holders → get_or holders f 0 ≡ 0
+    → AreTakenBut holders f many → AreTakenBut (after holders c f) c many
+hole_moves holders c f many taken inside free before x lt not_c =
+    ⊎_elim
+    (λ (same : x ≡ f).
+    let is : get_or (after holders c f) x 0 ≡ get_or holders c 0 =
+    ap (λ (y : ℕ). get_or (after holders c f) y 0) same ∙ after_reached holders c f inside (λ (e : f ≡ c). apart holders c f taken free (sym e)) in
+    omega (arith, is, taken))
+    (λ (other : x ≡ f → ⊥). subst (λ (v : ℕ). 0 < v) (sym (after_else holders c f x not_c other)) (before x lt other))
+    (cases_eq x f)
+
+-- a key in the hole leaves none
+pub hole_filled : (holders : List ℕ) (f n many : ℕ) → f < length holders → AreTakenBut holders f many → AreTaken (set holders f (n + 1)) many
+hole_filled holders f n many inside before x lt =
+    ⊎_elim
+    (λ (same : x ≡ f).
+    let is : get_or (set holders f (n + 1)) x 0 ≡ n + 1 =
+    ap (λ (y : ℕ). get_or (set holders f (n + 1)) y 0) same ∙ get_or-set_same holders f (n + 1) 0 inside in
+    omega (arith, is))
+    (λ (other : x ≡ f → ⊥). subst (λ (v : ℕ). 0 < v) (sym (get_or-set_other holders f x (n + 1) 0 other)) (before x lt other))
+    (cases_eq x f)

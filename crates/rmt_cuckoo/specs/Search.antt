@@ -12,6 +12,10 @@ pub record IsLoaded (choices : ℕ → List ℕ) (n : ℕ) (l : Loading) : Type 
   pub known : (c : ℕ) → 0 < slice_index l.holders.items c → slice_index l.holders.items c ≤ n
   pub cell : (c : ℕ) → 0 < slice_index l.holders.items c → slice_index l.cells.items (slice_index l.holders.items c - 1) ≡ c
 
+-- so many cells are taken from the first one on
+abbrev pub AreTaken : List ℕ → ℕ → Type 0
+AreTaken holders many = (c : ℕ) → c < many → 0 < slice_index holders c
+
 -- no step
 abbrev pub no_step : Step
 no_step = record { cell = 0; from = 0 }

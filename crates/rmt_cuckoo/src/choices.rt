@@ -1,56 +1,32 @@
 //! The cells in which each key may stand.
 
-ghost use Rattle.std.specs.Prelude.{◌≡◌, ℕ, ◌+◌, ◌*◌, ◌<◌, ◌≤◌, ◌^◌, ◌++◌, ◌-◌, length, map, vec_len, All, IfOk, OnOk};
+ghost use Rattle.std.specs.Prelude.{◌≡◌, ℕ, ◌+◌, ◌*◌, ◌<◌, ◌≤◌, ◌^◌, ◌++◌, ◌-◌, None, length, slice_index, All, Contains, IfOk, IfSome, OnOk};
 ghost use Rattle.std.specs.List.{range_with_len};
 ghost use Rattle.rmt_cuckoo.specs.declared.layout.Ways.{Ways};
-ghost use Rattle.rmt_cuckoo.specs.declared.way.Way.{Way};
-ghost use Rattle.rmt_cuckoo.specs.Loading.{cells_of, ways_of, row_start};
-ghost use Rattle.rmt_cuckoo.specs.Choices.{AreChoices, EndWithin, cells_from, choices_at, starts_at, starts_of};
+ghost use Rattle.rmt_cuckoo.specs.Loading.{cells_of, row_start};
+ghost use Rattle.rmt_cuckoo.specs.Choices.{AreChoices, IsWay, choices_at, rows_in};
+ghost use Rattle.rmt_cuckoo.specs.Search.{AreTaken};
 
 use crate::layout::{Key, Keys, Layout};
 use crate::way::{Way, way_list};
 use rmt_bits::hash::hash_row;
 use std::alloc::{AllocError, Global};
 
-/// The ways of a table, and for each key in order the first cell of its row in each way.
+/// The ways of a table, and the keys that may stand in their rows under a seed.
 #[derive(Drop)]
-pub struct Choices {
+pub struct Choices<'a> {
     ways: Vec<Way>,
-    starts: Vec<u32>,
+    keys: &'a [Key],
+    seed: u8,
 }
 
 /// The first cell of the row that a key has in a way.
 fn start_of(seed: u8, key: &Key, way: Way) -> u32
-    requires rows { 1 ≤ way.rows }
-    requires within { way.first + way.rows * way.per < 2 ^ 32 }
-    ensures { result ≡ row_start seed key.now way }
+    requires way { IsWay (2 ^ 32 - 1) way }
+    ensures start { result ≡ row_start seed key.now way }
+    ensures end { result + way.per ≤ way.first + way.rows * way.per }
 {
     way.first + hash_row(seed, way.number, key.as_slice(), way.rows) * way.per
-}
-
-/// Appends the first cells of a key's rows.
-fn push_starts(starts: &mut Vec<u32>, seed: u8, key: &Key, ways: &[Way]) -> Result<(), AllocError>
-    requires rows { All (λ (way : Way). 1 ≤ way.rows) ways.now }
-    requires within { All (λ (way : Way). way.first + way.rows * way.per < 2 ^ 32) ways.now }
-    ensures { OnOk result (starts.new.items ≡ starts.old.items ++ map (row_start seed key.now) ways.now) }
-{
-    for way in ways {
-        starts.push(start_of(seed, key, *way))?;
-    }
-    Ok(())
-}
-
-/// The first cells of the rows of all keys.
-fn start_list(alloc: Global, seed: u8, keys: &[Key], ways: &[Way]) -> Result<Vec<u32>, AllocError>
-    requires rows { All (λ (way : Way). 1 ≤ way.rows) ways.now }
-    requires within { All (λ (way : Way). way.first + way.rows * way.per < 2 ^ 32) ways.now }
-    ensures { IfOk result (λ starts. starts.items ≡ starts_of seed ways.now keys.now) }
-{
-    let mut starts = Vec::new(alloc);
-    for key in keys {
-        push_starts(&mut starts, seed, key, ways)?;
-    }
-    Ok(starts)
 }
 
 /// Appends the cells of a row.
@@ -64,39 +40,118 @@ fn push_row(cells: &mut Vec<u32>, start: u32, per: u32) -> Result<(), AllocError
     Ok(())
 }
 
-/// Appends the cells of rows, one in each way.
-fn push_rows(cells: &mut Vec<u32>, ways: &[Way], starts: &[u32]) -> Result<(), AllocError>
-    requires { EndWithin (2 ^ 32 - 1) ways.now starts.now }
-    ensures { OnOk result (cells.new.items ≡ cells.old.items ++ cells_from ways.now starts.now) }
+/// Appends the cells of a key's rows, one in each way.
+fn push_rows(cells: &mut Vec<u32>, seed: u8, key: &Key, ways: &[Way]) -> Result<(), AllocError>
+    requires { All (IsWay (2 ^ 32 - 1)) ways.now }
+    ensures { OnOk result (cells.new.items ≡ cells.old.items ++ rows_in seed ways.now key.now) }
 {
-    for (at, way) in ways.iter().enumerate() {
-        push_row(cells, starts[at], way.per)?;
+    for way in ways {
+        push_row(cells, start_of(seed, key, *way), way.per)?;
     }
     Ok(())
 }
 
-impl Choices {
-    /// The choices of these keys in a table. The hash of a key is worked out once for each way.
-    pub fn new(alloc: Global, layout: &Layout, keys: &Keys, seed: u8) -> Result<Choices, AllocError>
+/// The first free cell of a row.
+fn free_in_row(start: u32, per: u32, holders: &[u32]) -> Option<u32>
+    requires within { start + per ≤ length holders.now }
+    requires few { length holders.now < 2 ^ 32 }
+    ensures free { IfSome result (λ c. slice_index holders.now c ≡ 0) }
+    ensures exists { IfSome result (λ c. c < length holders.now) }
+    ensures chosen { IfSome result (λ c. Contains (range_with_len start per) c) }
+    ensures none { result ≡ None → All (λ c. 0 < slice_index holders.now c) (range_with_len start per) }
+{
+    for cell in start..start + per {
+        if holders[cell as usize] == 0 {
+            return Some(cell);
+        }
+    }
+    None
+}
+
+/// The first free cell of a key's row in a way, where so many cells are taken from the first one on. A way of such cells
+/// alone isn't hashed.
+fn free_in_way(seed: u8, key: &Key, way: Way, holders: &[u32], taken: u32) -> Option<u32>
+    requires way { IsWay (length holders.now) way }
+    requires few { length holders.now < 2 ^ 32 }
+    requires taken { AreTaken holders.now taken }
+    ensures free { IfSome result (λ c. slice_index holders.now c ≡ 0) }
+    ensures exists { IfSome result (λ c. c < length holders.now) }
+    ensures chosen { IfSome result (λ c. Contains (range_with_len (row_start seed key.now way) way.per) c) }
+    ensures none { result ≡ None → All (λ c. 0 < slice_index holders.now c) (range_with_len (row_start seed key.now way) way.per) }
+{
+    let end = way.first + way.rows * way.per;
+    if end <= taken {
+        return None;
+    }
+    free_in_row(start_of(seed, key, way), way.per, holders)
+}
+
+/// The first free cell of a key's rows, where so many cells are taken from the first one on.
+fn free_in_rows(seed: u8, key: &Key, ways: &[Way], holders: &[u32], taken: u32) -> Option<u32>
+    requires ways { All (IsWay (length holders.now)) ways.now }
+    requires few { length holders.now < 2 ^ 32 }
+    requires taken { AreTaken holders.now taken }
+    ensures free { IfSome result (λ c. slice_index holders.now c ≡ 0) }
+    ensures exists { IfSome result (λ c. c < length holders.now) }
+    ensures chosen { IfSome result (λ c. Contains (rows_in seed ways.now key.now) c) }
+    ensures none { result ≡ None → All (λ c. 0 < slice_index holders.now c) (rows_in seed ways.now key.now) }
+{
+    for way in ways {
+        if let Some(cell) = free_in_way(seed, key, *way, holders, taken) {
+            return Some(cell);
+        }
+    }
+    None
+}
+
+impl<'a> Choices<'a> {
+    /// The choices of these keys in a table.
+    pub fn new(
+        alloc: Global,
+        layout: &Layout,
+        keys: &'a Keys,
+        seed: u8,
+    ) -> Result<Choices<'a>, AllocError>
         requires parts { length layout.now ≤ 64 }
-        requires rows { All (λ (part : Ways). 1 ≤ part.rows) layout.now }
         requires cells { cells_of layout.now < 2 ^ 32 }
         ensures { IfOk result (λ choices. AreChoices layout.now seed keys.now choices) }
     {
         let ways = way_list(alloc, layout.as_slice())?;
-        let starts = start_list(alloc, seed, keys.as_slice(), ways.as_slice())?;
-        Ok(Choices { ways, starts })
+        Ok(Choices {
+            ways,
+            keys: keys.as_slice(),
+            seed,
+        })
     }
 
     /// Puts the cells in which a key may stand into `cells`, in place of what it held.
     pub fn put(&self, key: usize, cells: &mut Vec<u32>) -> Result<(), AllocError>
-        requires known { key * vec_len self.now.ways + vec_len self.now.ways ≤ vec_len self.now.starts }
-        requires within { EndWithin (2 ^ 32 - 1) self.now.ways.items (starts_at self.now.ways.items self.now.starts.items key) }
+        requires known { key < length self.now.keys.now }
+        requires within { All (IsWay (2 ^ 32 - 1)) self.now.ways.items }
         ensures { OnOk result (cells.new.items ≡ choices_at self.now key) }
     {
         cells.clear();
-        let from = key * self.ways.len();
-        let starts = &self.starts[from..from + self.ways.len()];
-        push_rows(cells, self.ways.as_slice(), starts)
+        push_rows(cells, self.seed, &self.keys[key], self.ways.as_slice())
+    }
+
+    /// The first free cell of those in which a key may stand, where so many cells are taken from the first one on. A key
+    /// is hashed for each way up to that cell's, but not for those of taken cells alone.
+    pub fn free_cell(&self, key: usize, holders: &[u32], taken: u32) -> Option<u32>
+        requires known { key < length self.now.keys.now }
+        requires within { All (IsWay (length holders.now)) self.now.ways.items }
+        requires few { length holders.now < 2 ^ 32 }
+        requires taken { AreTaken holders.now taken }
+        ensures free { IfSome result (λ c. slice_index holders.now c ≡ 0) }
+        ensures exists { IfSome result (λ c. c < length holders.now) }
+        ensures chosen { IfSome result (λ c. Contains (choices_at self.now key) c) }
+        ensures none { result ≡ None → All (λ c. 0 < slice_index holders.now c) (choices_at self.now key) }
+    {
+        free_in_rows(
+            self.seed,
+            &self.keys[key],
+            self.ways.as_slice(),
+            holders,
+            taken,
+        )
     }
 }

@@ -62,6 +62,7 @@ pub fn load(alloc: Global, layout: &Layout, keys: &Keys, seed: u8) -> Result<Num
             });
         }
         search.clear();
+        loading.count_taken();
     }
     let Loading { cells, .. } = loading;
     Ok(Sequence::from_vec(cells))

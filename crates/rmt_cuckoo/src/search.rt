@@ -1,8 +1,8 @@
 //! The search for a cell: breadth first over the cells of the keys that would have to move.
 
-ghost use Rattle.std.specs.Prelude.{◌≡◌, ℕ, ◌+◌, ◌<◌, ◌≤◌, ◌^◌, [], List, None, false, replicate, length, All, Contains, IfOk, OnOk, IfSome, slice_index, vec_len};
+ghost use Rattle.std.specs.Prelude.{◌≡◌, ℕ, ◌+◌, ◌<◌, ◌≤◌, ◌^◌, [], List, None, false, replicate, length, All, IfOk, OnOk, slice_index, vec_len};
 ghost use Rattle.rmt_cuckoo.specs.Choices.{AreWithin, choices_at};
-ghost use Rattle.rmt_cuckoo.specs.Search.{IsLoaded, IsReady, IsMarked, IsSeen, IsSearching, Grows, Looked, Searched, cell_at, key_at as key_of};
+ghost use Rattle.rmt_cuckoo.specs.Search.{AreTaken, IsLoaded, IsReady, IsMarked, IsSeen, IsSearching, Grows, Looked, Searched, cell_at, key_at as key_of};
 
 use crate::choices::Choices;
 use crate::loading::Loading;
@@ -22,22 +22,6 @@ pub struct Search {
     pub steps: Vec<Step>,
     pub seen: Vec<bool>,
     pub row: Vec<u32>,
-}
-
-/// A free cell of a row.
-fn free_cell(row: &[u32], holders: &[u32]) -> Option<u32>
-    requires within { All (λ c. c < length holders.now) row.now }
-    ensures free { IfSome result (λ c. slice_index holders.now c ≡ 0) }
-    ensures exists { IfSome result (λ c. c < length holders.now) }
-    ensures chosen { IfSome result (λ c. Contains row.now c) }
-    ensures none { result ≡ None → All (λ c. 0 < slice_index holders.now c) row.now }
-{
-    for cell in row {
-        if holders[*cell as usize] == 0 {
-            return Some(*cell);
-        }
-    }
-    None
 }
 
 /// Steps from a place to each cell of a row that was not seen.
@@ -94,9 +78,11 @@ fn key_at(steps: &[Step], loading: &Loading, place: usize) -> usize
 fn settle(steps: &[Step], loading: &mut Loading, free: u32, place: usize) -> Result<(), AllocError>
     requires few { vec_len loading.old.cells + 1 < 2 ^ 32 }
     requires ready { (choices : ℕ → List ℕ) × IsReady choices (vec_len loading.old.cells) loading.old steps.now free place }
+    requires taken { AreTaken loading.old.holders.items loading.old.taken }
     ensures loaded { OnOk result ((choices : ℕ → List ℕ) → IsReady choices (vec_len loading.old.cells) loading.old steps.now free place →
         IsLoaded choices (vec_len loading.old.cells + 1) loading.new) }
     ensures size { OnOk result (vec_len loading.new.holders ≡ vec_len loading.old.holders) }
+    ensures taken { OnOk result (AreTaken loading.new.holders.items loading.new.taken) }
 {
     let mut hole = free;
     let mut place = place;
@@ -145,14 +131,15 @@ impl Search {
         requires within { AreWithin (vec_len loading.now.cells + 1) (vec_len loading.now.holders) choices.now }
         requires few { vec_len loading.now.holders < 2 ^ 32 }
         requires loaded { IsLoaded (choices_at choices.now) (vec_len loading.now.cells) loading.now }
+        requires taken { AreTaken loading.now.holders.items loading.now.taken }
         requires searching { IsSearching (choices_at choices.now) (vec_len loading.now.cells) loading.now.holders.items self.old.steps.items self.old.seen.items place }
         ensures { IfOk result (Looked (choices_at choices.now) (vec_len loading.now.cells) loading.now.holders.items place self.old self.new) }
     {
         let key = key_at(self.steps.as_slice(), loading, place);
-        choices.put(key, &mut self.row)?;
-        match free_cell(self.row.as_slice(), loading.holders.as_slice()) {
+        match choices.free_cell(key, loading.holders.as_slice(), loading.taken) {
             Some(cell) => Ok(Some(cell)),
             None => {
+                choices.put(key, &mut self.row)?;
                 mark(self.row.as_slice(), place, &mut self.steps, &mut self.seen)?;
                 Ok(None)
             }
@@ -166,6 +153,7 @@ impl Search {
         requires few { vec_len loading.old.holders < 2 ^ 32 }
         requires few_keys { vec_len loading.old.cells + 1 < 2 ^ 32 }
         requires loaded { IsLoaded (choices_at choices.now) (vec_len loading.old.cells) loading.old }
+        requires taken { AreTaken loading.old.holders.items loading.old.taken }
         requires size { vec_len self.old.seen ≡ vec_len loading.old.holders }
         requires steps { self.old.steps.items ≡ [] }
         requires marks { IsMarked [] self.old.seen.items }
@@ -173,6 +161,7 @@ impl Search {
         ensures marks { OnOk result (IsMarked self.new.steps.items self.new.seen.items) }
         ensures seen { OnOk result (vec_len self.new.seen ≡ vec_len self.old.seen) }
         ensures holders { OnOk result (vec_len loading.new.holders ≡ vec_len loading.old.holders) }
+        ensures taken { OnOk result (AreTaken loading.new.holders.items loading.new.taken) }
     {
         let mut place = 0;
         while place <= self.steps.len() {

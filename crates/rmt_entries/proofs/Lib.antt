@@ -8,3 +8,4 @@ pub mod NamedLaws
 pub mod ProgramLaws
 pub mod ReadingLaws
 pub mod TextLaws
+pub mod WordLaws

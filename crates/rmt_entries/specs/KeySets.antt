@@ -1,11 +1,13 @@
--- What a set of lists of numbers has: a list at its place, or one among those whose place was taken.
-use Rattle.std.specs.Prelude.{◌≡◌, ◌≢◌, ◌<◌, ◌≤◌, ℕ, ◌+◌, ◌-◌, ◌*◌, ◌/◌, ◌%◌, ◌^◌, ◌==◌, ◌&&◌, ◌||◌, Bool, true, not, List, Vec, bit_xor, fold, length, take, drop, slice_index_or}
+-- What a set of lists of numbers has: a list at one of its places, or one among those whose places were taken.
+use Rattle.std.specs.Prelude.{◌≡◌, ◌≢◌, ◌<◌, ◌≤◌, ℕ, zero, suc, ◌+◌, ◌-◌, ◌*◌, ◌/◌, ◌%◌, ◌^◌, ◌==◌, ◌&&◌, ◌||◌, if◌then◌else◌, Bool, true, false, not, List, Vec, bit_xor, fold, length, take, drop, slice_index_or}
 use Rattle.std.specs.Global.{Global}
 use Rattle.std.specs.BTreeSet.{BTreeSet, contains}
 use Rattle.std.specs.Cmp.Lexicographic.{slice_cmp}
 use Rattle.std.specs.Ordering.{nat_cmp}
 use Rattle.std.specs.Str.{bytes_eq}
 use Rattle.std.specs.declared.cmp.Ordering.{Ordering}
+use Rattle.rmt_entries.specs.declared.key_set.Spot.{Spot}
+use Rattle.rmt_entries.specs.declared.key_set.Spot.TheVariants.{Free, Held, Crowded}
 
 -- a print with one more number
 abbrev pub spread : ℕ → ℕ
@@ -26,15 +28,39 @@ list_at held at = take (slice_index_or held at 0) (drop (at + 1) held)
 abbrev pub is_at : List ℕ → ℕ → List ℕ → Bool
 is_at held slot key = not (slot == 0) && bytes_eq key (list_at held (slot - 1))
 
-abbrev pub slot_of : List ℕ → List ℕ → ℕ
-slot_of slots key = slice_index_or slots (place_of (length slots) key) 0
+-- how many places, one behind another, a list may stand at
+abbrev pub near : ℕ
+near = 8
+
+-- the first of them, where so many follow the last first one
+abbrev pub home : List ℕ → List ℕ → ℕ
+home slots key = place_of (length slots - near) key
+
+-- a list stands at one of so many places from one on
+unfoldable pub is_near : List ℕ → List ℕ → ℕ → ℕ → List ℕ → Bool
+is_near slots held zero place key = false
+is_near slots held (suc count) place key = is_at held (slice_index_or slots place 0) key || is_near slots held count (place + 1) key
+
+-- where a list belongs, which may stand at so many places from one on: the first that is free, unless it stands before that
+unfoldable pub spot_of : List ℕ → List ℕ → ℕ → ℕ → List ℕ → Spot
+spot_of slots held zero place key = Crowded
+spot_of slots held (suc count) place key =
+    if slice_index_or slots place 0 == 0
+    then Free place
+    else (if bytes_eq key (list_at held (slice_index_or slots place 0 - 1)) then Held else spot_of slots held count (place + 1) key)
+
+-- a list is there that belongs there, where others of its places are in a set that has it or not
+abbrev pub is_there : Bool → Spot → Bool
+is_there others (Free place) = false
+is_there others Held = true
+is_there others Crowded = others
 
 abbrev pub by_numbers : Vec ℕ Global → Vec ℕ Global → Ordering
 by_numbers x y = slice_cmp nat_cmp x.items y.items
 
 -- a list is among these
 abbrev pub holds : List ℕ → List ℕ → BTreeSet (Vec ℕ Global) → Vec ℕ Global → Bool
-holds slots held crowded key = is_at held (slot_of slots key.items) key.items || contains by_numbers crowded key
+holds slots held crowded key = is_near slots held near (home slots key.items) key.items || contains by_numbers crowded key
 
 -- a set, as contracts see it: its slots, the lists that they have, and the others
 abbrev pub KeySet : Type 0
@@ -43,8 +69,16 @@ KeySet = List ℕ × (List ℕ × BTreeSet (Vec ℕ Global))
 abbrev pub has : KeySet → Vec ℕ Global → Bool
 has set key = holds set.0 set.1.0 set.1.1 key
 
--- each slot's list is whole, and a list that isn't at its place found another there
+-- where a list belongs
+abbrev pub spot_in : KeySet → List ℕ → Spot
+spot_in set key = spot_of set.0 set.1.0 near (home set.0 key) key
+
+-- the list of a slot is whole
+abbrev pub IsWhole : List ℕ → List ℕ → Type 0
+IsWhole slots held = (p : ℕ) → slice_index_or slots p 0 ≢ 0 → slice_index_or slots p 0 + slice_index_or held (slice_index_or slots p 0 - 1) 0 ≤ length held
+
+-- each slot's list is whole, and each list is where it belongs
 pub record Stands (slots held : List ℕ) (crowded : BTreeSet (Vec ℕ Global)) : Type 0 where
-  pub some : 0 < length slots
-  pub whole : (p : ℕ) → slice_index_or slots p 0 ≢ 0 → slice_index_or slots p 0 + slice_index_or held (slice_index_or slots p 0 - 1) 0 ≤ length held
-  pub taken : (key : Vec ℕ Global) → contains by_numbers crowded key ≡ true → slot_of slots key.items ≢ 0
+  pub some : near < length slots
+  pub whole : IsWhole slots held
+  pub found : (key : Vec ℕ Global) → holds slots held crowded key ≡ true → is_there (contains by_numbers crowded key) (spot_of slots held near (home slots key.items) key.items) ≡ true

@@ -1,10 +1,10 @@
-//! A set of lists of numbers. Nearly each has a place of its own, found by its print; an ordered set has those whose place
-//! another one took, so that no choice of lists makes it slow.
+//! A set of lists of numbers. Nearly each has a place of its own, one of a few that are found by its print; an ordered set
+//! has those whose places others took, so that no choice of lists makes it slow.
 
 ghost use Rattle.std.specs.Prelude.{◌≡◌, ◌<◌, ◌≤◌, ◌+◌, ◌++◌, ◌∷◌, ℕ, Bool, List, Vec, cond, false, not, true, length, slice_index_or, IfOk, OnOk};
 ghost use Rattle.std.specs.Global.{Global};
 ghost use Rattle.std.specs.Str.{bytes_eq};
-ghost use Rattle.rmt_entries.specs.KeySets.{has, list_at, mixed, place_of};
+ghost use Rattle.rmt_entries.specs.KeySets.{IsWhole, has, list_at, mixed, near, place_of, spot_in, spot_of};
 
 use std::alloc::{AllocError, Global};
 use std::collections::BTreeSet;
@@ -15,6 +15,9 @@ const FIRST_FACTOR: u64 = 11400714819323198485;
 
 const LAST_FACTOR: u64 = 13787848793156543929;
 
+/// How many places, one behind another, a list may stand at.
+const NEAR: usize = 8;
+
 /// A set of lists of numbers. Contracts see whether it has a list.
 #[derive(Drop)]
 pub struct KeySet {
@@ -22,7 +25,7 @@ pub struct KeySet {
     slots: Vec<u32>,
     /// Lists, each behind its length.
     held: Vec<u128>,
-    /// The lists that found their place taken.
+    /// The lists that found their places taken.
     crowded: BTreeSet<Vec<u128>>,
 }
 
@@ -46,7 +49,7 @@ impl KeySet {
         ensures { IfOk result (λ set. (key : Vec ℕ Global) → has set key ≡ false) }
     {
         Ok(KeySet {
-            slots: vec![in alloc; 0u32; places]?,
+            slots: vec![in alloc; 0u32; places.saturating_add(NEAR)]?,
             held: Vec::new(alloc),
             crowded: BTreeSet::new(alloc),
         })
@@ -58,22 +61,61 @@ impl KeySet {
         ensures added { IfOk result (λ is_new. is_new ≡ not (has self.old key)) }
         ensures updates { OnOk result ((q : Vec ℕ Global) → has self.new q ≡ cond (bytes_eq key.items q.items) true (has self.old q)) }
     {
-        let place = place_of(self.slots.len(), key.as_slice());
-        let slot = self.slots[place];
-        if slot == 0 {
-            let begin = self.held.len();
-            if begin >= u32::MAX as usize {
-                return Err(AllocError);
+        match self.spot_of(key.as_slice()) {
+            Spot::Free(place) => {
+                let begin = self.held.len();
+                if begin >= u32::MAX as usize {
+                    return Err(AllocError);
+                }
+                put_list(&mut self.held, key.as_slice())?;
+                self.slots[place] = begin as u32 + 1;
+                Ok(true)
             }
-            put_list(&mut self.held, key.as_slice())?;
-            self.slots[place] = begin as u32 + 1;
-            return Ok(true);
+            Spot::Held => Ok(false),
+            Spot::Crowded => Ok(self.crowded.insert(key)?),
         }
-        if is_list_at(self.held.as_slice(), slot as usize - 1, key.as_slice()) {
-            return Ok(false);
-        }
-        Ok(self.crowded.insert(key)?)
     }
+
+    /// Where a list belongs.
+    fn spot_of(&self, key: &[u128]) -> Spot
+        ensures { result ≡ spot_in self.now key.now }
+    {
+        let home = place_of(self.slots.len() - NEAR, key);
+        spot_from(self.slots.as_slice(), self.held.as_slice(), home, key)
+    }
+}
+
+/// Where a list belongs.
+#[derive(Clone, Copy)]
+enum Spot {
+    /// At this place, which is free.
+    Free(usize),
+    /// Where it stands.
+    Held,
+    /// Among those whose places are taken.
+    Crowded,
+}
+
+/// Where a list belongs, the first of whose places is this one.
+fn spot_from(slots: &[u32], held: &[u128], home: usize, key: &[u128]) -> Spot
+    requires room { home + near ≤ length slots.now }
+    requires whole { IsWhole slots.now held.now }
+    ensures { result ≡ spot_of slots.now held.now near home key.now }
+{
+    let mut place = home;
+    let mut left = NEAR;
+    while left > 0 {
+        let slot = slots[place];
+        if slot == 0 {
+            return Spot::Free(place);
+        }
+        if is_list_at(held, slot as usize - 1, key) {
+            return Spot::Held;
+        }
+        place += 1;
+        left -= 1;
+    }
+    Spot::Crowded
 }
 
 /// A print with one more number.
@@ -90,7 +132,7 @@ fn mixed(print: u64, number: u128) -> u64
 }
 
 /// The place of a list among so many.
-fn place_of(places: usize, key: &[u128]) -> usize
+pub fn place_of(places: usize, key: &[u128]) -> usize
     requires { 0 < places }
     ensures place { result ≡ place_of places key.now }
     ensures within { result < places }
@@ -103,7 +145,7 @@ fn place_of(places: usize, key: &[u128]) -> usize
 }
 
 /// Adds a list behind its length.
-fn put_list(held: &mut Vec<u128>, key: &[u128]) -> Result<(), AllocError>
+pub fn put_list(held: &mut Vec<u128>, key: &[u128]) -> Result<(), AllocError>
     ensures put { OnOk result (held.new.items ≡ held.old.items ++ length key.now ∷ key.now) }
     ensures kept { (rest : List ℕ) × (held.new.items ≡ held.old.items ++ rest) }
 {
@@ -112,7 +154,7 @@ fn put_list(held: &mut Vec<u128>, key: &[u128]) -> Result<(), AllocError>
 }
 
 /// Whether a list is the one that stands behind its length at a place.
-fn is_list_at(held: &[u128], at: usize, key: &[u128]) -> bool
+pub fn is_list_at(held: &[u128], at: usize, key: &[u128]) -> bool
     requires { at + 1 + slice_index_or held.now at 0 ≤ length held.now }
     ensures { result ≡ bytes_eq key.now (list_at held.now at) }
 {

@@ -4,7 +4,7 @@
 mod arguments;
 pub mod fault;
 mod gathered;
-mod key_set;
+pub mod key_set;
 mod keys;
 pub mod laws;
 mod line;

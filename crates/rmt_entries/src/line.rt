@@ -18,11 +18,16 @@ use crate::words::Words;
 use rmt_ast::entry::Entry;
 use std::alloc::Global;
 
-/// Whether a line has printable bytes alone.
+/// Whether a line has printable bytes alone. It looks at all of them, without an end at the first other one, so that
+/// many are compared at once.
 pub fn is_printable(line: &[u8]) -> bool
     ensures { result ≡ is_printable line.now }
 {
-    line.iter().all(|byte| b' ' <= *byte && *byte <= b'~')
+    let mut all = true;
+    for byte in line {
+        all = all & (b' ' <= *byte && *byte <= b'~');
+    }
+    all
 }
 
 /// Takes the first word of a line, behind which others stand. The fault is of code 1.

@@ -53,12 +53,12 @@ pub fn entries(alloc: Global, program: &Program, text: &[u8]) -> Result<EntryLis
     Ok(EntryLists::from_vec(gathered.lists))
 }
 
-/// How many places the keys of a text get: few lines have fewer than 8 bytes, and 2,097,152 are two for each key of the largest
-/// table.
+/// How many places the keys of a text get: few lines have fewer than 8 bytes, and 4,194,304 are four for each key of the
+/// largest table, so that few keys meet another one's.
 fn places_for(text: &[u8]) -> usize
     ensures { 0 < result }
 {
-    (text.len() / 8).min(2_097_151) + 1
+    (text.len() / 8).min(4_194_303) + 1
 }
 
 /// Adds the entry that a line says. After a fault nothing is known of the entries.

@@ -4,6 +4,7 @@ ghost use Rattle.std.specs.Prelude.{◌≡◌, ◌==◌, ◌∷◌, [], length, 
 ghost use Rattle.rmt_entries.specs.Lines.{words};
 
 use rmt_bits::cuts::cut;
+use rmt_bits::lines::is_blank;
 use std::marker::Model;
 
 /// The words of a line that are not taken yet, as contracts see them.
@@ -40,11 +41,11 @@ impl<'a> Words<'a> {
     }
 
     /// Whether all are taken.
+    #[tactic(auto, using(crate::proofs::WordLaws::words_blank))]
     pub fn is_empty(&self) -> bool
         ensures { result ≡ (length self.now == 0) }
     {
-        let (word, _) = next_word(self.rest);
-        word.is_none()
+        is_blank(self.rest)
     }
 }
 

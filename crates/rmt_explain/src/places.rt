@@ -1,6 +1,7 @@
 //! Places in a text, and lines that are quoted with a caret under the place.
 
 use crate::message::{Message, is_seen};
+use memchr::memchr;
 
 /// The most bytes of a line that are shown.
 const WINDOW: usize = 100;
@@ -8,18 +9,45 @@ const WINDOW: usize = 100;
 /// How many bytes are shown before the place where a line is cut.
 const BEFORE: usize = 60;
 
+/// How many bytes' line feeds are counted at once.
+const PIECE: usize = 4096;
+
 /// Where the line of a number begins, the lines counted from 1.
 pub fn line_start(text: &[u8], line: u64) -> Option<usize> {
-    let mut number: u64 = 1;
     if line <= 1 {
         return Some(0);
     }
-    for at in 0..text.len() {
-        if text[at] == b'\n' {
-            number = number.saturating_add(1);
-            if number == line {
+    let mut left = line.saturating_sub(1);
+    let mut start: usize = 0;
+    for piece in text.chunks(PIECE) {
+        let feeds = line_feeds(piece);
+        if left <= feeds {
+            return Some(start.saturating_add(behind_feed(piece, left)?));
+        }
+        left = left.saturating_sub(feeds);
+        start = start.saturating_add(piece.len());
+    }
+    None
+}
+
+/// How many line feeds are among bytes.
+fn line_feeds(bytes: &[u8]) -> u64 {
+    let mut count: u64 = 0;
+    for byte in bytes {
+        count = count.wrapping_add(u64::from(*byte == b'\n'));
+    }
+    count
+}
+
+/// The place behind the line feed of a number, from 1.
+fn behind_feed(bytes: &[u8], number: u64) -> Option<usize> {
+    let mut left = number;
+    for at in 0..bytes.len() {
+        if bytes[at] == b'\n' {
+            if left <= 1 {
                 return Some(at.saturating_add(1));
             }
+            left = left.saturating_sub(1);
         }
     }
     None
@@ -27,12 +55,11 @@ pub fn line_start(text: &[u8], line: u64) -> Option<usize> {
 
 /// The line that begins at a position, without its line feed.
 pub fn line_from(text: &[u8], start: usize) -> &[u8] {
-    for end in start..text.len() {
-        if text[end] == b'\n' {
-            return part(text, start, end);
-        }
+    let rest = part(text, start, text.len());
+    match memchr(b'\n', rest) {
+        Some(end) => part(rest, 0, end),
+        None => rest,
     }
-    part(text, start, text.len())
 }
 
 /// The bytes from one position to another; none where there are no such.

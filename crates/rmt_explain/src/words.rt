@@ -1,6 +1,7 @@
 //! The words of an entry line or a packet line, with their columns.
 
 use crate::places::part;
+use memchr::memchr;
 
 /// A word of a line.
 #[derive(Clone, Copy)]
@@ -25,8 +26,12 @@ impl<'a> Words<'a> {
 
     /// The next word.
     pub fn next(&mut self) -> Option<Word<'a>> {
-        let start = self.first_where(self.at, false);
-        let end = self.first_where(start, true);
+        let start = self.behind_spaces();
+        let rest = part(self.line, start, self.line.len());
+        let end = match memchr(b' ', rest) {
+            Some(length) => start.saturating_add(length),
+            None => self.line.len(),
+        };
         self.at = end;
         let bytes = part(self.line, start, end);
         if bytes.is_empty() {
@@ -39,10 +44,10 @@ impl<'a> Words<'a> {
         }
     }
 
-    /// The first place from one on where a space stands, or none does; the line's end where there is no such.
-    fn first_where(&self, from: usize, is_space: bool) -> usize {
-        for at in from..self.line.len() {
-            if (self.line[at] == b' ') == is_space {
+    /// The first place from here on where no space stands; the line's end where there is no such.
+    fn behind_spaces(&self) -> usize {
+        for at in self.at..self.line.len() {
+            if self.line[at] != b' ' {
                 return at;
             }
         }

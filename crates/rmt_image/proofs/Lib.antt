@@ -10,3 +10,4 @@ mod TailItems
 mod NamesCounts
 pub mod Whole
 mod ReadingExamples
+pub mod size

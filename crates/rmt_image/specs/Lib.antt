@@ -4,3 +4,4 @@ pub mod Readers
 pub mod ReadingNames
 pub mod ReadingTails
 pub mod Reading
+pub mod Size

@@ -2,6 +2,7 @@
 #![tactic(auto)]
 
 mod frames;
+pub mod laws;
 pub mod make;
 pub mod sample;
 mod text;

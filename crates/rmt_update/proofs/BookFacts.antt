@@ -1,12 +1,12 @@
 -- What a book that stands for cells says of the tables and cells in it.
-use Rattle.std.proofs.Common.{◌≡◌, ℕ, zero, suc, ◌%◌, ◌^◌, ◌<◌, true, List, [], ◌∷◌, Option, Some, map, sum, option_map, refl, sym, ap, ◌∙◌, subst, inl, inr, arith}
+use Rattle.std.proofs.Common.{◌≡◌, ℕ, ◌%◌, ◌^◌, ◌<◌, true, List, [], ◌∷◌, Option, Some, map, sum, option_map, refl, sym, ap, ◌∙◌, subst, inl, inr, arith}
 use Rattle.std.specs.Prelude.{AllPairs, Contains, IsSomeAnd, slice_get, slice_index_or, unwrap_or}
 use Rattle.std.specs.List.{AllZip}
 use Rattle.std.specs.BTreeMap.{get}
 use Rattle.std.specs.Ordering.{nat_cmp}
 use Rattle.std.proofs.lemmas.Bool.{and_parts, cases_lt}
 use Rattle.std.proofs.lemmas.List.Elements.{All-contains, at_from_Contains}
-use Rattle.std.proofs.lemmas.Option.{get_or_from_slice_get, none-some, same_Some, slice_get-get_or}
+use Rattle.std.proofs.lemmas.Option.{get_or_from_slice_get, same_Some, slice_get-get_or}
 use Rattle.rmt_bits.proofs.AllLaws.{All-slice_get}
 use Rattle.rmt_bits.proofs.MemberLaws.{Contains-flat_map, Contains-from_any, Contains-item, Contains-map, Contains-unmap, from_flat_map}
 use Rattle.rmt_ast.specs.NameRules.{rise, terms_of_name}

@@ -11,7 +11,6 @@ use Rattle.rmt_ast.specs.declared.names.TableName.{TableName}
 use Rattle.rmt_ast.specs.NameRules.{table_is_formed}
 use Rattle.rmt_config.specs.declared.config.Config.{Config}
 use Rattle.rmt_config.specs.Form.{Formed, names_are_fit, visible_with}
-use Rattle.rmt_config.specs.MemoryRules.{MemoryIsFormed}
 use Rattle.rmt_config.specs.NamesForm.{by_number, entries_by_cell, entries_of_node, entries_spelled, has_entries, has_key_bits, has_order, has_parts, has_rows, is_filled_so, is_made_so, names_fit, node_count_of, stands_in_candidates}
 use Rattle.rmt_config.specs.Rooms.{PartAt, parts_of}
 use Rattle.rmt_config.specs.RunCells.{own_cells}

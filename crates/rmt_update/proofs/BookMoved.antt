@@ -1,20 +1,19 @@
 -- A book whose entries were loaded into cells anew stands for the cells behind the commit.
-use Rattle.std.proofs.Common.{◌≡◌, ◌≢◌, ℕ, zero, suc, ◌+◌, ◌%◌, ◌<◌, ◌==◌, Bool, true, false, not, cond, List, [], ◌∷◌, get_or, length, map, Option, Some, None, option_map, unwrap_or, refl, sym, ap, ◌∙◌, subst, arith}
+use Rattle.std.proofs.Common.{◌≡◌, ◌≢◌, ℕ, zero, suc, ◌+◌, ◌%◌, ◌<◌, ◌==◌, Bool, true, false, not, cond, List, [], ◌∷◌, length, map, Option, Some, None, option_map, unwrap_or, refl, sym, ap, ◌∙◌, subst, arith}
 use Rattle.std.specs.Prelude.{All, AllPairs, IfSome, Vec, find, slice_get}
 use Rattle.std.specs.Global.{Global}
 use Rattle.std.specs.List.{AllZip, range_with_len}
 use Rattle.std.proofs.lemmas.Bool.{eq-eqb, eqb-true, false≢true, ne_eqb}
 use Rattle.std.proofs.lemmas.List.Elements.{All-cons, All-nil}
-use Rattle.std.proofs.lemmas.Option.{none-some, same_Some, slice_get-get_or}
-use Rattle.rmt_bits.proofs.AllLaws.{All-slice_get}
+use Rattle.std.proofs.lemmas.Option.{none-some, same_Some}
 use Rattle.rmt_bits.proofs.FunctionLaws.{funext}
 use Rattle.rmt_bits.proofs.ListLaws.{AllZip-slice_get, find-passes}
 use Rattle.rmt_ast.specs.declared.entry.Entry.{Entry}
 use Rattle.rmt_ast.specs.declared.names.Names.{Names}
 use Rattle.rmt_ast.specs.declared.names.TableName.{TableName}
 use Rattle.rmt_ast.specs.Changes.{list_of}
-use Rattle.rmt_ast.specs.EntryLists.{AreEntriesAt, Terms}
-use Rattle.rmt_ast.specs.NameRules.{AreEntriesOf, terms_named, terms_of_name}
+use Rattle.rmt_ast.specs.EntryLists.{AreEntriesAt}
+use Rattle.rmt_ast.specs.NameRules.{AreEntriesOf, terms_of_name}
 use Rattle.rmt_config.specs.declared.config.Config.{Config}
 use Rattle.rmt_config.specs.declared.config.SlotUnit.{SlotUnit}
 use Rattle.rmt_config.specs.Cells.{is_occupied}
@@ -39,7 +38,6 @@ use Rattle.rmt_update.proofs.DifferenceLaws.{NextHolds}
 use Rattle.rmt_update.proofs.FirstLaws.{map-twice}
 use Rattle.rmt_update.proofs.MovedLaws.{table-holds, told-by-number, told-has_order, told-numbers}
 use Rattle.rmt_update.proofs.OncePlaced.{all-numbers, at-place, found-in, one-key}
-use Rattle.rmt_update.proofs.SpotsFit.{node-within}
 use Rattle.rmt_update.proofs.TableRules.{entries-at, own-table, terms-found}
 use Rattle.rmt_update.proofs.ZipLaws.{zip-length, zip-made}
 

@@ -1,5 +1,5 @@
 -- The changed cells between a book's tables and their parts as they are next are those by which the cells become the next ones.
-use Rattle.std.proofs.Common.{◌≡◌, ◌≢◌, ℕ, zero, suc, ◌+◌, ◌<◌, ◌==◌, ◌&&◌, Bool, true, false, cond, List, [], ◌∷◌, ◌++◌, Option, Some, None, length, map, refl, sym, ap, ◌∙◌, subst, inl, inr, arith}
+use Rattle.std.proofs.Common.{◌≡◌, ℕ, suc, ◌<◌, ◌==◌, ◌&&◌, Bool, true, false, cond, List, [], ◌∷◌, Option, Some, None, refl, sym, ap, ◌∙◌, subst, inl, inr, arith}
 use Rattle.std.specs.Prelude.{All, Contains, IsSomeAnd, Vec, find, is_some, slice_get, zip}
 use Rattle.std.specs.Global.{Global}
 use Rattle.std.specs.BTreeMap.{get, keys}
@@ -33,7 +33,7 @@ use Rattle.rmt_update.specs.Coming.{empty_write, kept_write}
 use Rattle.rmt_update.specs.Differences.{AreDifferences, Goal, IsGoal, all_pairs, change_by, change_in, is_exact, is_same_kept, pairs_of}
 use Rattle.rmt_update.specs.Kept.{AreBytesOf}
 use Rattle.rmt_update.specs.Planned.{HasLengths}
-use Rattle.rmt_update.proofs.CellsFound.{found, nodes-rise, one-node, own_tables, table-holds, table-own}
+use Rattle.rmt_update.proofs.CellsFound.{found, nodes-rise, one-node, table-holds, table-own}
 use Rattle.rmt_update.proofs.DiffLaws.{CellTurns, TurnsBy, are-writes}
 use Rattle.rmt_update.proofs.OncePlaced.{found-in, part-once}
 use Rattle.rmt_update.proofs.PartOrder.{IsPartOf}

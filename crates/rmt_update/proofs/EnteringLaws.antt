@@ -1,7 +1,7 @@
 -- Cells of tables that change in their places, one after another, and back.
 use Rattle.std.proofs.Common.{◌≡◌, ℕ, zero, suc, ◌<◌, ◌≤◌, Bool, true, false, ◌&&◌, cond, eqb, List, [], ◌∷◌, ◌++◌, length, slice_set, Option, Some, None, Vec, Result, Ok, Err, refl, sym, ap, ◌∙◌, subst, arith}
 use native.Mathlib.Bridge.{le_prop}
-use Rattle.std.specs.Prelude.{All, IsSome, IsSomeAnd, OnErr, OnOk, is_err, is_ok, option_and_then, slice_get}
+use Rattle.std.specs.Prelude.{All, IsSome, IsSomeAnd, OnOk, is_err, is_ok, option_and_then, slice_get}
 use Rattle.std.specs.Global.{Global}
 use Rattle.std.specs.List.{AllZip}
 use Rattle.std.specs.BTreeMap.{BTreeMap, WritesThrough, get, is_at}
@@ -22,14 +22,6 @@ use Rattle.rmt_update.specs.Turning.{HaveCells, IsSpotIn, IsStill, IsStillTable,
 use Rattle.rmt_update.proofs.RankLaws.{same-number}
 use Rattle.rmt_update.proofs.SettledPlaces.{same-spot}
 use Rattle.rmt_update.proofs.ZipLaws.{zip-left, zip-length}
-
-pub on_ok-weaker : {A E : Type 0} (r : Result A E) (P Q : Type 0) → (P → Q) → OnOk r P → OnOk r Q
-on_ok-weaker (Ok x) P Q f p = f p
-on_ok-weaker (Err e) P Q f p = tt
-
-pub on_err-weaker : {A E : Type 0} (r : Result A E) (P Q : Type 0) → (P → Q) → OnErr r P → OnErr r Q
-on_err-weaker (Ok x) P Q f p = tt
-on_err-weaker (Err e) P Q f p = f p
 
 -- ---- the same parts
 
@@ -232,7 +224,8 @@ lead-none ts turns none = record {
 pub led-back : (turns : List CellTurn) (ts us vs : List TableCells) → LeadBack turns us ts → HaveCells us vs (λ s. turned turns s (kept_at us s)) → HaveCells ts vs (kept_at ts)
 led-back turns ts us vs lead have = record { same = tables-on ts us vs lead.same have.same; each = λ s. have.each s ∙ lead.each s }
 
-come-append : (xs ys : List Coming) (s : BookSpot) (o : Option Kept) → come_to (xs ++ ys) s o ≡ come_to ys s (come_to xs s o)
+-- entries come, and then others
+pub come-append : (xs ys : List Coming) (s : BookSpot) (o : Option Kept) → come_to (xs ++ ys) s o ≡ come_to ys s (come_to xs s o)
 come-append [] ys s o = refl
 come-append (x ∷ xs) ys s o = come-append xs ys s (cond (is_spot x.spot s) (Some x.kept) o)
 
@@ -309,10 +302,6 @@ same-shown k v key mask held i = record {
 pub no-items : {X : Type 0} (xs : List X) → length xs ≡ 0 → xs ≡ []
 no-items [] e = refl
 no-items (x ∷ xs) e = absurd (omega (arith, e))
-
-pub on_err-of : {A E : Type 0} (r : Result A E) (P : Type 0) → P → OnErr r P
-on_err-of (Ok x) P p = tt
-on_err-of (Err e) P p = p
 
 -- no cell has changed
 pub unchanged : (ts : List TableCells) → HaveCells ts ts (kept_at ts)

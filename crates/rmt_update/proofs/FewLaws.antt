@@ -1,22 +1,21 @@
 -- How many cells change in a commit that moves none.
-use Rattle.std.proofs.Common.{◌≡◌, ◌≢◌, ◌⊎◌, ℕ, suc, ◌+◌, ◌/◌, ◌%◌, ◌<◌, ◌≤◌, ◌==◌, ◌&&◌, ◌||◌, Bool, true, false, not, cond, eqb, List, [], ◌∷◌, ◌++◌, length, length-append, get_or, map, Option, Some, None, refl, sym, ap, ◌∙◌, subst, inl, inr, arith}
+use Rattle.std.proofs.Common.{◌≡◌, ◌≢◌, ◌⊎◌, ℕ, suc, ◌+◌, ◌/◌, ◌%◌, ◌≤◌, ◌==◌, ◌&&◌, ◌||◌, Bool, true, false, not, eqb, List, [], ◌∷◌, ◌++◌, length, length-append, get_or, map, Option, Some, None, refl, sym, ap, ◌∙◌, subst, inl, inr, arith}
 use Rattle.std.specs.Prelude.{All, AllPairs, Contains, nat_lt, slice_get}
 use Rattle.std.specs.Cmp.{nat_eq_equiv}
 use Rattle.std.specs.BTreeMap.{values}
 use Rattle.std.proofs.lemmas.Bool.{eqb-true, false≢true, ltb-true}
 use Rattle.std.proofs.lemmas.List.{length-map}
-use Rattle.std.proofs.lemmas.List.Elements.{All-contains, All-cons, All-head, All-nil, All-tail, Contains-append_left, Contains-append_right}
+use Rattle.std.proofs.lemmas.List.Elements.{All-contains, All-head, All-tail, Contains-append_left, Contains-append_right}
 use Rattle.std.proofs.lemmas.List.Kept.{AllPairs-cons}
 use Rattle.std.proofs.lemmas.Bool.{ne_eqb}
 use Rattle.std.proofs.lemmas.Map.Keys.{IsDistinct-from_apart}
 use Rattle.std.proofs.lemmas.Map.Made.{length-le_from_is_member}
-use Rattle.std.proofs.lemmas.Option.{none-some, same_Some}
+use Rattle.std.proofs.lemmas.Option.{same_Some}
 use Rattle.rmt_bits.proofs.MemberLaws.{Contains-filter, Contains-flat_map, Contains-from_any, Contains-item, Contains-map, Contains-first, Contains-later, Contains-split, any_item, list_any-Contains}
 use Rattle.rmt_bits.proofs.PairLaws.{AllPairs-head, AllPairs-none, AllPairs-tail}
 use Rattle.rmt_ast.specs.declared.entry.Entry.{Entry}
 use Rattle.rmt_ast.specs.declared.names.Names.{Names}
 use Rattle.rmt_config.specs.declared.cell_write.CellWrite.{CellWrite}
-use Rattle.rmt_config.specs.declared.config.CellNumber.{CellNumber}
 use Rattle.rmt_config.specs.declared.config.Config.{Config}
 use Rattle.rmt_config.specs.Commits.{AreWrites, IsCell, Placed, settled, writes_before}
 use Rattle.rmt_config.specs.Rooms.{PartAt, parts_of}
@@ -29,7 +28,6 @@ use Rattle.rmt_update.specs.declared.book.table.TableCells.{TableCells}
 use Rattle.rmt_update.specs.declared.lists.Changes.{Changes}
 use Rattle.rmt_update.specs.BookSpots.{kept_at}
 use Rattle.rmt_update.specs.BookStands.{BookStands, IsUsed}
-use Rattle.rmt_update.specs.NextKept.{bit_of}
 use Rattle.rmt_update.specs.Placing.{ArePlaced, IsBookSpot, TakesCell}
 use Rattle.rmt_update.specs.Planned.{MayChange}
 use Rattle.rmt_update.specs.Recent.{is_recent, recent, recent_in, recent_of}
@@ -42,7 +40,7 @@ use Rattle.rmt_update.proofs.KeptContent.{content-is, kept_content, kept_number,
 use Rattle.rmt_update.proofs.NextNumbers.{new, entry-comes, old-used, same-cell}
 use Rattle.rmt_update.proofs.PairsTold.{there-cell}
 use Rattle.rmt_update.proofs.SettledKept.{kept-next, left-stays, next_at, old-kept}
-use Rattle.rmt_update.proofs.SettledPlaces.{ComesTo, NoneComes, come-or-not, none-come}
+use Rattle.rmt_update.proofs.SettledPlaces.{come-or-not, none-come}
 use Rattle.rmt_refine.proofs.WrittenLaws.{all_at}
 
 before-differs : (a b : CellWrite) → writes_before a b ≡ true → a.stage ≡ b.stage → a.unit ≡ b.unit → a.cell ≡ b.cell → ⊥

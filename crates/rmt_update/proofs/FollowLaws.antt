@@ -1,24 +1,22 @@
 -- What follows on a commit: numbers stay below the next one, and changes of lists are changes that a book takes.
-use Rattle.std.proofs.Common.{◌≡◌, ◌≢◌, ◌⊎◌, ℕ, zero, suc, ◌+◌, ◌<◌, ◌≤◌, ◌==◌, ◌&&◌, ◌||◌, Bool, true, false, not, cond, leb, max, List, [], ◌∷◌, ◌++◌, length, map, Option, Some, None, option_map, unwrap_or, Result, Ok, Err, refl, sym, ap, subst, ◌∙◌, inl, inr, arith}
-use Rattle.std.specs.Prelude.{All, AllPairs, Contains, IsSomeAnd, IsTrue, drop, filter, find, fold, option_and_then, slice_get, slice_set}
+use Rattle.std.proofs.Common.{◌≡◌, ◌≢◌, ◌⊎◌, ℕ, ◌+◌, ◌<◌, ◌≤◌, ◌==◌, ◌&&◌, ◌||◌, Bool, true, false, not, cond, leb, max, List, [], ◌∷◌, ◌++◌, length, map, Option, Some, None, option_map, unwrap_or, Result, Ok, Err, refl, sym, ap, subst, ◌∙◌, inl, inr, arith}
+use Rattle.std.specs.Prelude.{All, Contains, IsSomeAnd, IsTrue, drop, filter, find, fold, option_and_then, slice_get}
 use Rattle.std.specs.List.{filter_map, flat_map, list_all, list_any, range_with_len}
-use Rattle.std.proofs.lemmas.Bool.{and_from, and_parts, cases_eq, cases_lt, eq-eqb, eqb-true, false≢true, leb-false}
-use Rattle.std.proofs.lemmas.List.{length-append, length-set}
-use Rattle.std.proofs.lemmas.List.Elements.{All-append, All-cons, All-contains, All-contains_itself, All-filter, All-head, All-map, All-nil, All-set, All-tail, All-weaker, Contains-append_right}
-use Rattle.std.proofs.lemmas.List.Kept.{AllPairs-cons}
-use Rattle.std.proofs.lemmas.List.Quantifiers.{all_pairs_push}
+use Rattle.std.proofs.lemmas.Bool.{and_parts, cases_lt, eq-eqb, eqb-true, false≢true, leb-false}
+use Rattle.std.proofs.lemmas.List.{length-set}
+use Rattle.std.proofs.lemmas.List.Elements.{All-append, All-cons, All-contains, All-contains_itself, All-filter, All-head, All-nil, All-tail, All-weaker, Contains-append_right}
 use Rattle.std.proofs.lemmas.Option.{none-some, same_Some}
-use Rattle.rmt_bits.proofs.AllLaws.{All-find, All-flat_map, All-from_test, All-parts, All-unmap}
+use Rattle.rmt_bits.proofs.AllLaws.{All-find, All-from_test, All-unmap}
 use Rattle.rmt_bits.proofs.FindLaws.{find-some}
-use Rattle.rmt_bits.proofs.ListLaws.{find-passes, slice_get-set_other, slice_get-set_same}
-use Rattle.rmt_bits.proofs.MemberLaws.{Contains-filter, Contains-first, Contains-flat_map, Contains-item, Contains-map, Contains-unmap, any_item}
+use Rattle.rmt_bits.proofs.ListLaws.{find-passes}
+use Rattle.rmt_bits.proofs.MemberLaws.{Contains-filter, Contains-flat_map, Contains-item, Contains-map, any_item}
 use Rattle.rmt_bits.proofs.OptionLaws.{same_Ok}
-use Rattle.rmt_bits.proofs.PairLaws.{AllPairs-across, AllPairs-append, AllPairs-head, AllPairs-left, AllPairs-map, AllPairs-none, AllPairs-right, AllPairs-tail, AllPairs-weaker}
+use Rattle.rmt_bits.proofs.PairLaws.{AllPairs-none}
 use Rattle.rmt_ast.specs.declared.entry.Entry.{Entry}
 use Rattle.rmt_ast.specs.declared.names.Names.{Names}
 use Rattle.rmt_ast.specs.declared.names.TableName.{TableName}
 use Rattle.rmt_ast.specs.Answers.{entry_numbers}
-use Rattle.rmt_ast.specs.Changes.{Adds, Change, Installed, Removes, at_first, changed, committed, list_of, next_number, without}
+use Rattle.rmt_ast.specs.Changes.{Adds, Change, Installed, Removes, at_first, changed, committed, list_of, without}
 use Rattle.rmt_ast.specs.EntryLists.{AreEntriesAt, IsEntry, Terms}
 use Rattle.rmt_ast.specs.NameRules.{AreEntriesOf, names_are_formed, terms_named}
 use Rattle.rmt_ast.proofs.EntryLaws.{all_without}
@@ -34,7 +32,7 @@ use Rattle.rmt_config.specs.declared.config.SlotUnit.{SlotUnit}
 use Rattle.rmt_config.specs.declared.config.Stage.{Stage}
 use Rattle.rmt_config.specs.declared.config.Unit.TheVariants.{Slot}
 use Rattle.rmt_config.specs.Cells.{Content, cells_in, is_occupied, visible_bits}
-use Rattle.rmt_config.specs.Commits.{AreFilled, IsCell, Makes, Placed, all_entries, come, filled_content, is_numbered_in, leaving_content, moves, placed_after, placed_at, placed_now, settled_content, settled_number, stay, stays, with_coming, without_bit}
+use Rattle.rmt_config.specs.Commits.{IsCell, Makes, Placed, all_entries, come, filled_content, is_numbered_in, leaving_content, moves, placed_after, placed_at, placed_now, settled_content, settled_number, stay, stays, with_coming, without_bit}
 use Rattle.rmt_config.specs.Form.{Formed}
 use Rattle.rmt_config.specs.NamesForm.{by_number, entries_by_cell, entries_of_node, entries_spelled, entry_in, is_named, node_count_of}
 use Rattle.rmt_config.specs.Rooms.{PartAt, Room, is_at, parts_of}
@@ -43,7 +41,7 @@ use Rattle.rmt_config.specs.TableForm.{Placed as PlacedUnit, node_of, placed_uni
 use Rattle.rmt_update.specs.declared.lists.Changes.{Changes}
 use Rattle.rmt_update.specs.BookStands.{IsUsed}
 use Rattle.rmt_update.specs.Following.{AreBelow, IsNextAbove}
-use Rattle.rmt_update.specs.Planned.{MayChange, changed_list, changed_lists}
+use Rattle.rmt_update.specs.Planned.{MayChange, changed_lists}
 use Rattle.rmt_update.specs.Running.{AreChanges, Running, added_to, begins, holds, is_among, key_of_entry, key_of_name, line_change, refusal_of, unless, with_entry, with_one, without_key, without_one}
 use Rattle.rmt_update.proofs.AfterLaws.{changed-length, changed-list}
 use Rattle.rmt_update.proofs.BookLaws.{names-fit}

@@ -5,7 +5,7 @@ use Rattle.std.specs.List.{AllZip}
 use Rattle.std.specs.BTreeMap.{get, is_at}
 use Rattle.std.specs.BTreeSet.{contains}
 use Rattle.std.specs.Ordering.{nat_cmp}
-use Rattle.std.proofs.lemmas.Bool.{eq-eqb, eqb-true, false≢true, false_from_ne_true}
+use Rattle.std.proofs.lemmas.Bool.{eq-eqb, eqb-true, false≢true, false_from_ne_true, or_parts}
 use Rattle.std.proofs.lemmas.List.{length-set}
 use Rattle.std.proofs.lemmas.Option.{none-some, same_Some, slice_get_within}
 use Rattle.rmt_bits.proofs.ListLaws.{AllZip-slice_get, slice_get-set_other, slice_get-set_same}
@@ -33,10 +33,6 @@ use Rattle.rmt_update.proofs.ZipLaws.{zip-gives, zip-length, zip-made}
 
 -- ---- one table
 
-or-false : (a b : Bool) → (a || b) ≡ false → (a ≡ false) × (b ≡ false)
-or-false true b e = absurd (false≢true (sym e))
-or-false false b e = (refl, e)
-
 both-false : (a b : Bool) → a ≡ false → b ≡ false → (a || b) ≡ false
 both-false a b e f = ap (λ x. x || b) e ∙ f
 
@@ -46,7 +42,7 @@ rows-stay kind odd goes n xs o none are = record {
   rows = λ key row there.
       let a = are.rows key row there in
       (a.0, a.1, (a.2.0, both-false (goes a.0.number) (n == a.0.number) a.2.1 (false_from_ne_true (n == a.0.number) (λ e. none row a.0 a.1 (eqb-true n a.0.number e)))), a.3);
-  all = λ row k at stays. are.all row k at (stays.0, (or-false (goes k.number) (n == k.number) stays.1).0);
+  all = λ row k at stays. are.all row k at (stays.0, (or_parts (goes k.number) (n == k.number) stays.1).0);
   free = are.free;
 }
 
@@ -56,7 +52,7 @@ rows-leave : (kind : Kind) (odd : Bool) (goes : ℕ → Bool) (n : ℕ) (xs : Li
 rows-leave kind odd goes n xs k o new number only changed free are = record {
   rows = λ q row there. rows q row (is_at (pair_cmp (kept_key kind k)) q) refl (sym (changed q) ∙ there);
   all = λ row j at stays.
-      let two = or-false (goes j.number) (n == j.number) stays.1 in
+      let two = or_parts (goes j.number) (n == j.number) stays.1 in
       changed (kept_key kind j) ∙ all row j (is_at (pair_cmp (kept_key kind k)) (kept_key kind j)) refl two.1 (are.all row j at (stays.0, two.0));
   free = λ row. ap (λ s. contains nat_cmp s row) free ∙ are.free row;
 }
@@ -109,13 +105,6 @@ kept-there ts s k is = by (slice_get ts s.table) is
     by : (o : Option TableCells) → option_and_then (λ (t : TableCells). kept_in t s.at) o ≡ Some k → IsSomeAnd o (λ (t : TableCells). s.at.part < length t.parts.items)
     by None e = absurd (none-some k e)
     by (Some t) e = part t (slice_get t.parts.items s.at.part) refl e
-
-pub spot-within : (ts : List TableCells) (s : BookSpot) → IsSpotIn ts s → s.table < length ts
-spot-within ts s there = by (slice_get ts s.table) refl there
-  where
-    by : (o : Option TableCells) → slice_get ts s.table ≡ o → IsSomeAnd o (λ (t : TableCells). s.at.part < length t.parts.items) → s.table < length ts
-    by None is h = absurd h
-    by (Some t) is h = slice_get_within ts s.table t is
 
 -- what is kept of a row of the table at a place
 kept-row : (ts : List TableCells) (i : ℕ) (t : TableCells) (row : ℕ) (o : Option Kept) → slice_get ts i ≡ Some t → slice_get (rows_of t.parts.items) row ≡ Some o → kept_at ts (record { table = i; at = spot_from 0 t.parts.items row }) ≡ o

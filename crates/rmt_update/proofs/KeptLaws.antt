@@ -1,17 +1,14 @@
 -- What is read of a cell is what it holds.
-use Rattle.std.proofs.Common.{◌≡◌, ℕ, ◌+◌, ◌*◌, ◌/◌, ◌%◌, ◌^◌, ◌<◌, ◌≤◌, List, length, map, ◌&&◌, ◌==◌, refl, sym, ap, ◌∙◌, subst, arith}
+use Rattle.std.proofs.Common.{◌≡◌, ℕ, ◌+◌, ◌/◌, ◌%◌, ◌^◌, ◌<◌, ◌≤◌, List, length, map, ◌&&◌, ◌==◌, sym, ap, ◌∙◌, subst, arith}
 use Rattle.std.specs.Prelude.{All}
 use Rattle.std.proofs.Math.Nat.{div-one}
-use Rattle.std.proofs.Math.Pow.{pow_mono}
 use Rattle.rmt_bits.specs.Bits.{bytes_of, number_of, slice}
 use Rattle.rmt_bits.proofs.BitLaws.{slice-lt, slice-slice, slice-whole}
-use Rattle.rmt_bits.proofs.ByteLaws.{length-bytes_of, number_of-bytes_of}
-use Rattle.rmt_config.specs.declared.form.layout.Layout.{Layout}
+use Rattle.rmt_bits.proofs.ByteLaws.{length-bytes_of}
 use Rattle.rmt_config.specs.declared.config.TcamRow.{TcamRow}
 use Rattle.rmt_config.specs.Cells.{Blocks, tcam_row, unit_row}
-use Rattle.rmt_config.specs.Layouts.{IsInSram, exact_keys, exact_records, ternary_records}
 use Rattle.rmt_config.specs.Shapes.{divided_up}
-use Rattle.rmt_config.proofs.CellLayouts.{exact_keys-is, exact_records-is, ternary_records-is, up-enough, up-least}
+use Rattle.rmt_config.proofs.CellLayouts.{up-least}
 use Rattle.rmt_config.proofs.SpelledCandidates.{above-byte}
 use Rattle.rmt_config.proofs.UnitBits.{Within}
 use Rattle.rmt_update.specs.Words.{joined}

@@ -3,8 +3,6 @@ use Rattle.std.proofs.Common.{◌≡◌, ◌≢◌, ℕ, ◌+◌, ◌==◌, ◌|
 use Rattle.std.specs.Prelude.{filter, if◌then◌else◌}
 use Rattle.std.specs.Global.{Global}
 use Rattle.std.specs.Str.{bytes_eq}
-use Rattle.std.specs.BTreeMap.{BTreeMap}
-use Rattle.std.specs.declared.collections.VecDeque.{VecDeque}
 use Rattle.std.proofs.lemmas.Bool.{and_parts, eq-eqb, eqb-true, false≢true}
 use Rattle.std.proofs.lemmas.List.{map-append}
 use Rattle.std.proofs.lemmas.List.Elements.{filter-append}
@@ -12,7 +10,8 @@ use Rattle.std.proofs.lemmas.Slice.Eq.{bytes_eq-Decides}
 use Rattle.rmt_ast.specs.declared.program.Test.{Test}
 use Rattle.rmt_ast.specs.declared.entry.Entry.{Entry}
 use Rattle.rmt_ast.specs.Changes.{EntryKey, are_same, is_keyed_by, without}
-use Rattle.rmt_update.specs.Holding.{Knows, keyed_numbers, numbers_at, spelled, spelled_tests}
+use Rattle.rmt_update.specs.Holding.{Knows, keyed_numbers, spelled, spelled_tests}
+use Rattle.rmt_update.specs.KeyNumbers.{KeyNumbers, numbers_at}
 use Rattle.rmt_update.specs.Running.{holds, key_of_entry}
 
 head_same : (a b : ℕ) (xs ys : List ℕ) → (a ∷ xs) ≡ (b ∷ ys) → a ≡ b
@@ -96,11 +95,8 @@ alike key own e k q ke qe = by (bytes_eq k q) (is_keyed_by key e) refl refl
         let same : key ≡ key_of_entry e = keyed_is key e t in
         absurd (false≢true (sym s ∙ (bytes_eq-Decides k q).1 (ke ∙ ap spelled (sym same) ∙ sym qe)))
 
-abbrev Numbers : Type 0
-Numbers = BTreeMap (Vec ℕ Global) (VecDeque ℕ Global)
-
 -- a number more
-pub knows_push : (old new : Numbers) (es : List Entry) (e : Entry) (key : Vec ℕ Global) (number : ℕ) → Knows old es → key.items ≡ spelled (key_of_entry e) → e.number ≡ number
+pub knows_push : (old new : KeyNumbers) (es : List Entry) (e : Entry) (key : Vec ℕ Global) (number : ℕ) → Knows old es → key.items ≡ spelled (key_of_entry e) → e.number ≡ number
     → ((q : Vec ℕ Global) → numbers_at new q ≡ numbers_at old q ++ (if bytes_eq key.items q.items then number ∷ [] else [])) → Knows new (es ++ e ∷ [])
 knows_push old new es e key number h own n put q k qe =
     put q ∙ rw (h q k qe, alike k k e key.items q.items own qe, ← n) (sym (keyed_push k es e))
@@ -143,7 +139,7 @@ keyed_others key other (x ∷ xs) apart = by (is_keyed_by key x) refl (is_keyed_
     by false s false t rest = rw t rest
 
 -- a number less
-pub knows_pop : (old new : Numbers) (es : List Entry) (key : EntryKey) (k : Vec ℕ Global) → Knows old es → k.items ≡ spelled key
+pub knows_pop : (old new : KeyNumbers) (es : List Entry) (key : EntryKey) (k : Vec ℕ Global) → Knows old es → k.items ≡ spelled key
     → ((q : Vec ℕ Global) → numbers_at new q ≡ (if bytes_eq k.items q.items then drop 1 (numbers_at old q) else numbers_at old q)) → Knows new (without key es)
 knows_pop old new es key k h own taken q other qe = taken q ∙ by (bytes_eq k.items q.items) refl
   where

@@ -41,6 +41,7 @@ pub mod KeptContent
 pub mod KeptLaws
 pub mod KeptOrder
 pub mod KeyLaws
+pub mod KeyNumberLaws
 pub mod KeyedLaws
 pub mod LeftLaws
 pub mod LikeLaws
@@ -87,6 +88,7 @@ pub mod PutRows
 pub mod RankLaws
 pub mod RecentLaws
 pub mod RefillLaws
+pub mod ResultLaws
 pub mod RoomGiven
 pub mod RoomNumbers
 pub mod RowIndexLaws

@@ -1,10 +1,9 @@
 -- A commit that moves cells, step by step.
-use Rattle.std.proofs.Common.{◌≡◌, ℕ, ◌+◌, ◌^◌, ◌<◌, ◌≤◌, ◌&&◌, true, not, List, Option, Some, None, get_or, length, map, refl, sym, ap, ◌∙◌, subst, arith}
-use Rattle.std.specs.Prelude.{All, Contains, Vec, is_some, nat_lt, slice_get}
+use Rattle.std.proofs.Common.{◌≡◌, ◌^◌, ◌<◌, ◌≤◌, ◌&&◌, true, not, List, Some, None, length, map, sym, ap, ◌∙◌, subst, arith}
+use Rattle.std.specs.Prelude.{All, Vec, is_some, nat_lt}
 use Rattle.std.specs.Global.{Global}
-use Rattle.std.specs.BTreeMap.{get, keys}
+use Rattle.std.specs.BTreeMap.{keys}
 use Rattle.std.specs.List.{AllZip, list_all}
-use Rattle.std.specs.Ordering.{nat_cmp}
 use Rattle.std.proofs.lemmas.Bool.{and_parts, ltb-true}
 use Rattle.std.proofs.lemmas.List.Elements.{All-contains}
 use Rattle.std.proofs.lemmas.Map.Lookups.{exact_unsigned}
@@ -18,17 +17,15 @@ use Rattle.rmt_config.specs.declared.config.Unit.TheVariants.{Slot}
 use Rattle.rmt_update.proofs.ToldEntryLaws.{PartFacts}
 use Rattle.rmt_ast.specs.declared.entry.Entry.{Entry}
 use Rattle.rmt_ast.specs.declared.names.Names.{Names}
-use Rattle.rmt_ast.specs.NameRules.{AreEntriesOf}
 use Rattle.rmt_config.specs.declared.config.Config.{Config}
 use Rattle.rmt_config.specs.Commits.{Makes, filled, moves, placed_after}
-use Rattle.rmt_config.specs.Rooms.{PartAt, parts_of}
+use Rattle.rmt_config.specs.Rooms.{parts_of}
 use Rattle.rmt_config.specs.RunCells.{RunCells, with_version}
 use Rattle.rmt_config.specs.LaneForm.{headers_are_formed, ports_are_formed}
 use Rattle.rmt_config.specs.ParserForm.{parser_is_formed}
 use Rattle.rmt_config.specs.StageForm.{stage_is_formed, stages_are_formed, starts_are_formed}
 use Rattle.rmt_config.specs.TailForm.{tails_have_headers}
 use Rattle.rmt_update.specs.declared.book.Book.{Book}
-use Rattle.rmt_update.specs.declared.book.kept.Kept.{Kept}
 use Rattle.rmt_update.specs.declared.book.loading.Loaded.{Loaded}
 use Rattle.rmt_update.specs.declared.book.plan.Plan.{Plan}
 use Rattle.rmt_update.specs.declared.book.table.PartCells.{PartCells}

@@ -1,8 +1,8 @@
 -- The parts of a table with the entries that are loaded into them are the cells behind the commit, and tell just these entries.
-use Rattle.std.proofs.Common.{◌≡◌, ◌≢◌, ℕ, suc, ◌+◌, ◌*◌, ◌/◌, ◌%◌, ◌^◌, ◌<◌, ◌==◌, Bool, true, false, List, [], ◌∷◌, length, Option, Some, None, option_map, unwrap_or, map, refl, sym, ap, ◌∙◌, subst, inl, inr, arith}
-use Rattle.std.specs.Prelude.{All, AllPairs, Contains, IsSome, IsSomeAnd, find, slice_get}
+use Rattle.std.proofs.Common.{◌≡◌, ◌≢◌, ℕ, ◌+◌, ◌*◌, ◌/◌, ◌%◌, ◌^◌, ◌<◌, ◌==◌, Bool, true, false, List, [], ◌∷◌, length, Option, Some, None, option_map, unwrap_or, map, refl, sym, ap, ◌∙◌, subst, inl, inr, arith}
+use Rattle.std.specs.Prelude.{All, AllPairs, Contains, IsSomeAnd, slice_get}
 use Rattle.std.specs.List.{AllZip, flat_map, list_all, list_any}
-use Rattle.std.specs.BTreeMap.{IsOrdered, get, keys}
+use Rattle.std.specs.BTreeMap.{get, keys}
 use Rattle.std.proofs.lemmas.Cmp.{nat_cmp_total}
 use Rattle.std.specs.Ordering.{nat_cmp}
 use Rattle.std.proofs.lemmas.Bool.{and_from, and_parts, eq-eqb}
@@ -23,7 +23,6 @@ use Rattle.rmt_ast.specs.Changes.{list_of}
 use Rattle.rmt_ast.specs.EntryLists.{AreEntriesAt, AreTableEntries, IsEntry, Terms}
 use Rattle.rmt_ast.specs.NameRules.{AreEntriesOf, terms_named, terms_of_name}
 use Rattle.rmt_ast.specs.RowOrder.{goes_first}
-use Rattle.rmt_config.specs.declared.config.CellNumber.{CellNumber}
 use Rattle.rmt_config.specs.declared.config.Config.{Config}
 use Rattle.rmt_config.specs.declared.config.SlotUnit.{SlotUnit}
 use Rattle.rmt_config.specs.Cells.{candidates, cells_in, is_occupied}
@@ -57,7 +56,7 @@ use Rattle.rmt_update.proofs.RowsInOrder.{rows-in-order}
 use Rattle.rmt_refine.proofs.SortedLaws.{by_number_is}
 use Rattle.rmt_refine.proofs.LayoutLaws.{memory_formed}
 use Rattle.rmt_refine.proofs.FilledLaws.{room_there}
-use Rattle.rmt_update.proofs.SpotsFit.{all_placed, from-placed, node-within, own, own-filled, own-placed, own-stands, spots-many, stands-in}
+use Rattle.rmt_update.proofs.SpotsFit.{from-placed, node-within, own, own-filled, own-placed, own-stands, spots-many, stands-in}
 use Rattle.rmt_update.proofs.TableRules.{Own, entries-at}
 use Rattle.rmt_update.proofs.ToldEntryLaws.{PartFacts}
 use Rattle.rmt_update.proofs.BytesLaws.{sizes-bytes}

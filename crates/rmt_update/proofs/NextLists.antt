@@ -47,7 +47,7 @@ use Rattle.rmt_update.proofs.CellsFound.{are-tables, nodes-rise, one-node, one-s
 use Rattle.rmt_update.proofs.ComeSeen.{comes-seen, no-come}
 use Rattle.rmt_update.proofs.LikeLaws.{like-from, like-of, like-seen, like-told}
 use Rattle.rmt_update.proofs.NextNumbers.{NextIs, new, old, entry-behind, next-is, old-used, same-cell}
-use Rattle.rmt_update.proofs.NextTables.{IsTwoParts, at-part, at-table, beside, kept-within, spot-of, two-parts}
+use Rattle.rmt_update.proofs.NextTables.{IsTwoParts, at-part, at-table, kept-within, spot-of, two-parts}
 use Rattle.rmt_update.proofs.PairsTold.{table-pairs, told-from, told-there}
 use Rattle.rmt_update.proofs.RoomNumbers.{slice_get-map_range}
 use Rattle.rmt_update.proofs.SettledKept.{left-stays, next_at, same-names}

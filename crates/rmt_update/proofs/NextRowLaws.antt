@@ -29,6 +29,7 @@ use Rattle.rmt_update.specs.Seen.{is_seen}
 use Rattle.rmt_update.specs.Spots.{spot_from}
 use Rattle.rmt_update.specs.Taking.{IsComing, IsRowGiven, MayGive, TakesFrom}
 use Rattle.rmt_update.specs.Turning.{cell_at, come_to, is_spot, left_kept}
+use Rattle.rmt_update.proofs.EnteringLaws.{come-append}
 use Rattle.rmt_update.proofs.NextLists.{stays-seen, three-seen}
 use Rattle.rmt_update.proofs.RowIndexLaws.{own-key, own-number, same-key, same-number}
 use Rattle.rmt_update.proofs.RowNumbers.{one-row, row-cell}
@@ -53,11 +54,6 @@ unseen-there odd rows row h = by (slice_get rows row) refl h
     by : (o : Option (Option Kept)) → slice_get rows row ≡ o → unwrap_or (option_map (λ (q : Option Kept). not (is_kept_seen odd q)) o) false ≡ true → (q : Option Kept) × (slice_get rows row ≡ Some q) × (is_kept_seen odd q ≡ false)
     by None is e = absurd (false≢true e)
     by (Some q) is e = (q, is, clear (is_kept_seen odd q) e)
-
--- entries come, and then others
-pub come-behind : (xs ys : List Coming) (s : BookSpot) (o : Option Kept) → come_to (xs ++ ys) s o ≡ come_to ys s (come_to xs s o)
-come-behind [] ys s o = refl
-come-behind (x ∷ xs) ys s o = come-behind xs ys s (cond (is_spot x.spot s) (Some x.kept) o)
 
 -- ---- the rows of a table
 
@@ -116,7 +112,7 @@ module _ (kind : Kind) (odd : Bool) (gone : List ℕ) (at : ℕ) (parts : List P
   }
     where
       same : (row : ℕ) → next (xs ++ more) row ≡ next xs row
-      same row = come-behind xs more (spot row) (left row) ∙ others more row (next xs row) apart
+      same row = come-append xs more (spot row) (left row) ∙ others more row (next xs row) apart
 
   -- where one comes to a row
   module _ (xs : List Coming) (o new : RowOrder) (are : AreNextRows kind odd gone xs at parts o) (c : Coming) (row : ℕ) (here : c.spot ≡ record { table = at; at = spot_from 0 parts row })
@@ -132,11 +128,11 @@ module _ (kind : Kind) (odd : Bool) (gone : List ℕ) (at : ℕ) (parts : List P
 
     own : next (xs ++ c ∷ []) row ≡ Some c.kept
     own =
-        come-behind xs (c ∷ []) (spot row) (left row)
+        come-append xs (c ∷ []) (spot row) (left row)
         ∙ ap (λ b. cond b (Some c.kept) (next xs row)) (ap (λ s. is_spot s (spot row)) here ∙ spot-itself (spot row))
 
     other : (r : ℕ) → r < length rows → row ≢ r → next (xs ++ c ∷ []) r ≡ next xs r
-    other r lt ne = come-behind xs (c ∷ []) (spot r) (left r) ∙ by (is_spot c.spot (spot r)) refl
+    other r lt ne = come-append xs (c ∷ []) (spot r) (left r) ∙ by (is_spot c.spot (spot r)) refl
       where
         by : (b : Bool) → is_spot c.spot (spot r) ≡ b → cond b (Some c.kept) (next xs r) ≡ next xs r
         by true e = absurd (ne (one-row parts row r within lt (ap (λ (s : BookSpot). s.at) (sym here ∙ same-spot c.spot (spot r) e))))

@@ -1,6 +1,6 @@
 -- Steps of putting changed cells together, each by where it stands.
 use Rattle.std.proofs.Common.{◌≡◌, ◌⊎◌, ℕ, zero, suc, ◌+◌, ◌≤◌, Bool, true, false, cond, List, [], ◌∷◌, ◌++◌, Option, Some, None, option_map, get_or, length, map, take, refl, sym, ap, ◌∙◌, subst, inl, inr, arith}
-use Rattle.std.specs.Prelude.{All, AllPairs, Contains, IsSome, Vec, find, is_some, slice_get, zip}
+use Rattle.std.specs.Prelude.{All, AllPairs, Contains, Vec, find, is_some, slice_get, zip}
 use Rattle.std.specs.Global.{Global}
 use Rattle.std.specs.BTreeMap.{IsOrdered, get, insert_entry, is_at, keys}
 use Rattle.std.proofs.lemmas.Cmp.{nat_cmp_total}

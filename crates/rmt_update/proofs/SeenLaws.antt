@@ -1,15 +1,24 @@
 -- The entries that a version sees, one after another.
-use Rattle.std.proofs.Common.{◌≡◌, ◌≢◌, ℕ, ◌+◌, ◌<◌, Bool, true, false, cond, List, [], ◌∷◌, ◌++◌, drop, get_or, length, length-append, map, take, append_assoc, sym, ap, ◌∙◌, subst, arith}
+use Rattle.std.proofs.Common.{◌≡◌, ◌≢◌, ℕ, ◌+◌, ◌<◌, Bool, true, false, cond, List, [], ◌∷◌, ◌++◌, get_or, length, length-append, map, take, sym, ap, ◌∙◌, subst, arith}
 use Rattle.std.specs.Borrow.{Bor}
-use Rattle.std.specs.Prelude.{filter}
+use Rattle.std.specs.Prelude.{eqb, filter}
 use Rattle.std.specs.List.{flat_map}
+use Rattle.std.specs.List.Sorted.{IsNonDecreasingBy, IsPermutation}
 use Rattle.std.proofs.Math.Seq.{get_or-append_seam}
 use Rattle.std.proofs.lemmas.Grind.{flat_map-append}
-use Rattle.std.proofs.lemmas.List.{append-nil, get_or_append_left, take-append-drop, take_more}
+use Rattle.std.proofs.lemmas.Bool.Decides.{Decides-eqb}
+use Rattle.std.proofs.lemmas.List.{append-nil, get_or-map, get_or_append_left, length-map, take_more}
+use Rattle.std.proofs.lemmas.List.Sorted.{Contains-permutation, IsPermutation-map, IsPermutation-sym}
+use Rattle.std.proofs.lemmas.Map.Keys.{IsDistinct-IsPermutation}
+use Rattle.std.proofs.lemmas.Map.Made.{AllPairs-from_IsDistinct, IsDistinct-from_AllPairs}
+use Rattle.rmt_bits.proofs.OptionLaws.{eqb-sym}
+use Rattle.rmt_bits.proofs.PairLaws.{AllPairs-map}
 use Rattle.rmt_ast.specs.declared.entry.Entry.{Entry}
 use Rattle.rmt_update.specs.declared.book.kept.Kept.{Kept}
 use Rattle.rmt_update.specs.Numbered.{IsNew}
 use Rattle.rmt_update.specs.Seen.{HaveNumbers}
+use Rattle.rmt_config.specs.NamesForm.{by_number}
+use Rattle.rmt_refine.proofs.SortedLaws.{by_number_is}
 
 -- of entries that have numbers, those in front do
 pub numbers-front : (xs ys : List Entry) → HaveNumbers (xs ++ ys) → HaveNumbers xs
@@ -24,13 +33,23 @@ number-new xs e h i d l same =
     let one = h i (length xs) d l (omega (arith, length-append xs (e ∷ []))) in
     one (ap (λ (a : Entry). a.number) (get_or_append_left xs (e ∷ []) d i l) ∙ sym same ∙ sym (ap (λ (a : Entry). a.number) (get_or-append_seam xs e [] d)))
 
--- one entry more in order
-pub order-next : (P Q : List Entry → Type 0) (es xs : List Entry) (e : Entry) → (HaveNumbers (es ++ xs) → P (es ++ xs)) → (P (es ++ xs) → IsNew e.number (es ++ xs) → Q ((es ++ xs) ++ e ∷ []))
-    → HaveNumbers (es ++ (xs ++ e ∷ [])) → Q (es ++ (xs ++ e ∷ []))
-order-next P Q es xs e so_far put h =
-    let same = append_assoc es xs (e ∷ []) in
-    let all : HaveNumbers ((es ++ xs) ++ e ∷ []) = subst HaveNumbers (sym same) h in
-    subst Q same (put (so_far (numbers-front (es ++ xs) (e ∷ []) all)) (number-new (es ++ xs) e all))
+-- entries that have numbers have them in any order
+numbers-moved : (xs ys : List Entry) → IsPermutation xs ys → HaveNumbers xs → HaveNumbers ys
+numbers-moved xs ys moved h i j d lt inside same =
+    let number : Entry → ℕ = λ e. e.number in
+    let long = length-map ys number in
+    AllPairs-from_IsDistinct Decides-eqb (map number ys)
+    (IsDistinct-IsPermutation eqb eqb-sym (map number xs) (map number ys) (IsPermutation-map number xs ys moved) (IsDistinct-from_AllPairs Decides-eqb (map number xs) (AllPairs-map ◌≢◌ number xs h))) i j (number d) lt
+    (omega (arith, inside, long)) (get_or-map number ys i d (number d) (omega (arith, lt, inside)) ∙ same ∙ sym (get_or-map number ys j d (number d) inside))
+
+-- the same entries, sorted by their numbers
+pub number-sorted : (xs ys : List Entry) → HaveNumbers xs → IsPermutation xs ys → IsNonDecreasingBy (λ (e : Entry). e.number) ys → ys ≡ by_number xs
+number-sorted xs ys h moved sorted =
+    let own = numbers-moved xs ys moved h in
+    sym
+    (by_number_is xs ys h
+    (λ i j d lt inside. let le = sorted i j d (omega (arith, lt)) inside in let apart = own i j d lt inside in omega (arith, le, apart))
+    (λ e there. Contains-permutation xs ys e moved there) (λ e there. Contains-permutation ys xs e (IsPermutation-sym xs ys moved) there))
 
 -- ---- the cells that are gone over
 
@@ -55,7 +74,3 @@ parts-more f xs seen i x same lt is =
     let within : i < length xs = subst (λ ys. i < length ys) same lt in
     ap (flat_map f) (take_more xs i x within ∙ ap (λ y. take i xs ++ y ∷ []) (sym here))
     ∙ flat_map-append f (take i xs) (x ∷ []) ∙ ap (λ es. flat_map f (take i xs) ++ es) (append-nil (f x))
-
-pub parts-front : {X : Type 0} (f : X → List Entry) (xs : List X) (i : ℕ) → HaveNumbers (flat_map f xs) → HaveNumbers (flat_map f (take i xs))
-parts-front f xs i h =
-    numbers-front (flat_map f (take i xs)) (flat_map f (drop i xs)) (subst HaveNumbers (ap (flat_map f) (sym (take-append-drop i xs)) ∙ flat_map-append f (take i xs) (drop i xs)) h)

@@ -1,5 +1,5 @@
 -- Lists of a run behind a change.
-use Rattle.std.proofs.Common.{◌≡◌, ◌≢◌, ℕ, zero, suc, ◌<◌, ◌≤◌, ◌==◌, ◌&&◌, true, false, List, [], ◌∷◌, Option, Some, None, Result, Ok, Err, OnErr, length, slice_get, slice_set, option_map, get_or, refl, sym, ap, subst, ◌∙◌, inl, inr, arith}
+use Rattle.std.proofs.Common.{◌≡◌, ◌≢◌, ℕ, zero, suc, ◌<◌, ◌≤◌, ◌==◌, ◌&&◌, true, false, List, [], ◌∷◌, Option, Some, None, Result, Ok, Err, length, slice_get, slice_set, option_map, get_or, refl, sym, ap, subst, ◌∙◌, inl, inr, arith}
 use Rattle.std.specs.Prelude.{All, IsErr, IsSomeAnd, find, nat_le}
 use Rattle.std.proofs.lemmas.Bool.{cases_Bool, eq-eqb, eqb-true, false≢true}
 use Rattle.std.proofs.lemmas.Bool.Decides.{nat_tests}
@@ -24,10 +24,6 @@ use Rattle.rmt_update.specs.Stands.{AreHeld, Stands, StandsFor}
 use Rattle.rmt_update.proofs.FilterLaws.{list_of-past}
 use Rattle.rmt_update.proofs.KeyLaws.{first_keyed, some_keyed}
 use Rattle.rmt_bits.proofs.ListLaws.{slice_get-set_other, find-passes}
-
-pub on_err : {A E : Type 0} (r : Result A E) (P : Type 0) → P → OnErr r P
-on_err (Ok x) P p = tt
-on_err (Err x) P p = p
 
 -- ---- what is held
 

@@ -1,5 +1,5 @@
 -- The entries behind a commit by their numbers, a map for each node.
-use Rattle.std.specs.Prelude.{◌≡◌, ◌<◌, ℕ, List, ◌++◌, not, ◌==◌, Some, filter, slice_get}
+use Rattle.std.specs.Prelude.{◌≡◌, ℕ, List, ◌++◌, not, ◌==◌, Some, filter, slice_get}
 use Rattle.std.specs.BTreeMap.{BTreeMap}
 use Rattle.rmt_ast.specs.declared.entry.Entry.{Entry}
 use Rattle.rmt_ast.specs.Changes.{list_of}

@@ -14,6 +14,7 @@ pub mod Following
 pub mod Holding
 pub mod IndexCells
 pub mod Kept
+pub mod KeyNumbers
 pub mod Listed
 pub mod Loads
 pub mod Moved

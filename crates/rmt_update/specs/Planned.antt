@@ -1,5 +1,5 @@
 -- What changes a book takes, and what it plans for them.
-use Rattle.std.specs.Prelude.{◌≡◌, ◌≢◌, ◌<◌, ℕ, List, [], ◌++◌, not, ◌==◌, Option, Some, None, All, AllPairs, IsTrue, Contains, filter, length, map}
+use Rattle.std.specs.Prelude.{◌≡◌, ◌≢◌, ◌<◌, ℕ, List, ◌++◌, not, ◌==◌, Some, None, All, AllPairs, IsTrue, filter, length, map}
 use Rattle.std.specs.List.{enumerate_from, flat_map}
 use Rattle.rmt_ast.specs.Answers.{entry_numbers}
 use Rattle.rmt_ast.specs.NameRules.{AreEntriesOf}

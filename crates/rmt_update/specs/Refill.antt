@@ -1,5 +1,5 @@
 -- The parts of a table with new cells: each entry stands in the cell of its spot, and no other one does.
-use Rattle.std.specs.Prelude.{◌≡◌, ◌<◌, ◌≤◌, ℕ, ◌+◌, ◌==◌, true, List, [], if◌then◌else◌, Some, All, IsSome, length, slice_get, sum, unwrap_or}
+use Rattle.std.specs.Prelude.{◌≡◌, ◌<◌, ◌≤◌, ℕ, ◌==◌, true, List, [], if◌then◌else◌, Some, All, IsSome, length, slice_get, sum, unwrap_or}
 use Rattle.std.specs.List.{AllZip}
 use Rattle.std.specs.BTreeMap.{IsOrdered, get}
 use Rattle.std.specs.Ordering.{nat_cmp}

@@ -1,35 +1,35 @@
 //! What a table holds, found by keys.
 
-ghost use Rattle.std.specs.Prelude.{◌≡◌, ◌<◌, ◌+◌, ◌&&◌, ◌++◌, ◌∷◌, [], IsTrue, IfNone, IfOk, OnOk, OnErr, List, Vec as Words, bytes_eq, drop, if◌then◌else◌, length, slice_get};
-ghost use Rattle.std.specs.Global.{Global as Memory};
+ghost use Rattle.std.specs.Prelude.{◌≡◌, ◌<◌, ◌&&◌, ◌++◌, ◌∷◌, [], IsTrue, IfNone, IfOk, OnOk, OnErr, List, slice_get};
 ghost use Rattle.rmt_ast.specs.Changes.{EntryKey, without};
 ghost use Rattle.rmt_ast.specs.declared.entry.Entry.{Entry};
-ghost use Rattle.rmt_update.specs.Holding.{Holds, keyed_numbers, numbers_at, spelled};
+ghost use Rattle.rmt_update.specs.Holding.{Holds, keyed_numbers, spelled};
 ghost use Rattle.rmt_entries.specs.Entries.{has_keys_once};
 ghost use Rattle.rmt_update.specs.Running.{holds, key_of_entry, refusal_of};
 
+use crate::key_numbers::KeyNumbers;
 use rmt_ast::program::{Kind, Test};
 use std::alloc::{AllocError, Global};
-use std::collections::{BTreeMap, VecDeque};
 
 /// The entries of a table by their keys.
 #[derive(Drop)]
 pub struct Held {
-    /// The numbers of the entries with a key, by rising number. A key that has none any more may stay.
-    pub numbers: BTreeMap<Vec<u128>, VecDeque<u32>>,
+    /// The numbers of the entries with a key, by rising number.
+    pub numbers: KeyNumbers,
     /// How many entries there are.
     pub count: u32,
 }
 
 impl Held {
-    /// No entry.
-    pub fn new(alloc: Global) -> Held
-        ensures { Holds result [] }
+    /// No entry, with places for so many keys. The only fault is want of memory.
+    pub fn new(alloc: Global, places: usize) -> Result<Held, AllocError>
+        requires { 0 < places }
+        ensures { IfOk result (λ held. Holds held []) }
     {
-        Held {
-            numbers: BTreeMap::new(alloc),
+        Ok(Held {
+            numbers: KeyNumbers::new(alloc, places)?,
             count: 0,
-        }
+        })
     }
 
     /// The least number of an entry with a key.
@@ -37,7 +37,7 @@ impl Held {
         ensures { (es : List Entry) (k : EntryKey) → Holds self.now es → key.now.items ≡ spelled k →
             result ≡ slice_get (keyed_numbers k es) 0 }
     {
-        first_number(&self.numbers, key)
+        self.numbers.first(key)
     }
 
     /// Adds the number of an entry that stands behind the others. The only fault is want of memory.
@@ -47,7 +47,7 @@ impl Held {
             e.number ≡ number → Holds self.new (es ++ e ∷ [])) }
         ensures kept { OnErr result ((es : List Entry) → Holds self.old es → Holds self.new es) }
     {
-        push_number(alloc, &mut self.numbers, key, number)?;
+        self.numbers.push(alloc, key, number)?;
         self.count += 1;
         Ok(())
     }
@@ -58,7 +58,7 @@ impl Held {
         ensures { (es : List Entry) (k : EntryKey) → Holds self.old es → key.now.items ≡ spelled k → IsTrue (holds k es) →
             Holds self.new (without k es) }
     {
-        pop_number(&mut self.numbers, key);
+        self.numbers.pop(key);
         self.count -= 1;
     }
 }
@@ -114,52 +114,11 @@ fn has_keys_once(kind: Kind) -> bool
     }
 }
 
-/// The first number at a key.
-fn first_number(numbers: &BTreeMap<Vec<u128>, VecDeque<u32>>, key: &Vec<u128>) -> Option<u32>
-    ensures { result ≡ slice_get (numbers_at numbers.now key.now) 0 }
-{
-    match numbers.get(key) {
-        Some(queue) => queue.front().copied(),
-        None => None,
-    }
-}
-
-/// Adds a number at the end of those at a key. The only fault is want of memory.
-fn push_number(
-    alloc: Global,
-    numbers: &mut BTreeMap<Vec<u128>, VecDeque<u32>>,
-    key: Vec<u128>,
-    number: u32,
-) -> Result<(), AllocError>
-    ensures pushed { OnOk result ((q : Words _ Memory) → numbers_at numbers.new q ≡
-        numbers_at numbers.old q ++ (if bytes_eq key.items q.items then number ∷ [] else [])) }
-    ensures kept { OnErr result ((q : Words _ Memory) → numbers_at numbers.new q ≡ numbers_at numbers.old q) }
-{
-    if let Some(queue) = numbers.get_mut(&key) {
-        queue.push_back(number)?;
-        return Ok(());
-    }
-    let mut queue = VecDeque::new(alloc);
-    queue.push_back(number)?;
-    numbers.insert(key, queue)?;
-    Ok(())
-}
-
-/// Takes away the first number at a key, if there is one.
-fn pop_number(numbers: &mut BTreeMap<Vec<u128>, VecDeque<u32>>, key: &Vec<u128>)
-    ensures { (q : Words _ Memory) → numbers_at numbers.new q ≡
-        (if bytes_eq key.now.items q.items then drop 1 (numbers_at numbers.old q) else numbers_at numbers.old q) }
-{
-    if let Some(queue) = numbers.get_mut(key) {
-        queue.pop_front();
-    }
-}
-
 /// A key as numbers, in which no two keys are alike. The only fault is want of memory.
 pub fn spelled(alloc: Global, tests: &[Test], rank: u32) -> Result<Vec<u128>, AllocError>
     ensures { IfOk result (λ key. key.items ≡ spelled (record { tests = tests.now; rank = rank })) }
 {
-    let mut key = Vec::new(alloc);
+    let mut key = Vec::with_capacity(alloc, tests.len().saturating_mul(2).saturating_add(1))?;
     key.push(u128::from(rank))?;
     for test in tests {
         key.push(test.value)?;

@@ -4,6 +4,7 @@
 pub mod book;
 pub mod fault;
 pub mod held;
+mod key_numbers;
 pub mod lists;
 mod reading;
 mod settle;

@@ -42,7 +42,7 @@ fn held_in(alloc: Global, entries: &[Entry]) -> Result<Held, AllocError>
     requires { length entries.now ≤ 1048576 }
     ensures { IfOk result (λ held. Holds held entries.now) }
 {
-    let mut held = Held::new(alloc);
+    let mut held = Held::new(alloc, 4 * entries.len() + 1)?;
     for entry in entries {
         let key = spelled(alloc, entry.tests.as_slice(), entry.rank)?;
         held.push(alloc, key, entry.number)?;

@@ -21,11 +21,9 @@ use crate::running::wait::wait;
 use rmt_chip::chip::Chip;
 use rmt_config::cell_write::CellWrite;
 use rmt_io::sink::Sink;
-use std::alloc::Global;
 
 /// The cycles of a commit: it waits, changes cells, and makes the next version the current one.
 pub fn change_cells<O: Sink>(
-    alloc: Global,
     chip: &mut Chip,
     run: &mut Run,
     moved: bool,
@@ -64,20 +62,19 @@ pub fn change_cells<O: Sink>(
     let Ok(()) = chip.reserve(count) else {
         return Err(RunFault::NoMemory);
     };
-    match wait(alloc, chip, run, moved, out) {
+    match wait(chip, run, moved, out) {
         Ok(()) => {}
         Err(fault) => return Err(fault),
     }
-    match write_cells(alloc, chip, run, writes, out) {
+    match write_cells(chip, run, writes, out) {
         Ok(()) => {}
         Err(fault) => return Err(fault),
     }
-    turn(alloc, chip, run, Cycle::Turns(seed), out)
+    turn(chip, run, Cycle::Turns(seed), out)
 }
 
 /// Changes cells, one a cycle.
 fn write_cells<O: Sink>(
-    alloc: Global,
     chip: &mut Chip,
     run: &mut Run,
     writes: &[CellWrite],
@@ -107,7 +104,7 @@ fn write_cells<O: Sink>(
     ensures only_printed { OnlyPrinted (O.state out.old) (O.state out.new) }
 {
     for write in writes {
-        match turn(alloc, chip, run, Cycle::Changes(write), out) {
+        match turn(chip, run, Cycle::Changes(write), out) {
             Ok(()) => {}
             Err(fault) => return Err(fault),
         }

@@ -53,7 +53,6 @@ pub fn commit<O: Sink>(
 {
     match plan(alloc, commits) {
         Ok(plan) => match change_cells(
-            alloc,
             chip,
             run,
             plan.moved,

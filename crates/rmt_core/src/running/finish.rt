@@ -60,7 +60,7 @@ pub fn finish<O: Sink>(
         PrintingFailed (O.state out.old) (O.state out.new) }
     ensures only_printed { OnlyPrinted (O.state out.old) (O.state out.new) }
 {
-    match run_out(alloc, chip, run, bad, out) {
+    match run_out(chip, run, bad, out) {
         Ok(()) => {}
         Err(fault) => return fault_status(fault),
     }
@@ -72,7 +72,6 @@ pub fn finish<O: Sink>(
 
 /// Clocks the chip to the end of the run.
 fn run_out<O: Sink>(
-    alloc: Global,
     chip: &mut Chip,
     run: &mut Run,
     bad: Option<Bad>,
@@ -102,7 +101,7 @@ fn run_out<O: Sink>(
     if !runs_on(run.watch, bad) {
         return Ok(());
     }
-    wait(alloc, chip, run, true, out)
+    wait(chip, run, true, out)
 }
 
 /// Whether a chip runs on behind its last line. Where only vectors are printed a bad line ends the run.
@@ -130,7 +129,7 @@ fn last_text(alloc: Global, chip: &Chip, run: &Run, bad: Option<Bad>) -> Result<
         },
         Some(bad) => {
             let line = bad_text(alloc, bad)?;
-            Vec::from_slice(alloc, line.as_bytes())
+            Ok(line.into_bytes())
         }
     }
 }

@@ -61,13 +61,12 @@ pub fn take_line<O: Sink>(
         LineKind::Addition => take_change(alloc, commits, line),
         LineKind::Removal => take_change(alloc, commits, line),
         LineKind::Commit => take_commit(alloc, chip, commits, run, out),
-        LineKind::Packet => take_packet(alloc, chip, run, line, frame, out),
+        LineKind::Packet => take_packet(chip, run, line, frame, out),
     }
 }
 
 /// Reads a packet, and enters it; or answers the code of its line.
 fn take_packet<O: Sink>(
-    alloc: Global,
     chip: &mut Chip,
     run: &mut Run,
     line: &[u8],
@@ -106,7 +105,7 @@ fn take_packet<O: Sink>(
         port,
         bytes: frame.as_slice(),
     };
-    match turn(alloc, chip, run, Cycle::Enters(entering), out) {
+    match turn(chip, run, Cycle::Enters(entering), out) {
         Ok(()) => Ok(None),
         Err(fault) => Err(fault),
     }

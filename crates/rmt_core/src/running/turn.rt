@@ -1,20 +1,19 @@
 //! One cycle of a run.
 
-ghost use Rattle.std.specs.Prelude.{◌≡◌, ◌<◌, ◌≤◌, ◌⊎◌, ◌^◌, ◌+◌, ◌++◌, ◌∷◌, [], ℕ, List, length, IsErrOf, IfErr, OnOk};
+ghost use Rattle.std.specs.Prelude.{◌≡◌, ◌<◌, ◌≤◌, ◌⊎◌, ◌^◌, ◌+◌, ◌++◌, ◌∷◌, [], List, length, IsErrOf, IfErr, OnOk};
 ghost use Rattle.rmt_chip.specs.Leaving.{AnswersIf};
 ghost use Rattle.rmt_chip.specs.Stands.{Stands, spare_of};
 ghost use Rattle.rmt_config.specs.declared.config.Config.{Config};
-ghost use Rattle.rmt_config.specs.ChipRun.{latency_of};
 ghost use Rattle.rmt_config.specs.RunInputs.{Input, answer_in};
 ghost use Rattle.rmt_io.specs.Outside.{SinkState, PrintingFailed, OnlyPrinted};
 ghost use Rattle.rmt_core.specs.declared.watch.Watch.{Watch};
-ghost use Rattle.rmt_core.specs.ChipText.{flying_below, lines_of};
+ghost use Rattle.rmt_core.specs.ChipText.{lines_of};
 ghost use Rattle.rmt_core.specs.RunEnd.{Cut};
 ghost use Rattle.rmt_core.specs.Running.{Goes, MayTurn, input_for, line_if, spent_by};
 
 use crate::run_end::RunFault;
 use crate::running::state::Run;
-use crate::vectors::vectors_text;
+use crate::vectors::add_vectors;
 use crate::watch::Watch;
 use rmt_bits::answer::Verdict;
 use rmt_chip::chip::Chip;
@@ -23,7 +22,7 @@ use rmt_chip::out::Out;
 use rmt_config::cell_write::CellWrite;
 use rmt_io::sink::Sink;
 use rmt_packets::answer_line::write_line;
-use std::alloc::{AllocError, Global};
+use std::alloc::AllocError;
 
 /// What a cycle begins with: nothing, a packet, a changed cell, or a new version with a seed.
 #[derive(Clone, Copy)]
@@ -36,7 +35,6 @@ pub enum Cycle<'a> {
 
 /// One cycle, and the lines that are to be written.
 pub fn turn<O: Sink>(
-    alloc: Global,
     chip: &mut Chip,
     run: &mut Run,
     input: Cycle<'_>,
@@ -61,7 +59,7 @@ pub fn turn<O: Sink>(
         PrintingFailed (O.state out.old) (O.state out.new) }
     ensures only_printed { OnlyPrinted (O.state out.old) (O.state out.new) }
 {
-    let Ok(()) = run_cycle(alloc, chip, run, input) else {
+    let Ok(()) = run_cycle(chip, run, input) else {
         return Err(RunFault::NoMemory);
     };
     match run.waiting.write_many(out) {
@@ -71,12 +69,7 @@ pub fn turn<O: Sink>(
 }
 
 /// One cycle of the chip, and what it prints.
-fn run_cycle(
-    alloc: Global,
-    chip: &mut Chip,
-    run: &mut Run,
-    input: Cycle<'_>,
-) -> Result<(), AllocError>
+fn run_cycle(chip: &mut Chip, run: &mut Run, input: Cycle<'_>) -> Result<(), AllocError>
     requires may { MayTurn chip.old input }
     requires cycles { run.old.cycles < 2 ^ 127 }
     requires answered { run.old.answered < 2 ^ 63 }
@@ -97,7 +90,7 @@ fn run_cycle(
         Watch::Answers => add_answer(number, left, run.leaving.bytes(), lines),
         Watch::Vectors { cycle } => {
             if run.cycles == u128::from(cycle) + 1 {
-                add_vectors(alloc, chip, lines)
+                add_vectors(chip, lines)
             } else {
                 Ok(())
             }
@@ -139,14 +132,4 @@ fn add_answer(
         Ok(()) => Ok(()),
         Err(_) => Err(AllocError),
     }
-}
-
-/// Appends the lines of the vectors in flight.
-fn add_vectors(alloc: Global, chip: &Chip, lines: &mut Vec<u8>) -> Result<(), AllocError>
-    ensures { OnOk result
-        ((c : Config) (made : List Input) → Stands c made chip.now →
-        lines.new.items ≡ lines.old.items ++ flying_below c made (latency_of c.stages + 1)) }
-{
-    let vectors = vectors_text(alloc, chip)?;
-    lines.extend_from_slice(vectors.as_slice())
 }

@@ -18,11 +18,9 @@ use crate::running::state::Run;
 use crate::running::turn::{Cycle, turn};
 use rmt_chip::chip::Chip;
 use rmt_io::sink::Sink;
-use std::alloc::Global;
 
 /// Clocks the chip until no packet of an older version is in flight, and where `moved` until none is.
 pub fn wait<O: Sink>(
-    alloc: Global,
     chip: &mut Chip,
     run: &mut Run,
     moved: bool,
@@ -56,7 +54,7 @@ pub fn wait<O: Sink>(
         if !is_waiting(chip, moved) {
             return Ok(());
         }
-        match turn(alloc, chip, run, Cycle::Idle, out) {
+        match turn(chip, run, Cycle::Idle, out) {
             Ok(()) => {}
             Err(fault) => return Err(fault),
         }

@@ -1,7 +1,7 @@
 //! The entry lists behind a commit.
 
 ghost use Rattle.std.specs.Prelude.{◌≡◌, ◌<◌, ℕ, All, IfOk, List, OnOk, length, map};
-ghost use Rattle.std.specs.BTreeSet.{BTreeSet as Numbers, contains};
+ghost use Rattle.std.specs.BTreeSet.{contains};
 ghost use Rattle.std.specs.List.{range_with_len};
 ghost use Rattle.std.specs.Ordering.{nat_cmp};
 ghost use Rattle.rmt_ast.specs.declared.entry.Entry.{Entry as EntryOf};

@@ -1,6 +1,6 @@
 //! What the cells of the parts of a table hold.
 
-ghost use Rattle.std.specs.Prelude.{◌≡◌, ◌<◌, IfOk};
+ghost use Rattle.std.specs.Prelude.{◌<◌, IfOk};
 ghost use Rattle.rmt_config.specs.Cells.{cells_in};
 ghost use Rattle.rmt_config.specs.LaneForm.{bits_of_lanes};
 ghost use Rattle.rmt_config.specs.MemoryRules.{MemoryIsFormed};

@@ -4,12 +4,10 @@ ghost use Rattle.std.specs.Prelude.{◌≡◌, ◌==◌, ◌++◌, All, IfOk, Is
 ghost use Rattle.rmt_ast.specs.NameRules.{table_is_formed};
 ghost use Rattle.rmt_ast.specs.declared.entry.Entry.{Entry as EntryOf};
 ghost use Rattle.rmt_config.specs.NamesForm.{by_number};
-ghost use Rattle.rmt_update.specs.Numbered.{IsOrder};
-ghost use Rattle.rmt_update.specs.Seen.{HaveNumbers, IsReadable, entries_at as entries_at_of, entries_by_part, entries_in, is_seen as is_seen_of};
+ghost use Rattle.rmt_update.specs.Seen.{IsReadable, entries_at as entries_at_of, entries_by_part, entries_in, is_seen as is_seen_of};
 ghost use Rattle.rmt_update.specs.declared.book.table.TableCells.{TableCells as TableOf};
 
 use crate::book::kept::Kept;
-use crate::book::ordered::{Ordered, in_order, put};
 use crate::book::table::{PartCells, TableCells};
 use crate::book::told::entry_told;
 use rmt_ast::entry::Entry;
@@ -31,15 +29,14 @@ fn put_entries(
     odd: bool,
     table: &TableName,
     part: &PartCells,
-    ordered: &mut Ordered,
+    entries: &mut Vec<Entry>,
 ) -> Result<(), AllocError>
     requires { IsTrue (table_is_formed table.now) }
-    ensures { OnOk result ((es : List EntryOf) → IsOrder es ordered.old → HaveNumbers (es ++ entries_in odd table.now part.now) →
-        IsOrder (es ++ entries_in odd table.now part.now) ordered.new) }
+    ensures { OnOk result (entries.new.items ≡ entries.old.items ++ entries_in odd table.now part.now) }
 {
     for kept in part.cells.values() {
         if is_seen(odd, kept) {
-            put(ordered, entry_told(alloc, table, part.first, kept)?)?;
+            entries.push(entry_told(alloc, table, part.first, kept)?)?;
         }
     }
     Ok(())
@@ -50,11 +47,12 @@ fn entries_of(alloc: Global, odd: bool, table: &TableCells) -> Result<Sequence<E
     requires { IsReadable odd table.now }
     ensures { IfOk result (λ entries. entries ≡ by_number (entries_by_part odd table.now)) }
 {
-    let mut ordered = Ordered::new(alloc);
+    let mut entries = Vec::new(alloc);
     for part in table.parts.as_slice() {
-        put_entries(alloc, odd, &table.name, part, &mut ordered)?;
+        put_entries(alloc, odd, &table.name, part, &mut entries)?;
     }
-    in_order(alloc, ordered)
+    entries.sort_unstable_by_key(|entry| entry.number);
+    Ok(Sequence::from_vec(entries))
 }
 
 /// The table of a node.

@@ -68,7 +68,7 @@ fn tests_of(
     ensures { IfOk result (λ tests. tests ≡ tests_of_key widths.now (number_of key.now)
         (if whole then 2 ^ sum widths.now - 1 else number_of mask.now)) }
 {
-    let mut tests = Sequence::new(alloc);
+    let mut tests = Sequence::from_vec(Vec::with_capacity(alloc, widths.len())?);
     let mut low = sum_of(widths);
     for width in widths {
         low -= *width as u128;
@@ -86,7 +86,7 @@ fn args_of(alloc: Global, widths: &[u8], held: &[u8]) -> Result<Sequence<u128>, 
     requires widths { All (λ w. w ≤ 128) widths.now }
     ensures { IfOk result (λ args. args ≡ args_of_data widths.now (number_of held.now)) }
 {
-    let mut args = Sequence::new(alloc);
+    let mut args = Sequence::from_vec(Vec::with_capacity(alloc, widths.len())?);
     let mut low: u128 = 0;
     for width in widths {
         args.push(bits_from(held, low, *width))?;

@@ -1,6 +1,6 @@
 //! The keys of entries of exact parts, read from rows of memory as bytes.
 
-ghost use Rattle.std.specs.Prelude.{◌≡◌, ◌+◌, ◌*◌, ◌/◌, ◌%◌, ◌^◌, ◌<◌, ◌≤◌, ◌++◌, length, OnOk};
+ghost use Rattle.std.specs.Prelude.{◌≡◌, ◌+◌, ◌-◌, ◌*◌, ◌/◌, ◌%◌, ◌^◌, ◌<◌, ◌≤◌, ◌++◌, length, drop, OnOk};
 ghost use Rattle.rmt_bits.specs.Bits.{slice as slice_of, bytes_of};
 ghost use Rattle.rmt_config.specs.Cells.{sram_row, unit_row, blocks_at};
 ghost use Rattle.rmt_config.specs.Layouts.{IsInSram, quantum_of, local_of, unit_of, row_of, position_of, entry_in};
@@ -52,7 +52,14 @@ pub fn spot_of(layout: &Layout, cell: u64) -> Spot
 
 /// The `len` bits from one on, 1 to 64, of a row of blocks side by side. The rows are looked for first near the places
 /// where the last ones were found.
-fn bits_at(rows: &[SramRow], blocks: &[u8], row: u64, bit: u64, len: u64, near: &mut Near) -> u64
+pub fn bits_at(
+    rows: &[SramRow],
+    blocks: &[u8],
+    row: u64,
+    bit: u64,
+    len: u64,
+    near: &mut Near,
+) -> u64
     requires rows { SramRows rows.now }
     requires row { row < 1024 }
     requires some { 0 < len }
@@ -70,6 +77,15 @@ fn bits_at(rows: &[SramRow], blocks: &[u8], row: u64, bit: u64, len: u64, near: 
     let second = row_bits(rows, blocks[block + 1], row, &mut near.second);
     let high = slice(second, 0, (len - here) as u8) as u64;
     (high << here) + slice(first, low as u8, here as u8) as u64
+}
+
+/// The last of the eight bytes of a number.
+pub fn lowest(bytes: &[u8], count: u64) -> &[u8]
+    requires all { length bytes.now ≡ 8 }
+    requires few { count ≤ 8 }
+    ensures { result.now ≡ drop (8 - count) bytes.now }
+{
+    &bytes[8 - count as usize..]
 }
 
 /// Adds the lowest bytes of a number, the highest first.

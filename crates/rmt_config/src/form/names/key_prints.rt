@@ -1,8 +1,9 @@
 //! That no key of a list stands twice: by prints of the keys, and key by key only where two prints are the same.
 
-ghost use Rattle.std.specs.Prelude.{◌≡◌, ◌+◌, ◌*◌, ◌≤◌, ◌++◌, ℕ, List, [], IfOk, OnOk, length, true};
+ghost use Rattle.std.specs.Prelude.{◌≡◌, ◌+◌, ◌*◌, ◌<◌, ◌≤◌, ◌++◌, ℕ, List, [], IfOk, OnOk, length, true};
+ghost use Rattle.rmt_bits.specs.Bits.{number_of};
 ghost use Rattle.rmt_config.specs.Cells.{blocks_at};
-ghost use Rattle.rmt_config.specs.KeyPrints.{kept_of, kept_of_keys};
+ghost use Rattle.rmt_config.specs.KeyPrints.{kept_of, kept_of_keys, spread as spread_of};
 ghost use Rattle.rmt_config.specs.KeysSeen.{news};
 ghost use Rattle.rmt_config.specs.Order.{are_new, rises_from};
 
@@ -44,8 +45,37 @@ fn put_bytes(into: &mut Vec<u64>, bytes: &[u8]) -> Result<(), AllocError>
     Ok(())
 }
 
-/// Adds what is kept of a key of these bytes: all of them, or their print.
-pub fn put_kept(into: &mut Vec<u64>, whole: bool, bytes: &[u8]) -> Result<(), AllocError>
+/// The print of a number: the halves of its product with a constant, one on the other. So the low bits of prints are
+/// spread evenly, whether numbers differ in their low bits or in their high ones.
+fn spread(number: u64) -> u64
+    ensures { result ≡ spread_of number }
+{
+    let product = u128::from(number) * 11400714819323198485;
+    (product % (1 << 64)) as u64 ^ (product >> 64) as u64
+}
+
+/// Adds what is kept of a key of these bytes, at most 8, which are those of this number: all of them, or their print.
+pub fn put_short(
+    into: &mut Vec<u64>,
+    whole: bool,
+    bytes: &[u8],
+    number: u64,
+) -> Result<(), AllocError>
+    requires few { length bytes.now ≤ 8 }
+    requires same { number_of bytes.now ≡ number }
+    ensures { OnOk result (into.new.items ≡ into.old.items ++ kept_of whole bytes.now) }
+{
+    if whole {
+        put_bytes(into, bytes)?;
+    } else {
+        into.push(spread(number))?;
+    }
+    Ok(())
+}
+
+/// Adds what is kept of a key of these bytes, more than 8: all of them, or their print.
+pub fn put_long(into: &mut Vec<u64>, whole: bool, bytes: &[u8]) -> Result<(), AllocError>
+    requires { 8 < length bytes.now }
     ensures { OnOk result (into.new.items ≡ into.old.items ++ kept_of whole bytes.now) }
 {
     if whole {

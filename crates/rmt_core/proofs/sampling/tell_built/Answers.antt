@@ -2,7 +2,7 @@ use Rattle.std.proofs.Common.{ap, ◌∙◌}
 use Rattle.rmt_packets.specs.PacketText.{packets_of}
 use Rattle.rmt_core.proofs.MakeLaws.{both_ok}
 use Rattle.rmt_core.proofs.SampleLaws.{chip_line_of}
-use Rattle.rmt_core.proofs.SampleTexts.{packets_good}
+use Rattle.rmt_sample.proofs.TextLaws.{packets_good}
 use Rattle.rmt_core.proofs.sampling.tell_built.Goals as goal
 
 pub run_line-requires-clause-good : goal.run_line-requires-clause-good

@@ -1,4 +1,4 @@
-use Rattle.std.proofs.Common.{◌≡◌, ℕ, ◌+◌, ◌<◌, ◌≤◌, Bool, true, false, List, All, length, vec_len, get_or, subst, sym, ap, ◌∙◌, refl, arith}
+use Rattle.std.proofs.Common.{◌≡◌, ℕ, ◌+◌, ◌-◌, ◌<◌, ◌≤◌, Contains, Bool, true, false, List, All, length, vec_len, get_or, subst, sym, ap, ◌∙◌, refl, arith}
 use Rattle.std.proofs.lemmas.List.{length-replicate}
 use Rattle.std.proofs.lemmas.Bool.{false≢true}
 use Rattle.rmt_cuckoo.specs.declared.layout.Ways.{Ways}
@@ -33,6 +33,11 @@ place-requires-clause-loaded c =
     let count : vec_len c.loop.loading.cells ≡ c.loop.counter = omega (arith, c.loop.invariant.loaded.count) in
     subst (λ (n : ℕ). IsLoaded (choices_at c.in_ok-choices.choices) n c.loop.loading) (sym count) c.loop.invariant.loaded
 
+pub count_taken-requires-clause-few : goal.count_taken-requires-clause-few
+count_taken-requires-clause-few c =
+    let count : c.cell_count-count.result ≡ cells_of c.args.layout.now = c.cell_count-count.ensures ∙ ap cells_of c.as_slice.ensures in
+    omega (arith, c.in_ok-place.ensures.holders, c.loop.invariant.holders, count, c.requires.few_cells)
+
 pub loop-init : goal.loop-init
 loop-init c = record {
   loaded = none_loaded (choices_at c.in_ok-choices.choices) c.cell_count-count.result c.in_ok-loading.loading c.in_ok-loading.ensures.holders c.in_ok-loading.ensures.cells;
@@ -46,21 +51,45 @@ loop-init c = record {
       omega (arith, size);
   steps = c.in_ok-search.ensures.steps;
   marks = none_seen c.cell_count-count.result c.in_ok-search.search.seen.items c.in_ok-search.ensures.seen;
+  taken = λ x lt. absurd (omega (arith, lt, c.in_ok-loading.ensures.taken));
 }
 
 searched_true : (choices : ℕ → List ℕ) (n : ℕ) (l : Loading) (s : Search) (found : Bool) → found ≡ true → Searched choices n l s found → IsLoaded choices (n + 1) l
 searched_true choices n l s found is h = subst (Searched choices n l s) is h
 
+-- a loading with the same holders and cells
+loaded_same : (choices : ℕ → List ℕ) (n : ℕ) (l m : Loading) → m.holders.items ≡ l.holders.items → m.cells.items ≡ l.cells.items
+    → IsLoaded choices n l → IsLoaded choices n m
+loaded_same choices n l m holders cells old = record {
+  count = ap length cells ∙ old.count;
+  stands = λ k lt. subst (λ (cs : List ℕ). Contains (choices k) (get_or cs k 0)) (sym cells) (old.stands k lt);
+  held = λ k lt.
+      subst (λ (hs : List ℕ). get_or hs (get_or m.cells.items k 0) 0 ≡ k + 1) (sym holders)
+      (subst (λ (cs : List ℕ). get_or l.holders.items (get_or cs k 0) 0 ≡ k + 1) (sym cells) (old.held k lt));
+  known = λ x some.
+      subst (λ (hs : List ℕ). get_or hs x 0 ≤ n) (sym holders) (old.known x (subst (λ (hs : List ℕ). 0 < get_or hs x 0) holders some));
+  cell = λ x some.
+      subst (λ (hs : List ℕ). get_or m.cells.items (get_or hs x 0 - 1) 0 ≡ x) (sym holders)
+      (subst (λ (cs : List ℕ). get_or cs (get_or l.holders.items x 0 - 1) 0 ≡ x) (sym cells)
+      (old.cell x (subst (λ (hs : List ℕ). 0 < get_or hs x 0) holders some)));
+}
+
 pub loop-preserved : goal.loop-preserved
 loop-preserved c =
     let count : vec_len c.loop.loading.cells ≡ c.loop.counter = omega (arith, c.loop.invariant.loaded.count) in
     record {
-      loaded = subst (λ (n : ℕ). IsLoaded (choices_at c.in_ok-choices.choices) (n + 1) c.place.new.loading) count
-          (searched_true (choices_at c.in_ok-choices.choices) (vec_len c.loop.loading.cells) c.place.new.loading c.place.new.self c.in_ok-place.field-0 c.if-not-branch.false c.in_ok-place.ensures.searched);
-      holders = c.in_ok-place.ensures.holders ∙ c.loop.invariant.holders;
+      loaded = loaded_same (choices_at c.in_ok-choices.choices) (c.loop.counter + 1) c.place.new.loading c.count_taken.new.self
+          c.count_taken.ensures.holders c.count_taken.ensures.cells
+          (subst (λ (n : ℕ). IsLoaded (choices_at c.in_ok-choices.choices) (n + 1) c.place.new.loading) count
+          (searched_true (choices_at c.in_ok-choices.choices) (vec_len c.loop.loading.cells) c.place.new.loading c.place.new.self c.in_ok-place.field-0 c.if-not-branch.false c.in_ok-place.ensures.searched));
+      holders =
+          let same : vec_len c.count_taken.new.self.holders ≡ vec_len c.place.new.loading.holders =
+          let len = ap length c.count_taken.ensures.holders in omega (arith, len) in
+          same ∙ c.in_ok-place.ensures.holders ∙ c.loop.invariant.holders;
       seen = c.clear.ensures.size ∙ c.in_ok-place.ensures.seen ∙ c.loop.invariant.seen;
       steps = c.clear.ensures.steps;
       marks = c.clear.ensures.marks;
+      taken = c.count_taken.ensures.taken;
     }
 
 -- a search that ended without a free cell

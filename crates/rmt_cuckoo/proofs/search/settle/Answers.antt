@@ -3,9 +3,9 @@ use Rattle.std.proofs.lemmas.List.{length-set}
 use Rattle.std.proofs.lemmas.Result.{on_ok_weaker}
 use Rattle.rmt_cuckoo.specs.declared.search.Step.{Step}
 use Rattle.rmt_cuckoo.specs.declared.loading.Loading.{Loading}
-use Rattle.rmt_cuckoo.specs.Search.{IsTree, IsReady, cell_at, from_at, key_at}
+use Rattle.rmt_cuckoo.specs.Search.{AreTaken, IsTree, IsReady, cell_at, from_at, key_at}
 use Rattle.rmt_cuckoo.proofs.SearchLaws.{taken_within}
-use Rattle.rmt_cuckoo.proofs.MoveLaws.{after, after_left, moved, tree_left, added}
+use Rattle.rmt_cuckoo.proofs.MoveLaws.{AreTakenBut, after, after_left, moved, tree_left, added, hole_moves, hole_filled}
 use Rattle.rmt_cuckoo.proofs.search.settle.Goals as goal
 
 -- the key at a place behind the first stands in the cell of the step before
@@ -106,6 +106,14 @@ loop-place-preserved c =
           (l.invariant.ready choices ready) c.shift.ensures.holders c.shift.ensures.cells;
       size = ap length c.shift.ensures.holders ∙ length-set (set hs l.hole (get_or hs cell 0)) cell 0 ∙ length-set hs l.hole (get_or hs cell 0)
           ∙ l.invariant.size;
+      many = c.shift.ensures.taken ∙ l.invariant.many;
+      taken =
+          let some = c.requires.ready in
+          let r = l.invariant.ready some.0 some.1 in
+          let b = behind some.0 (vec_len c.args.loading.now.cells) l.loading c.args.steps.now l.hole l.place (omega arith) r in
+          subst (λ (m : ℕ). AreTakenBut c.shift.new.self.holders.items cell m) (sym c.shift.ensures.taken)
+          (subst (λ (xs : List ℕ). AreTakenBut xs cell l.loading.taken) (sym c.shift.ensures.holders)
+          (hole_moves hs cell l.hole l.loading.taken b.2 r.inside r.free l.invariant.taken));
     }
 
 both_ok : {T E A B C : Type 0} (r : Result T E) → OnOk r A → OnOk r B → (A → B → C) → OnOk r C
@@ -135,3 +143,13 @@ returns-clause-size c =
     ap length holders ∙ length-set l.loading.holders.items l.hole (vec_len l.loading.cells + 1) in
     omega (arith, size, l.invariant.size))
     c.add.ensures.holders
+
+pub returns-clause-taken : goal.returns-clause-taken
+returns-clause-taken c =
+    let l = c.loop-place in
+    let some = c.requires.ready in
+    both_ok c.add.result c.add.ensures.holders c.add.ensures.taken
+    (λ holders many.
+    subst (λ (m : ℕ). AreTaken c.add.new.self.holders.items m) (sym many)
+    (subst (λ (xs : List ℕ). AreTaken xs l.loading.taken) (sym holders)
+    (hole_filled l.loading.holders.items l.hole (vec_len l.loading.cells) l.loading.taken (l.invariant.ready some.0 some.1).inside l.invariant.taken)))

@@ -50,8 +50,8 @@ pub returns-in-Err-Code-clause-ok : goal.returns-in-Err-Code-clause-ok
 returns-in-Err-Code-clause-ok g c = λ w k said number before commits kind f.
     let text = c.args.line.now in
     let says = of_code (λ n. packet_of text ≡ Err n) c.in-Err-Code.field-0 c.in-Err-Code.code c.in-Err-Code.field-0-is c.in-Err-Code.ensures.code in
-    rw c.in-Err-Code.field-0-is (stops_by w k number text said c.in-Err-Code.code c.args.run.now c.args.chip.now commits before (g.O.Sink.state c.args.out.now) f
-    (of_packet k number text said kind ∙ ap (λ (o : Result Packet ℕ). with_packet number o said) says))
+    stops_by w k number text said c.in-Err-Code.code c.args.run.now c.args.chip.now commits before (g.O.Sink.state c.args.out.now) f
+    (of_packet k number text said kind ∙ ap (λ (o : Result Packet ℕ). with_packet number o said) says)
 
 pub returns-in-Err-Code-clause-few : goal.returns-in-Err-Code-clause-few
 returns-in-Err-Code-clause-few g c = λ lines few. few_still lines c.args.run.now c.args.chip.now few

@@ -3,7 +3,7 @@ use Rattle.rmt_cuckoo.specs.declared.search.Step.{Step}
 use Rattle.rmt_cuckoo.specs.declared.search.Search.{Search}
 use Rattle.rmt_cuckoo.specs.declared.loading.Loading.{Loading}
 use Rattle.rmt_cuckoo.specs.Choices.{choices_at}
-use Rattle.rmt_cuckoo.specs.Search.{IsLoaded, IsMarked, IsReady, IsTree, IsSearching, Looked, key_at}
+use Rattle.rmt_cuckoo.specs.Search.{AreTaken, IsLoaded, IsMarked, IsReady, IsTree, IsSearching, Looked, key_at}
 use Rattle.rmt_cuckoo.proofs.SearchLaws.{few_steps}
 use Rattle.rmt_cuckoo.proofs.search.Search.place.Goals as goal
 
@@ -39,6 +39,15 @@ settle-requires-clause-ready c =
       ready (choices_at c.args.choices.now) l.loading c.args.loading.now l.self c.look.new.self c.as_slice.result.now l.place c.in-Some.free c.in_ok-free.field-0
           l.invariant.loading c.requires.loaded l.invariant.searching (omega arith) c.in_ok-free.ensures c.in-Some.is c.as_slice.ensures.value,
     )
+
+pub look-requires-clause-taken : goal.look-requires-clause-taken
+look-requires-clause-taken c = subst (λ (m : Loading). AreTaken m.holders.items m.taken) (sym c.loop-place.invariant.loading) c.requires.taken
+
+pub settle-requires-clause-taken : goal.settle-requires-clause-taken
+settle-requires-clause-taken c = subst (λ (m : Loading). AreTaken m.holders.items m.taken) (sym c.loop-place.invariant.loading) c.requires.taken
+
+pub returns-clause-taken : goal.returns-clause-taken
+returns-clause-taken c = subst (λ (m : Loading). AreTaken m.holders.items m.taken) (sym c.loop-place.invariant.loading) c.requires.taken
 
 pub loop-place-init : goal.loop-place-init
 loop-place-init c =

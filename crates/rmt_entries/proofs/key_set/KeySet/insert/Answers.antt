@@ -1,32 +1,73 @@
-use Rattle.std.proofs.Common.{◌≡◌, ◌<◌, ◌∙◌, ◌∷◌, ◌++◌, cond, true, ℕ, List, length, ap, arith}
+use Rattle.std.proofs.Common.{◌≡◌, ◌∙◌, ◌-◌, cond, not, true, length, sym, ap, arith}
 use Rattle.std.specs.Str.{bytes_eq}
-use Rattle.rmt_entries.specs.KeySets.{KeySet, has, place_of, slot_of}
-use Rattle.rmt_entries.proofs.KeySetLaws.{crowd_holds, crowd_stands, put_seen, slot_at}
+use Rattle.rmt_entries.specs.KeySets.{KeySet, has, home, near, spot_of}
+use Rattle.rmt_entries.proofs.KeySetLaws.{crowd_holds, crowd_stands, free_place, home_room, present, present_kept, put_holds, put_stands, spot_seen, stands_more, with_list}
 use Rattle.rmt_entries.proofs.key_set.KeySet.insert.Goals as goal
 
-pub returns-then-slot-eq0-clause-updates : goal.returns-then-slot-eq0-clause-updates
-returns-then-slot-eq0-clause-updates c q =
+pub invariant_of-self : goal.invariant_of-self
+invariant_of-self c = rw c.in_err-put_list-in-Free.ensures.kept.1 (stands_more c.self.inside.slots.items c.self.inside.held.items c.in_err-put_list-in-Free.ensures.kept.0 c.self.inside.crowded c.self.invariant)
+
+pub index_mut-requires : goal.index_mut-requires
+index_mut-requires c =
     let slots = c.self.inside.slots.items in
+    let held = c.self.inside.held.items in
+    let key = c.args.key.items in
+    let own = spot_seen slots held key c.self.inside.crowded c.args.self.now c.as_slice.result.now c.spot_of.result c.self.view_is c.as_slice.ensures.value c.spot_of.ensures ∙ c.in-Free.is in
+    let free = free_place slots held near (home slots key) key c.in-Free.place own in
+    let room = home_room slots key c.self.invariant.some in
+    omega (arith, free.1, room, c.self.inside.slots.ok.0)
+
+pub invariant_of-self-in-Free-1 : goal.invariant_of-self-in-Free-1
+invariant_of-self-in-Free-1 c =
+    let slots = c.self.inside.slots.items in
+    let held = c.self.inside.held.items in
     let key = c.args.key in
-    let all : c.len.result ≡ length slots = c.len.ensures ∙ c.self.inside.slots.ok.0 in
-    let slot = slot_at slots key.items c.as_slice.result.now c.len.result c.place_of-place.result c.index-slot.result.now all c.as_slice.ensures.value c.place_of-place.ensures.place c.place_of-place.ensures.within c.index-slot.ensures in
-    let free : slot_of slots key.items ≡ 0 = omega (arith, slot, c.if-slot-eq0.true) in
-    let own : c.place_of-place.result ≡ place_of (length slots) key.items = c.place_of-place.ensures.place ∙ ap (place_of c.len.result) c.as_slice.ensures.value ∙ ap (λ (n : ℕ). place_of n key.items) all in
-    let within : c.place_of-place.result < length slots = omega (arith, c.place_of-place.ensures.within, all) in
-    let begin : c.len-begin.result ≡ length c.self.inside.held.items = c.len-begin.ensures ∙ c.self.inside.held.ok.0 in
-    let behind : c.put_list.new.held.items ≡ c.self.inside.held.items ++ length key.items ∷ key.items = c.in_ok-put_list.ensures.put ∙ ap (λ (ks : List ℕ). c.self.inside.held.items ++ length ks ∷ ks) c.as_slice-then-slot-eq0.ensures.value in
-    put_seen slots c.self.inside.held.items c.self.inside.crowded c.self.invariant key c.place_of-place.result c.len-begin.result c.put_list.new.held.items free own within begin behind q
+    let own = spot_seen slots held key.items c.self.inside.crowded c.args.self.now c.as_slice.result.now c.spot_of.result c.self.view_is c.as_slice.ensures.value c.spot_of.ensures ∙ c.in-Free.is in
+    let free = free_place slots held near (home slots key.items) key.items c.in-Free.place own in
+    let room = home_room slots key.items c.self.invariant.some in
+    let begin : c.len-begin.result ≡ length held = c.len-begin.ensures ∙ c.self.inside.held.ok.0 in
+    let behind : c.put_list.new.held.items ≡ with_list held key.items = c.in_ok-put_list-in-Free.ensures.put ∙ ap (with_list held) c.as_slice-in-Free.ensures.value in
+    rw (begin, behind) (put_stands slots held c.self.inside.crowded c.self.invariant key c.in-Free.place own free.0 (omega (arith, free.1, room)))
+
+pub invariant_of-self-in-Crowded : goal.invariant_of-self-in-Crowded
+invariant_of-self-in-Crowded c =
+    let slots = c.self.inside.slots.items in
+    let held = c.self.inside.held.items in
+    let own = spot_seen slots held c.args.key.items c.self.inside.crowded c.args.self.now c.as_slice.result.now c.spot_of.result c.self.view_is c.as_slice.ensures.value c.spot_of.ensures ∙ c.in-Crowded.is in
+    crowd_stands slots held c.self.inside.crowded c.self.invariant c.args.key c.insert.new.self c.in_ok-insert-in-Crowded.ensures.updates own
+
+pub returns-in_ok-put_list-in-Free-clause-updates :
+    goal.returns-in_ok-put_list-in-Free-clause-updates
+returns-in_ok-put_list-in-Free-clause-updates c q =
+    let slots = c.self.inside.slots.items in
+    let held = c.self.inside.held.items in
+    let key = c.args.key in
+    let own = spot_seen slots held key.items c.self.inside.crowded c.args.self.now c.as_slice.result.now c.spot_of.result c.self.view_is c.as_slice.ensures.value c.spot_of.ensures ∙ c.in-Free.is in
+    let free = free_place slots held near (home slots key.items) key.items c.in-Free.place own in
+    let room = home_room slots key.items c.self.invariant.some in
+    let begin : c.len-begin.result ≡ length held = c.len-begin.ensures ∙ c.self.inside.held.ok.0 in
+    let behind : c.put_list.new.held.items ≡ with_list held key.items = c.in_ok-put_list-in-Free.ensures.put ∙ ap (with_list held) c.as_slice-in-Free.ensures.value in
+    rw (begin, behind) (put_holds slots held c.self.inside.crowded c.self.invariant key c.in-Free.place own free.0 (omega (arith, free.1, room)) q)
     ∙ ap (λ (k : KeySet). cond (bytes_eq key.items q.items) true (has k q)) c.self.view_is
 
-pub invariant_of-self-2 : goal.invariant_of-self-2
-invariant_of-self-2 c =
+pub returns-in-Held-clause-added : goal.returns-in-Held-clause-added
+returns-in-Held-clause-added c =
     let slots = c.self.inside.slots.items in
-    let key = c.args.key in
-    let all : c.len.result ≡ length slots = c.len.ensures ∙ c.self.inside.slots.ok.0 in
-    let slot = slot_at slots key.items c.as_slice.result.now c.len.result c.place_of-place.result c.index-slot.result.now all c.as_slice.ensures.value c.place_of-place.ensures.place c.place_of-place.ensures.within c.index-slot.ensures in
-    crowd_stands slots c.self.inside.held.items c.self.inside.crowded c.self.invariant key c.insert.new.self c.in_ok-insert.ensures.updates (λ none. omega (arith, c.if-slot-eq0.false, slot, none))
+    let held = c.self.inside.held.items in
+    let own = spot_seen slots held c.args.key.items c.self.inside.crowded c.args.self.now c.as_slice.result.now c.spot_of.result c.self.view_is c.as_slice.ensures.value c.spot_of.ensures ∙ c.in-Held.is in
+    ap not (sym (present slots held c.self.inside.crowded c.self.invariant c.args.key own)) ∙ ap (λ (k : KeySet). not (has k c.args.key)) c.self.view_is
 
-pub returns-clause-updates : goal.returns-clause-updates
-returns-clause-updates c q =
-    crowd_holds c.self.inside.slots.items c.self.inside.held.items c.self.inside.crowded c.self.invariant c.args.key c.insert.new.self c.in_ok-insert.ensures.updates q
+pub returns-in-Held-clause-updates : goal.returns-in-Held-clause-updates
+returns-in-Held-clause-updates c q =
+    let slots = c.self.inside.slots.items in
+    let held = c.self.inside.held.items in
+    let own = spot_seen slots held c.args.key.items c.self.inside.crowded c.args.self.now c.as_slice.result.now c.spot_of.result c.self.view_is c.as_slice.ensures.value c.spot_of.ensures ∙ c.in-Held.is in
+    ap (λ (k : KeySet). has k q) (sym c.self.view_is)
+    ∙ present_kept slots held c.self.inside.crowded c.self.invariant c.args.key own q
+    ∙ ap (λ (k : KeySet). cond (bytes_eq c.args.key.items q.items) true (has k q)) c.self.view_is
+
+pub returns-in_ok-insert-in-Crowded-clause-updates :
+    goal.returns-in_ok-insert-in-Crowded-clause-updates
+returns-in_ok-insert-in-Crowded-clause-updates c q =
+    crowd_holds c.self.inside.slots.items c.self.inside.held.items c.self.inside.crowded c.self.invariant c.args.key c.insert.new.self c.in_ok-insert-in-Crowded.ensures.updates q
     ∙ ap (λ (k : KeySet). cond (bytes_eq c.args.key.items q.items) true (has k q)) c.self.view_is

@@ -1,4 +1,4 @@
-use Rattle.std.proofs.Common.{◌≡◌, ℕ, ◌<◌, ◌≤◌, List, Vec, length, refl, sym, ap, ◌∙◌, subst, arith}
+use Rattle.std.proofs.Common.{◌≡◌, ℕ, ◌<◌, List, Vec, length, refl, sym, ap, ◌∙◌, subst, arith}
 use Rattle.std.specs.Prelude.{All, Err, IfErr, None, Ok, Result, Some}
 use Rattle.std.specs.Result.{IsErrAnd}
 use Rattle.rmt_ast.specs.declared.names.Names.{Names}
@@ -21,7 +21,7 @@ use Rattle.rmt_update.specs.Refill.{IsMoved, SamePart, TableFits}
 use Rattle.rmt_update.specs.Planned.{IsUnplanned, MayChange, changed_lists}
 use Rattle.rmt_update.specs.Seen.{HaveNumbers}
 use Rattle.rmt_update.proofs.AfterLaws.{after-have}
-use Rattle.rmt_update.proofs.LoadSteps.{after-few, can-change, planned, same-count, same-parts, tables-are, tables-fit, unplanned}
+use Rattle.rmt_update.proofs.LoadSteps.{after-few, can-change, planned, tables-are, tables-fit, unplanned}
 use Rattle.rmt_update.proofs.book.Book.load.Goals as goal
 use Rattle.rmt_update.proofs.ZipLaws.{zip-gives}
 

@@ -7,7 +7,7 @@ use Rattle.rmt_update.specs.Come.{AreOrdered}
 use Rattle.rmt_update.specs.TurnWrites.{AreSmall, HaveOwnSlots, IsFresh}
 use Rattle.rmt_update.specs.Turning.{IsSpotIn}
 use Rattle.rmt_update.proofs.BookNext.{book-next}
-use Rattle.rmt_update.proofs.EnteringLaws.{on_err-of}
+use Rattle.rmt_update.proofs.ResultLaws.{on_err}
 use Rattle.rmt_update.proofs.FewLaws.{few-change}
 use Rattle.rmt_update.proofs.RecentLaws.{recent-few}
 use Rattle.rmt_update.proofs.SameTables.{stands-same}
@@ -90,5 +90,5 @@ returns-clause-recent c =
 pub returns-in_err-writes-clause-kept : goal.returns-in_err-writes-clause-kept
 returns-in_err-writes-clause-kept c =
     let b = c.args.self.now in
-    on_err-of c.from_residual-in_err-writes.result _ (λ config cells lists.
+    on_err c.from_residual-in_err-writes.result _ (λ config cells lists.
     stands-same config cells lists b _ (subst (All AreOrdered) c.as_slice-tables.ensures.value c.all_ordered.ensures) c.in_err-writes.ensures.kept refl refl refl tt)

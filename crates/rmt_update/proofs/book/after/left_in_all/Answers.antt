@@ -1,7 +1,5 @@
-use Rattle.std.proofs.Common.{◌≡◌, ◌+◌, ◌++◌, ◌∷◌, [], List, length, sym, ap, ◌∙◌, subst, arith}
-use Rattle.std.specs.BTreeMap.{BTreeMap}
+use Rattle.std.proofs.Common.{◌+◌, ◌++◌, ◌∷◌, [], length, sym, ap, ◌∙◌, subst, arith}
 use Rattle.std.proofs.lemmas.List.{length-append}
-use Rattle.rmt_ast.specs.declared.entry.Entry.{Entry}
 use Rattle.rmt_update.specs.After.{AreOrders, left_of}
 use Rattle.rmt_update.proofs.AfterLaws.{orders-more}
 use Rattle.rmt_update.proofs.book.after.left_in_all.Goals as goal

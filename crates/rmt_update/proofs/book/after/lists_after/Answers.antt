@@ -1,10 +1,8 @@
-use Rattle.std.proofs.Common.{◌≡◌, ◌∙◌, ◌<◌, ℕ, List, ap, length, map, subst, sym, arith}
+use Rattle.std.proofs.Common.{◌≡◌, ◌∙◌, ap, length, map, subst, sym, arith}
 use Rattle.std.specs.List.{range_with_len}
 use Rattle.std.proofs.lemmas.Result.{IfOk-weaker}
-use Rattle.rmt_ast.specs.declared.entry.Entry.{Entry}
 use Rattle.rmt_config.specs.NamesForm.{by_number}
 use Rattle.rmt_update.specs.After.{AreOrders, left_of, with_come}
-use Rattle.rmt_update.specs.Planned.{changed_lists}
 use Rattle.rmt_update.specs.Running.{is_among}
 use Rattle.rmt_update.specs.Seen.{HaveNumbers}
 use Rattle.rmt_update.proofs.AfterLaws.{map-changed, numbers-left}

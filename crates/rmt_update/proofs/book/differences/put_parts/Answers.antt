@@ -1,4 +1,4 @@
-use Rattle.std.proofs.Common.{◌≡◌, ◌+◌, List, take, refl, sym, subst, arith}
+use Rattle.std.proofs.Common.{refl, subst, arith}
 use Rattle.std.specs.Prelude.{zip}
 use Rattle.rmt_bits.proofs.ListLaws.{slice_get-seen}
 use Rattle.rmt_update.specs.Differences.{AllPut}

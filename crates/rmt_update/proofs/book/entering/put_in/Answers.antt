@@ -1,11 +1,11 @@
 use Rattle.std.proofs.Common.{◌≡◌, Option, Some, sym, ap, ◌∙◌}
 use Rattle.std.proofs.lemmas.Option.{slice_get-get_or}
-use Rattle.std.proofs.lemmas.Result.{IfOk-weaker}
+use Rattle.std.proofs.lemmas.Result.{IfOk-weaker, on_err_weaker, on_ok_weaker}
 use Rattle.std.specs.Prelude.{option_and_then, slice_get}
 use Rattle.rmt_update.specs.declared.book.kept.Kept.{Kept}
 use Rattle.rmt_update.specs.declared.book.table.TableCells.{TableCells}
 use Rattle.rmt_update.specs.BookSpots.{kept_in}
-use Rattle.rmt_update.proofs.EnteringLaws.{on_err-weaker, on_ok-weaker, table-put, there-part, there-within}
+use Rattle.rmt_update.proofs.EnteringLaws.{table-put, there-part, there-within}
 use Rattle.rmt_update.proofs.book.entering.put_in.Goals as goal
 
 pub put_in_parts-requires : goal.put_in_parts-requires
@@ -22,7 +22,7 @@ returns-clause-put c =
     let s = c.args.spot in
     let t = c.index_mut.result.now in
     let at : slice_get ts s.table ≡ Some t = slice_get-get_or ts s.table t (there-within ts s c.requires) ∙ ap Some (sym c.index_mut.ensures.value) in
-    on_ok-weaker c.put_in_parts.result _ _ (table-put ts s (λ (o : Option Kept). Some c.args.kept) t c.put_in_parts.new.parts at) c.put_in_parts.ensures.put
+    on_ok_weaker c.put_in_parts.result (table-put ts s (λ (o : Option Kept). Some c.args.kept) t c.put_in_parts.new.parts at) c.put_in_parts.ensures.put
 
 pub returns-clause-before : goal.returns-clause-before
 returns-clause-before c =
@@ -38,4 +38,4 @@ returns-clause-stays c =
     let s = c.args.spot in
     let t = c.index_mut.result.now in
     let at : slice_get ts s.table ≡ Some t = slice_get-get_or ts s.table t (there-within ts s c.requires) ∙ ap Some (sym c.index_mut.ensures.value) in
-    on_err-weaker c.put_in_parts.result _ _ (table-put ts s (λ (o : Option Kept). o) t c.put_in_parts.new.parts at) c.put_in_parts.ensures.stays
+    on_err_weaker c.put_in_parts.result (table-put ts s (λ (o : Option Kept). o) t c.put_in_parts.new.parts at) c.put_in_parts.ensures.stays

@@ -1,12 +1,12 @@
 use Rattle.std.proofs.Common.{◌≡◌, Option, Some, sym, ap, ◌∙◌}
 use Rattle.std.proofs.lemmas.Option.{slice_get-get_or}
-use Rattle.std.proofs.lemmas.Result.{IfOk-weaker}
+use Rattle.std.proofs.lemmas.Result.{IfOk-weaker, on_err_weaker, on_ok_weaker}
 use Rattle.std.specs.BTreeMap.{get}
 use Rattle.std.specs.Ordering.{nat_cmp}
 use Rattle.std.specs.Prelude.{option_and_then, slice_get}
 use Rattle.rmt_update.specs.declared.book.kept.Kept.{Kept}
 use Rattle.rmt_update.specs.declared.book.table.PartCells.{PartCells}
-use Rattle.rmt_update.proofs.EnteringLaws.{on_err-weaker, on_ok-weaker, part-put}
+use Rattle.rmt_update.proofs.EnteringLaws.{part-put}
 use Rattle.rmt_update.proofs.book.entering.put_in_parts.Goals as goal
 
 pub returns-clause-put : goal.returns-clause-put
@@ -14,7 +14,7 @@ returns-clause-put c =
     let ps = c.args.parts.now.items in
     let p = c.index_mut.result.now in
     let at : slice_get ps c.args.at.part ≡ Some p = slice_get-get_or ps c.args.at.part p c.requires ∙ ap Some (sym c.index_mut.ensures.value) in
-    on_ok-weaker c.put_in_part.result _ _ (part-put ps c.args.at (λ (o : Option Kept). Some c.args.kept) p c.put_in_part.new.part at) c.put_in_part.ensures.put
+    on_ok_weaker c.put_in_part.result (part-put ps c.args.at (λ (o : Option Kept). Some c.args.kept) p c.put_in_part.new.part at) c.put_in_part.ensures.put
 
 pub returns-clause-before : goal.returns-clause-before
 returns-clause-before c =
@@ -28,4 +28,4 @@ returns-clause-stays c =
     let ps = c.args.parts.now.items in
     let p = c.index_mut.result.now in
     let at : slice_get ps c.args.at.part ≡ Some p = slice_get-get_or ps c.args.at.part p c.requires ∙ ap Some (sym c.index_mut.ensures.value) in
-    on_err-weaker c.put_in_part.result _ _ (part-put ps c.args.at (λ (o : Option Kept). o) p c.put_in_part.new.part at) c.put_in_part.ensures.stays
+    on_err_weaker c.put_in_part.result (part-put ps c.args.at (λ (o : Option Kept). o) p c.put_in_part.new.part at) c.put_in_part.ensures.stays

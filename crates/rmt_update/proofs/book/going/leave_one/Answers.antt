@@ -5,7 +5,8 @@ use Rattle.std.proofs.lemmas.Option.{slice_get-get_or}
 use Rattle.rmt_update.specs.declared.book.table.TableCells.{TableCells}
 use Rattle.rmt_update.specs.RowIndex.{IsRowGone, kept_key}
 use Rattle.rmt_update.specs.BookSpots.{kept_at}
-use Rattle.rmt_update.proofs.GoingLaws.{kept-there, none-leaves, one-leaves, spot-within}
+use Rattle.rmt_update.proofs.EnteringLaws.{there-within}
+use Rattle.rmt_update.proofs.GoingLaws.{kept-there, none-leaves, one-leaves}
 use Rattle.rmt_update.proofs.book.going.leave_one.Goals as goal
 
 pub returns-in_default-clause-tables : goal.returns-in_default-clause-tables
@@ -15,7 +16,7 @@ returns-in_default-clause-tables c = λ odd goes zip.
 pub kept_at-requires-clause-table : goal.kept_at-requires-clause-table
 kept_at-requires-clause-table c =
     let k = c.requires.cells.spots c.args.number c.in-Some.spot (sym (c.copied.ensures ∙ c.get.ensures.value) ∙ c.in-Some.is) in
-    spot-within c.args.tables.now c.in-Some.spot (kept-there c.args.tables.now c.in-Some.spot k.0 k.1)
+    there-within c.args.tables.now c.in-Some.spot (kept-there c.args.tables.now c.in-Some.spot k.0 k.1)
 
 pub kept_at-requires-clause-part : goal.kept_at-requires-clause-part
 kept_at-requires-clause-part c =
@@ -25,23 +26,23 @@ kept_at-requires-clause-part c =
 pub bounds-tables-spot : goal.bounds-tables-spot
 bounds-tables-spot c =
     let k = c.requires.cells.spots c.args.number c.in-Some.spot (sym (c.copied.ensures ∙ c.get.ensures.value) ∙ c.in-Some.is) in
-    spot-within c.args.tables.now c.in-Some.spot (kept-there c.args.tables.now c.in-Some.spot k.0 k.1)
+    there-within c.args.tables.now c.in-Some.spot (kept-there c.args.tables.now c.in-Some.spot k.0 k.1)
 
 pub bounds-tables-spot-in-Some-kept_at : goal.bounds-tables-spot-in-Some-kept_at
 bounds-tables-spot-in-Some-kept_at c =
     let k = c.requires.cells.spots c.args.number c.in-Some.spot (sym (c.copied.ensures ∙ c.get.ensures.value) ∙ c.in-Some.is) in
-    spot-within c.args.tables.now c.in-Some.spot (kept-there c.args.tables.now c.in-Some.spot k.0 k.1)
+    there-within c.args.tables.now c.in-Some.spot (kept-there c.args.tables.now c.in-Some.spot k.0 k.1)
 
 pub offset_bounds-tables-spot : goal.offset_bounds-tables-spot
 offset_bounds-tables-spot c =
     let k = c.requires.cells.spots c.args.number c.in-Some.spot (sym (c.copied.ensures ∙ c.get.ensures.value) ∙ c.in-Some.is) in
-    let lt = spot-within c.args.tables.now c.in-Some.spot (kept-there c.args.tables.now c.in-Some.spot k.0 k.1) in
+    let lt = there-within c.args.tables.now c.in-Some.spot (kept-there c.args.tables.now c.in-Some.spot k.0 k.1) in
     omega (arith, lt)
 
 pub index_mut-requires : goal.index_mut-requires
 index_mut-requires c =
     let k = c.requires.cells.spots c.args.number c.in-Some.spot (sym (c.copied.ensures ∙ c.get.ensures.value) ∙ c.in-Some.is) in
-    let lt = spot-within c.args.tables.now c.in-Some.spot (kept-there c.args.tables.now c.in-Some.spot k.0 k.1) in
+    let lt = there-within c.args.tables.now c.in-Some.spot (kept-there c.args.tables.now c.in-Some.spot k.0 k.1) in
     let count = c.requires.count in
     omega (arith, lt, count)
 
@@ -55,7 +56,7 @@ returns-in-Some-kept_at-clause-tables c = λ odd goes zip.
     let k = c.requires.cells.spots c.args.number s found in
     let ts = c.args.tables.now in
     let os = c.args.index.now.tables.items in
-    let lt = spot-within ts s (kept-there ts s k.0 k.1) in
+    let lt = there-within ts s (kept-there ts s k.0 k.1) in
     let count = c.requires.count in
     let t = c.index-tables-spot.result in
     let o = c.index_mut.result.now in

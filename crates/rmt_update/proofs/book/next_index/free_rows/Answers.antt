@@ -8,7 +8,7 @@ use Rattle.rmt_update.specs.declared.book.table.TableCells.{TableCells}
 use Rattle.rmt_update.specs.NextIndex.{IsFewRow, IsRowFreed}
 use Rattle.rmt_update.specs.RowIndex.{row_number}
 use Rattle.rmt_update.specs.Turning.{IsSpotIn}
-use Rattle.rmt_update.proofs.GoingLaws.{spot-within}
+use Rattle.rmt_update.proofs.EnteringLaws.{there-within}
 use Rattle.rmt_update.proofs.NextIndexSteps.{few-row, freed-next}
 use Rattle.rmt_update.proofs.book.next_index.free_rows.Goals as goal
 
@@ -19,7 +19,7 @@ free_row-requires-clause-few c =
     let xs = c.args.left.now in
     let s : BookSpot = get_or xs i (record { table = 0; at = record { part = 0; cell = 0 } }) in
     let at_s : slice_get xs i ≡ Some s = slice_get-get_or xs i (record { table = 0; at = record { part = 0; cell = 0 } }) c.loop-spot-test.true in
-    let lt = spot-within ts s (All-slice_get (IsSpotIn ts) xs i s c.requires.there at_s) in
+    let lt = there-within ts s (All-slice_get (IsSpotIn ts) xs i s c.requires.there at_s) in
     let t = c.index-tables-spot.result in
     let at_t : slice_get ts s.table ≡ Some t = slice_get-get_or ts s.table t lt ∙ ap Some (sym c.index-tables-spot.is) in
     let os = c.loop-spot.indexes.items in
@@ -37,7 +37,7 @@ loop-spot-preserved c =
     let xs = c.args.left.now in
     let s : BookSpot = get_or xs i (record { table = 0; at = record { part = 0; cell = 0 } }) in
     let at_s : slice_get xs i ≡ Some s = slice_get-get_or xs i (record { table = 0; at = record { part = 0; cell = 0 } }) c.loop-spot-test.true in
-    let lt = spot-within ts s (All-slice_get (IsSpotIn ts) xs i s c.requires.there at_s) in
+    let lt = there-within ts s (All-slice_get (IsSpotIn ts) xs i s c.requires.there at_s) in
     let t = c.index-tables-spot.result in
     let at_t : slice_get ts s.table ≡ Some t = slice_get-get_or ts s.table t lt ∙ ap Some (sym c.index-tables-spot.is) in
     let os = c.loop-spot.indexes.items in

@@ -1,4 +1,4 @@
-use Rattle.std.proofs.Common.{◌≡◌, ◌∙◌, Some, ap, cond, refl, subst}
+use Rattle.std.proofs.Common.{◌∙◌, Some, ap, cond, refl, subst}
 use Rattle.std.specs.BTreeMap.{get}
 use Rattle.std.specs.Ordering.{nat_cmp}
 use Rattle.rmt_update.specs.Coming.{HasSizes}

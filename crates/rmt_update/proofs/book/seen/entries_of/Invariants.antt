@@ -1,9 +1,8 @@
-use Rattle.std.proofs.Common.{take}
+use Rattle.std.proofs.Common.{◌≡◌, take}
 use Rattle.std.specs.List.{flat_map}
-use Rattle.rmt_update.specs.Numbered.{IsOrder}
 use Rattle.rmt_update.specs.Seen.{entries_in}
 use Rattle.rmt_update.proofs.book.seen.entries_of.Given as goal
 
 -- the entries of the parts so far
 abbrev pub invariant-loop-part : goal.invariant-loop-part
-invariant-loop-part l = IsOrder (flat_map (entries_in l.odd l.table.name) (take l.part-index l.table.parts.items)) l.ordered
+invariant-loop-part l = l.entries.items ≡ flat_map (entries_in l.odd l.table.name) (take l.part-index l.table.parts.items)

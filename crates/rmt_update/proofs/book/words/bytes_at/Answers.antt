@@ -1,4 +1,4 @@
-use Rattle.std.proofs.Common.{◌≡◌, ◌+◌, ◌-◌, ◌*◌, ◌/◌, ◌%◌, ◌^◌, List, [], ℕ, ◌∙◌, arith}
+use Rattle.std.proofs.Common.{◌≡◌, ◌+◌, ◌-◌, ◌*◌, ◌/◌, ◌%◌, ◌^◌, List, ℕ, ◌∙◌, arith}
 use Rattle.rmt_bits.specs.Bits.{slice}
 use Rattle.rmt_update.specs.Words.{joined}
 use Rattle.rmt_update.proofs.WordLaws.{byte-of-slice, bytes-more}

@@ -4,6 +4,6 @@ use Rattle.rmt_update.proofs.held.Held.pop.Goals as goal
 
 pub returns : goal.returns
 returns c es k h own some = record {
-  knows = knows_pop c.args.self.now.numbers c.pop_number.new.numbers es k c.args.key.now h.knows own c.pop_number.ensures;
+  knows = knows_pop c.args.self.now.numbers c.pop.new.self es k c.args.key.now h.knows own c.pop.ensures;
   count = omega (arith, h.count, length-without k es some);
 }

@@ -6,7 +6,8 @@ use Rattle.rmt_update.specs.Holding.{Holds}
 use Rattle.rmt_update.specs.Stands.{AreLeft}
 use Rattle.rmt_update.proofs.FilterLaws.{list_of-other, list_of-set}
 use Rattle.rmt_update.proofs.LeftLaws.{left_added}
-use Rattle.rmt_update.proofs.StandLaws.{held_at, held_set, on_err}
+use Rattle.rmt_update.proofs.ResultLaws.{on_err}
+use Rattle.rmt_update.proofs.StandLaws.{held_at, held_set}
 use Rattle.rmt_update.proofs.lists.Lists.install.Goals as goal
 
 pub returns-in_err-push-clause-kept : goal.returns-in_err-push-clause-kept

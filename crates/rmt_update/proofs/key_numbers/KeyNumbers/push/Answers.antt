@@ -1,0 +1,65 @@
+use Rattle.std.proofs.Common.{◌≡◌, ◌≢◌, ◌<◌, ◌∙◌, ◌∷◌, ◌++◌, ℕ, List, length, ap, arith}
+use Rattle.std.proofs.lemmas.Result.{on_err_weaker}
+use Rattle.rmt_update.specs.KeyNumbers.{KeyNumbers, all_at, numbers_at, pairs_of, slot_of}
+use Rattle.rmt_update.proofs.KeyNumberLaws.{crowd_stands, kept_all, place_at, put_seen, put_stands_seen, same_all, same_stands, slot_at, with_number}
+use Rattle.rmt_update.proofs.ResultLaws.{either_way, on_err}
+use Rattle.rmt_update.proofs.key_numbers.KeyNumbers.push.Goals as goal
+
+pub invariant_of-self : goal.invariant_of-self
+invariant_of-self c =
+    let slots = c.self.inside.slots.items in
+    let key = c.args.key.items in
+    let all : c.len.result ≡ length slots = c.len.ensures ∙ c.self.inside.slots.ok.0 in
+    let slot = slot_at slots key c.as_slice.result.now c.len.result c.place_of-place.result c.index-slot.result.now all c.as_slice.ensures.value c.place_of-place.ensures.place c.place_of-place.ensures.within c.index-slot.ensures in
+    let crowded = pairs_of c.self.inside.crowded in
+    let next = pairs_of c.push_queued.new.queues in
+    let some : slot_of slots key ≢ 0 = λ none. omega (arith, c.if-slot-gt0.true, slot, none) in
+    either_way c.push_queued.result _ _ _ c.push_queued.ensures.pushed c.push_queued.ensures.kept
+    (λ put. crowd_stands slots c.self.inside.firsts.items c.self.inside.keys.items crowded c.self.invariant key c.args.number next put some)
+    (λ same. same_stands slots c.self.inside.firsts.items c.self.inside.keys.items crowded c.self.invariant next same)
+
+pub returns-then-slot-gt0-clause-kept : goal.returns-then-slot-gt0-clause-kept
+returns-then-slot-gt0-clause-kept c =
+    on_err_weaker c.push_queued.result
+    (λ same q.
+    same_all c.self.inside.slots.items c.self.inside.firsts.items c.self.inside.keys.items (pairs_of c.self.inside.crowded) c.self.invariant (pairs_of c.push_queued.new.queues) same q
+    ∙ ap (λ (n : KeyNumbers). numbers_at n q) c.self.view_is) c.push_queued.ensures.kept
+
+pub returns-in_err-put_list-clause-kept : goal.returns-in_err-put_list-clause-kept
+returns-in_err-put_list-clause-kept c =
+    let slots = c.self.inside.slots.items in
+    let firsts = c.self.inside.firsts.items in
+    let crowded = pairs_of c.self.inside.crowded in
+    let kept = c.in_err-put_list.ensures.kept in
+    on_err c.from_residual.result _ (λ q.
+    ap (λ (ks : List ℕ). all_at slots firsts ks crowded q.items) kept.1 ∙ kept_all slots firsts c.self.inside.keys.items crowded c.self.invariant kept.0 q.items
+    ∙ ap (λ (n : KeyNumbers). numbers_at n q) c.self.view_is)
+
+pub invariant_of-self-2 : goal.invariant_of-self-2
+invariant_of-self-2 c =
+    let slots = c.self.inside.slots.items in
+    let key = c.args.key.items in
+    let all : c.len.result ≡ length slots = c.len.ensures ∙ c.self.inside.slots.ok.0 in
+    let slot = slot_at slots key c.as_slice.result.now c.len.result c.place_of-place.result c.index-slot.result.now all c.as_slice.ensures.value c.place_of-place.ensures.place c.place_of-place.ensures.within c.index-slot.ensures in
+    let place = place_at slots key c.as_slice.result.now c.len.result c.place_of-place.result all c.as_slice.ensures.value c.place_of-place.ensures.place in
+    let within : c.place_of-place.result < length slots = omega (arith, c.place_of-place.ensures.within, all) in
+    let free : slot_of slots key ≡ 0 = omega (arith, slot, c.if-slot-gt0.false) in
+    let begin : c.len-begin.result ≡ length c.self.inside.keys.items = c.len-begin.ensures ∙ c.self.inside.keys.ok.0 in
+    let behind : c.put_list.new.held.items ≡ c.self.inside.keys.items ++ length key ∷ key = c.in_ok-put_list.ensures.put ∙ ap (λ (ks : List ℕ). c.self.inside.keys.items ++ length ks ∷ ks) c.as_slice-2.ensures.value in
+    put_stands_seen slots c.self.inside.firsts.items c.self.inside.keys.items (pairs_of c.self.inside.crowded) c.self.invariant key c.args.number c.place_of-place.result c.len-begin.result c.put_list.new.held.items
+    free place within begin behind
+
+pub returns-clause-pushed : goal.returns-clause-pushed
+returns-clause-pushed c q =
+    let slots = c.self.inside.slots.items in
+    let key = c.args.key.items in
+    let all : c.len.result ≡ length slots = c.len.ensures ∙ c.self.inside.slots.ok.0 in
+    let slot = slot_at slots key c.as_slice.result.now c.len.result c.place_of-place.result c.index-slot.result.now all c.as_slice.ensures.value c.place_of-place.ensures.place c.place_of-place.ensures.within c.index-slot.ensures in
+    let place = place_at slots key c.as_slice.result.now c.len.result c.place_of-place.result all c.as_slice.ensures.value c.place_of-place.ensures.place in
+    let within : c.place_of-place.result < length slots = omega (arith, c.place_of-place.ensures.within, all) in
+    let free : slot_of slots key ≡ 0 = omega (arith, slot, c.if-slot-gt0.false) in
+    let begin : c.len-begin.result ≡ length c.self.inside.keys.items = c.len-begin.ensures ∙ c.self.inside.keys.ok.0 in
+    let behind : c.put_list.new.held.items ≡ c.self.inside.keys.items ++ length key ∷ key = c.in_ok-put_list.ensures.put ∙ ap (λ (ks : List ℕ). c.self.inside.keys.items ++ length ks ∷ ks) c.as_slice-2.ensures.value in
+    put_seen slots c.self.inside.firsts.items c.self.inside.keys.items (pairs_of c.self.inside.crowded) c.self.invariant key c.args.number c.place_of-place.result c.len-begin.result c.put_list.new.held.items
+    free place within begin behind q
+    ∙ ap (λ (n : KeyNumbers). numbers_at n q ++ with_number key c.args.number q.items) c.self.view_is
