@@ -150,11 +150,13 @@ print(f"tall: refused in {seconds:.2f} s, {peak:.0f} MiB")
 
 
 def read(name):
-    """Reads an image without its names, and with them."""
+    """Reads an image without its names, and with them: the least of nine runs each, in turn."""
     subprocess.run([f"{top}/bench/unnamed.py", f"{work}/{name}.img", f"{work}/{name}1.img"], check=True)
-    for image, what in ((f"{name}1", "without names"), (name, "with names")):
-        seconds, peak = run("report", f"{image}.img")
+    runs = [[run("report", f"{image}.img") for image in (f"{name}1", name)] for _ in range(9)]
+    without, named = (min(pair[which] for pair in runs) for which in (0, 1))
+    for (seconds, peak), what in ((without, "without names"), (named, "with names")):
         print(f"{name}: read {what} in {seconds:.2f} s, {peak:.0f} MiB")
+    print(f"{name}: with names {named[0] / without[0]:.2f} times as long")
 
 
 one = "header h {{ k : {}; }} next accept;\naction go(p : 9) {{ out_port = p; }}\n" \

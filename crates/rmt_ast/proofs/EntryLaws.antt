@@ -1,5 +1,5 @@
 -- What an entry that is hit is, and what holds of the entries that are left.
-use Rattle.std.proofs.Common.{◌≡◌, ℕ, Bool, true, false, cond, List, [], ◌∷◌, Some}
+use Rattle.std.proofs.Common.{◌≡◌, ℕ, ◌≤◌, Bool, true, false, cond, List, [], ◌∷◌, Some, arith}
 use Rattle.std.specs.Prelude.{All, Contains}
 use Rattle.std.proofs.lemmas.Option.{none-some}
 use Rattle.std.proofs.lemmas.List.Elements.{All-cons, All-contains_itself, All-head, All-tail}
@@ -7,7 +7,7 @@ use Rattle.rmt_bits.proofs.AllLaws.{All-find}
 use Rattle.rmt_ast.specs.declared.program.Kind.{Kind}
 use Rattle.rmt_ast.specs.declared.program.Kind.TheVariants.{Keyless, Exact, Prefix, Ternary}
 use Rattle.rmt_ast.specs.declared.entry.Entry.{Entry}
-use Rattle.rmt_ast.specs.Changes.{EntryKey, is_keyed_by, without}
+use Rattle.rmt_ast.specs.Changes.{Adds, Change, EntryKey, Installed, Removes, changed, is_keyed_by, without}
 use Rattle.rmt_ast.specs.Lookup.{hit_of, hits}
 
 -- an entry that is hit is of the table
@@ -25,3 +25,8 @@ all_without P key (e ∷ es) all = by (is_keyed_by key e) (all_without P key es 
     by : (b : Bool) → All P (without key es) → All P (cond b es (e ∷ without key es))
     by true rest = All-tail P e es all
     by false rest = All-cons P e (without key es) (All-head P e es all) rest
+
+-- the next number only rises
+pub next_changed : (s : Installed) (change : Change) → s.next ≤ (changed s change).next
+next_changed s (Adds e) = omega arith
+next_changed s (Removes node key) = omega arith

@@ -1,16 +1,16 @@
 -- What holds of each item and its number, and what holds of each item and each later one, shown item by item.
-use Rattle.std.proofs.Common.{◌≡◌, ◌≢◌, ℕ, zero, suc, ◌+◌, Bool, true, not, ◌&&◌, List, [], ◌∷◌, ◌++◌, length, Some, ap, subst, arith, drop, map, ◌<◌, ◌∙◌}
+use Rattle.std.proofs.Common.{◌≡◌, ◌≢◌, ℕ, zero, suc, ◌+◌, Bool, true, not, ◌&&◌, List, [], ◌∷◌, ◌++◌, length, Option, Some, None, ap, subst, arith, drop, map, option_map, ◌<◌, ◌≤◌, ◌∙◌, refl}
 use Rattle.std.specs.Prelude.{⊤, slice_get, ◌==◌, unwrap_or, AllPairs, slice_index}
 use Rattle.std.specs.List.{list_all}
 use Rattle.std.proofs.lemmas.Bool.{and_parts, not-true, eqb-false}
 use Rattle.std.proofs.lemmas.Option.{none-some, same_Some}
 use Rattle.std.proofs.lemmas.List.Kept.{AllPairs-cons}
-use Rattle.rmt_bits.proofs.AllLaws.{All-from_test}
+use Rattle.rmt_bits.proofs.AllLaws.{All-from_test, All-slice_get}
 use Rattle.rmt_bits.proofs.PairLaws.{AllPairs-none}
-use Rattle.rmt_ast.specs.WellFormed.{AllNumbered, AreDistinct, bits_of}
+use Rattle.rmt_ast.specs.WellFormed.{AllNumbered, AreDistinct, IsProgram, IsWidth, bits_of}
 use Rattle.std.proofs.lemmas.List.{at_drop_more}
 use Rattle.std.proofs.lemmas.List.Sums.{sum_by-cons}
-use Rattle.rmt_ast.specs.Types.{Program}
+use Rattle.rmt_ast.specs.Types.{Field, Program}
 use Rattle.rmt_ast.specs.State.{width_of}
 
 -- P of each item of a list whose first item has number k
@@ -53,3 +53,11 @@ AreDistinct-from_apart number (x ∷ xs) h =
 pub bits_of-drop : (p : Program) (fields : List ℕ) (i : ℕ) → i < length fields → bits_of p (drop i fields) ≡ width_of p (slice_index fields i) + bits_of p (drop (i + 1) fields)
 bits_of-drop p fields i h =
     at_drop_more (bits_of p) fields i 0 h ∙ sum_by-cons (λ (n : ℕ). n) (width_of p (slice_index fields i)) (map (width_of p) (drop (i + 1) fields))
+
+-- a width of a program's field is at most 128
+pub narrow_field : (p : Program) → IsProgram p → (f : ℕ) → width_of p f ≤ 128
+narrow_field p h f = by (slice_get p.fields f) refl
+  where
+    by : (o : Option Field) → slice_get p.fields f ≡ o → unwrap_or (option_map (λ (x : Field). x.width) o) 0 ≤ 128
+    by None e = omega arith
+    by (Some x) e = (All-slice_get (λ (x : Field). IsWidth x.width) p.fields f x h.fields.widths e).1

@@ -1,11 +1,10 @@
 -- Counters, a hit and a number at a time.
 use Rattle.std.proofs.Common.{◌≡◌, ◌≢◌, ℕ, zero, suc, ◌+◌, ◌%◌, ◌^◌, ◌<◌, ◌≤◌, ◌++◌, Bool, true, false, ◌==◌, nat_lt, cond, List, [], ◌∷◌, length, map, take, drop, get_or, Err, ◌⊎◌, inl, inr, ⊎_elim, zero-add, refl, sym, ap, subst, ◌∙◌, tests, arith}
 use Rattle.std.specs.Prelude.{All, count_by, sum_by, slice_set}
-use Rattle.std.specs.Ordering.{nat_cmp, ordering_index}
-use Rattle.std.specs.declared.cmp.Ordering.TheVariants.{Less, Greater}
+use Rattle.std.specs.Ordering.{nat_cmp}
 use Rattle.std.specs.List.Sorted.{IsBinarySearchResult}
-use Rattle.std.proofs.lemmas.Bool.{cases_eq, cases_lt, cases_order, ltb-true}
-use Rattle.std.proofs.lemmas.List.{same_lists, length-map, length-set, length-take, length-drop, map-append, take-append-drop, get_or-map, get_or-set_same, get_or-set_other, get_or-take, get_or-drop, get_or_default}
+use Rattle.std.proofs.lemmas.Bool.{cases_eq, cases_order, ltb-true}
+use Rattle.std.proofs.lemmas.List.{same_lists, length-map, length-set, map-append, take-append-drop, get_or-map, get_or-set_same, get_or-set_other, get_or_default}
 use Rattle.std.proofs.lemmas.List.Elements.{All-cons, All-head, All-tail}
 use Rattle.std.proofs.lemmas.List.Kept.{AllPairs-cons}
 use Rattle.std.proofs.lemmas.List.Sums.{sum_by-append}
@@ -14,6 +13,7 @@ use Rattle.rmt_bits.specs.declared.answer.Count.{Count}
 use Rattle.rmt_bits.specs.Counts.{Hit, count_for}
 use Rattle.rmt_bits.specs.Counting.{with_packet, with_hit, counted, AreRising, zero_count, with_count}
 use Rattle.rmt_bits.proofs.PairLaws.{AllPairs-head, AllPairs-tail}
+use Rattle.rmt_bits.proofs.SearchLaws.{parted}
 
 is_own : (n m : ℕ) → n ≡ m → (n == m) ≡ true
 is_own n m h = grind (arith, tests)
@@ -52,40 +52,6 @@ counted_found cs i n b d rising inside own =
             (λ (low : j < i). absurd (let up = rising j i d low inside in omega (arith, h, own)))
             (λ (high : i < j). absurd (let up = rising i j d high lt in omega (arith, h, own))) o)
             (cases_order j i)
-
-higher : (a b x : ℕ) → a ≤ b → ordering_index (nat_cmp a x) ≤ ordering_index (nat_cmp b x)
-higher a b x le = grind (arith, tests)
-
-less : (a x : ℕ) → nat_cmp a x ≡ Less → a < x
-less a x h = grind (arith, tests)
-
-greater : (a x : ℕ) → nat_cmp a x ≡ Greater → x < a
-greater a x h = grind (arith, tests)
-
-rising-le : (cs : List Count) → AreRising cs → (a b : ℕ) (d : Count) → a ≤ b → b < length cs → (get_or cs a d).entry ≤ (get_or cs b d).entry
-rising-le cs rising a b d le lt =
-    ⊎_elim (λ (e : a ≡ b). subst (λ j. (get_or cs a d).entry ≤ (get_or cs j d).entry) e (omega arith))
-    (λ (o : (a < b) ⊎ (b < a)). ⊎_elim (λ (low : a < b). let up = rising a b d low lt in omega arith) (λ (high : b < a). absurd (omega arith)) o)
-    (cases_order a b)
-
--- a search that finds nothing says that no counter is of the entry
-pub not_found : (cs : List Count) (n i : ℕ) → AreRising cs → IsBinarySearchResult (λ (c : Count). nat_cmp c.entry n) cs (Err i) → (k : ℕ) (d : Count) → k < length cs → (get_or cs k d).entry ≢ n
-not_found cs n i rising h k d lt =
-    let parts = h (λ a b e le inside. higher (get_or cs a e).entry (get_or cs b e).entry n (rising-le cs rising a b e le inside)) in
-    ⊎_elim (λ (low : k < i). λ e. absurd (let up = less (get_or cs k d).entry n (parts.0 k d (omega arith) low) in omega (arith, up, e)))
-    (λ (high : i ≤ k). λ e. absurd (let up = greater (get_or cs k d).entry n (parts.1 k d high lt) in omega (arith, up, e)))
-    (cases_lt k i)
-
--- and where it would stand a counter of the entry would stand
-pub parted : (cs : List Count) (n i : ℕ) → AreRising cs → IsBinarySearchResult (λ (c : Count). nat_cmp c.entry n) cs (Err i)
-    → All (λ (c : Count). c.entry < n) (take i cs) × All (λ (c : Count). n < c.entry) (drop i cs)
-parted cs n i rising h =
-    let parts = h (λ a b e le inside. higher (get_or cs a e).entry (get_or cs b e).entry n (rising-le cs rising a b e le inside)) in (
-      λ k d lt. let inside : k < i = omega (arith, lt, length-take i cs) in let within : k < length cs = omega (arith, lt, length-take i cs) in
-          subst (λ (c : Count). c.entry < n) (sym (get_or-take i cs k d inside)) (less (get_or cs k d).entry n (parts.0 k d (omega arith) inside)),
-      λ k d lt. let within : i + k < length cs = omega (arith, lt, length-drop i cs) in
-          subst (λ (c : Count). n < c.entry) (sym (get_or-drop i cs k d)) (greater (get_or cs (i + k) d).entry n (parts.1 (i + k) d (omega arith) within)),
-    )
 
 -- a hit of an entry by a packet of so many bytes
 abbrev pub hit_of_bytes : ℕ → ℕ → Hit
@@ -174,7 +140,7 @@ with_count-among low cs high n below above =
 pub with_count-here : (cs : List Count) (n i : ℕ) → AreRising cs → IsBinarySearchResult (λ (c : Count). nat_cmp c.entry n) cs (Err i)
     → take i cs ++ zero_count n ∷ drop i cs ≡ with_count n cs
 with_count-here cs n i rising h =
-    let parts = parted cs n i rising h in
+    let parts = parted (λ (c : Count). c.entry) cs n i rising h in
     ap (λ (xs : List Count). take i cs ++ xs) (sym (with_count-first n (drop i cs) parts.1))
     ∙ sym (with_count-above n (take i cs) (drop i cs) parts.0)
     ∙ ap (with_count n) (take-append-drop i cs)

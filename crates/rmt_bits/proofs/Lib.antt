@@ -18,5 +18,6 @@ pub mod OrderLaws
 pub mod PairLaws
 pub mod PlaceLaws
 pub mod RunLaws
+pub mod SearchLaws
 pub mod TestLaws
 pub mod WordLaws

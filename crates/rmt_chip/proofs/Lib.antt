@@ -27,6 +27,7 @@ mod CellLaws
 mod FoundLaws
 mod LayLaws
 mod LaidLaws
+mod MarkLaws
 mod CellWriteLaws
 mod ExamplesMemory
 pub mod FormedMemory

@@ -32,3 +32,4 @@ pub mod Comparing
 pub mod KeysWithin
 pub mod Laid
 pub mod Memories
+pub mod Marking

@@ -6,7 +6,9 @@ mod exact;
 mod keys;
 mod lay;
 mod listed;
+mod marks;
 mod row_bits;
+mod rows_left;
 mod runs;
 pub mod sight;
 mod sliced;
@@ -14,13 +16,16 @@ mod ternary;
 mod ways;
 
 ghost use Rattle.std.specs.Prelude.{◌≡◌, ◌≤◌, ◌+◌, IsTrue};
+ghost use Rattle.std.proofs.Props.{props};
 ghost use Rattle.rmt_chip.specs.KeysWithin.{keys_within};
+ghost use Rattle.rmt_chip.specs.Marking.{AreMarked};
 
 use crate::looked::Looked;
 use crate::memory::changes::{clear_head, set_number, set_run};
 use crate::memory::exact::place_of;
 use crate::memory::keys::{Keys, hide_key, put_key};
 use crate::memory::lay::{lay_exact, lay_ternary, without};
+use crate::memory::marks::{Marks, mark, may_have};
 use crate::memory::runs::{Runs, run_at};
 use crate::memory::sight::{Sight, number_of_sight};
 use crate::memory::ternary::first_row;
@@ -31,7 +36,7 @@ use std::alloc::{AllocError, Global};
 /// The memory of a slot. It has room for each cell that the slot's blocks have, occupied or not, so
 /// that a changed cell takes no memory: of an exact part a head of one byte, the key and the data,
 /// each in whole bytes; of a ternary part a head and the data, and 20 bytes for each 40 bits of a key
-/// (`Sliced`); and 4 bytes for a number where hits are counted.
+/// (`Sliced`); a byte of marks; and 4 bytes for a number where hits are counted.
 #[derive(Drop)]
 pub struct SlotMemory {
     pub keys: Keys,
@@ -43,11 +48,14 @@ pub struct SlotMemory {
     pub held_size: usize,
     /// The cells by number: the head, the key where it stands here, and the data; each the highest byte first.
     pub cells: Runs,
+    /// Marks of the keys that stand in occupied cells, so that most look-ups of other keys read no cell.
+    pub marks: Marks,
     /// The numbers of the entries by cell, where hits are counted; else none.
     pub numbers: Vec<u32>,
     pub ghost short: { key_size ≤ 80 },
     pub ghost size: { cells.size ≡ 1 + stored + held_size },
     pub ghost within: { IsTrue (keys_within keys key_size stored cells.count) },
+    pub ghost marked: { AreMarked cells stored cells.count marks.words.items } by { Prim.hlevel props },
 }
 
 impl SlotMemory {
@@ -125,7 +133,12 @@ impl SlotMemory {
     {
         match &self.keys {
             Keys::Nothing => None,
-            Keys::InCells(ways) => place_of(*ways, &self.cells, seed, sight, key),
+            Keys::InCells(ways) => {
+                if !may_have(&self.marks, key) {
+                    return None;
+                }
+                place_of(*ways, &self.cells, seed, sight, key)
+            }
             Keys::InVectors(sliced) => first_row(sliced, sight, key),
         }
     }
@@ -192,6 +205,7 @@ impl SlotMemory {
     {
         let at = write.cell as usize;
         let head = 1 + 2 * write.visible + 8 * write.code;
+        mark(&mut self.marks, &key[..self.stored]);
         put_key(&mut self.keys, at, head, key, mask);
         set_run(&mut self.cells, at, head, &key[..self.stored], held);
         set_number(self.numbers.as_mut_slice(), slot.counted, at, write.number);

@@ -1,5 +1,5 @@
 -- The bytes of a number that std gives, the highest first, and the last of them.
-use Rattle.std.proofs.Common.{◌≡◌, ℕ, zero, suc, ◌+◌, ◌-◌, ◌*◌, ◌/◌, ◌%◌, ◌^◌, ◌≤◌, List, [], ◌∷◌, ◌++◌, drop, length, take, refl, sym, ap, ◌∙◌, subst, arith, Result, Ok, Err, cond}
+use Rattle.std.proofs.Common.{◌≡◌, ℕ, zero, suc, ◌+◌, ◌-◌, ◌*◌, ◌/◌, ◌%◌, ◌^◌, ◌≤◌, List, [], ◌∷◌, ◌++◌, drop, length, take, refl, sym, ap, ◌∙◌, arith, Result, Ok, Err, cond}
 use Rattle.std.specs.Prelude.{OnOk, is_ok}
 use Rattle.std.specs.Int.{bytes_high_first, byte_at as byte_at_of}
 use Rattle.std.proofs.lemmas.List.{drop-append-le, drop_all, take_all}

@@ -1,5 +1,5 @@
 -- A cell is a candidate cell of a key exactly where the key's row in the cell's way is that of the cell.
-use Rattle.std.proofs.Common.{◌≡◌, ℕ, zero, suc, ◌+◌, ◌-◌, ◌*◌, ◌/◌, ◌%◌, ◌^◌, ◌<◌, List, [], ◌++◌, Bool, true, false, ◌&&◌, ◌||◌, eqb, refl, sym, ap, ◌∙◌, arith}
+use Rattle.std.proofs.Common.{subst, ◌≡◌, ℕ, zero, suc, ◌+◌, ◌-◌, ◌*◌, ◌/◌, ◌%◌, ◌^◌, ◌<◌, List, [], ◌++◌, Bool, true, false, ◌&&◌, ◌||◌, eqb, refl, sym, ap, ◌∙◌, arith}
 use Rattle.std.specs.List.{list_any, flat_map, range_with_len}
 use Rattle.std.proofs.lemmas.Bool.{and_parts, and_from, eqb-true, eq-eqb}
 use Rattle.std.proofs.lemmas.Nat.{div-add-mod', div-mul-add, mod-mul-add, mod_below}
@@ -87,7 +87,12 @@ place-same f rows per n way row position a b c =
     ap (λ w. f (record { way = w; row = row; position = position })) a ∙ ap (λ r. f (record { way = n / per / rows; row = r; position = position })) b
     ∙ ap (λ p. f (record { way = n / per / rows; row = n / per % rows; position = p })) c
 
--- a cell stands where the bytes that were read are those of its key, and it is a candidate of them
-pub cell-stands : (seed first per d size : ℕ) (key : CellNumber → ℕ) (n : CellNumber) (shown read : List ℕ) (b : Bool) → b ≡ is_candidate seed first per d shown n.cell → shown ≡ read
-    → read ≡ bytes_of size (key n) → stands_there seed first per d size key n ≡ b
-cell-stands seed first per d size key n shown read b h same is = sym (h ∙ ap (λ (ks : List ℕ). is_candidate seed first per d ks n.cell) (same ∙ is))
+-- a cell stands where the bytes that were read are those of its key, and their row in its way is its own
+pub cell-stands : (seed first per d size : ℕ) (key : CellNumber → ℕ) (n : CellNumber) (bytes : List ℕ) (way row : ℕ) (b : Bool) → 0 < per → 0 < d → way < 4
+    → way ≡ n.cell / per / (1024 * d) → row ≡ n.cell / per % (1024 * d) → bytes ≡ bytes_of size (key n) → b ≡ eqb (hash_row seed (first + way) bytes (1024 * d)) row
+    → stands_there seed first per d size key n ≡ b
+cell-stands seed first per d size key n bytes way row b lp ld four is_way is_row is found =
+    let is_at : List ℕ → ℕ → ℕ → Bool = λ bs w r. eqb (hash_row seed (first + w) bs (1024 * d)) r in
+    candidate-row seed first per d (bytes_of size (key n)) n.cell lp ld (subst (λ w. w < 4) is_way four)
+    ∙ ap (is_at (bytes_of size (key n)) (n.cell / per / (1024 * d))) (sym is_row) ∙ ap (λ w. is_at (bytes_of size (key n)) w row) (sym is_way)
+    ∙ ap (λ (bs : List ℕ). is_at bs way row) (sym is) ∙ sym found

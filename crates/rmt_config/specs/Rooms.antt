@@ -52,6 +52,10 @@ rooms_for c seed node key =
 
 -- ---- an entry in a cell
 
+-- the mask of a test, or its value
+abbrev pub mask_or_value : Bool → Test → ℕ
+mask_or_value mask test = if mask then test.mask else test.value
+
 -- values of these widths as one number, the first highest
 abbrev pub side_by_side : List ℕ → List ℕ → ℕ
 side_by_side [] vs = 0

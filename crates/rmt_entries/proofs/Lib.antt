@@ -1,5 +1,6 @@
 mod Examples
 pub mod GatherLaws
+mod KeySetExamples
 pub mod KeySetLaws
 pub mod LawKeys
 pub mod LawLines

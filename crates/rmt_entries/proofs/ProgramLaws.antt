@@ -17,19 +17,12 @@ use Rattle.rmt_ast.specs.declared.program.What.TheVariants.{Apply, Gate}
 use Rattle.rmt_ast.specs.EntryLists.{Terms, params_of, terms_at, terms_of}
 use Rattle.rmt_ast.specs.State.{width_of}
 use Rattle.rmt_ast.specs.WellFormed.{IsProgram, IsTable, IsAction, IsWidth}
+use Rattle.rmt_ast.proofs.WellFormedLemmas.{narrow_field}
 use Rattle.rmt_entries.specs.Reads.{node_terms}
 use Rattle.rmt_entries.specs.LinesSoFar.{IsAppliedBy, IsBelow, IsReadable}
 use Rattle.rmt_entries.specs.Tables.{AppliedTable, action_name, applied_table, applied_tables, table_at, table_of, tables_from}
 use Rattle.rmt_entries.proofs.LawKeys.{HasParams}
 use Rattle.rmt_entries.specs.Taken.{AreNarrow}
-
--- a width of a program's field is at most 128
-narrow_field : (p : Program) → IsProgram p → (f : ℕ) → width_of p f ≤ 128
-narrow_field p h f = by (slice_get p.fields f) refl
-  where
-    by : (o : Option Field) → slice_get p.fields f ≡ o → unwrap_or (option_map (λ (x : Field). x.width) o) 0 ≤ 128
-    by None e = omega arith
-    by (Some x) e = (All-slice_get (λ (x : Field). IsWidth x.width) p.fields f x h.fields.widths e).1
 
 narrow_params : (p : Program) → IsProgram p → (a : ℕ) → AreNarrow (params_of p a)
 narrow_params p h a = by (slice_get p.actions a) refl

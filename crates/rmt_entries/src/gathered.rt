@@ -25,6 +25,8 @@ pub struct Gathered {
     pub keys: KeySet,
     /// How many there are.
     pub number: u32,
+    /// What the last of them shares with no other one, whose memory is taken again for the next.
+    key: Vec<u128>,
 }
 
 impl Gathered {
@@ -41,6 +43,7 @@ impl Gathered {
             lists,
             keys: KeySet::new(alloc, places)?,
             number: 0,
+            key: Vec::new(alloc),
         })
     }
 
@@ -48,7 +51,6 @@ impl Gathered {
     /// where the table has as many entries as its size; after a fault nothing is known of the entries.
     pub fn admit(
         &mut self,
-        alloc: Global,
         table: &NamedTable<'_>,
         entry: Entry,
         line: u32,
@@ -65,7 +67,7 @@ impl Gathered {
             Gathers terms es self.old → IsAppliedBy terms (seen_table table.now) →
             admitted es (Ok (record { table = seen_table table.now; entry = entry })) ≡ Err code)) }
     {
-        if see_key(alloc, &mut self.keys, table.kind, &entry)? {
+        if see_key(&mut self.keys, &mut self.key, table.kind, &entry)? {
             return Err(EntryFault::At { code: 6, line });
         }
         let node = entry.table as usize;
@@ -78,9 +80,14 @@ impl Gathered {
     }
 }
 
-/// Sees the key of an entry of a table of this kind, and says whether it was seen before; those of other than exact
-/// and prefix tables never are. The only fault is want of memory.
-fn see_key(alloc: Global, keys: &mut KeySet, kind: Kind, entry: &Entry) -> Result<bool, AllocError>
+/// Sees the key of an entry of a table of this kind, which it may put into `key`, and says whether it was seen before;
+/// those of other than exact and prefix tables never are. The only fault is want of memory.
+fn see_key(
+    keys: &mut KeySet,
+    key: &mut Vec<u128>,
+    kind: Kind,
+    entry: &Entry,
+) -> Result<bool, AllocError>
     ensures again { IfOk result (λ again. (terms : List (Option Terms)) (es : List Entry) → Knows terms es keys.old →
         is_once terms entry.now.table ≡ has_keys_once kind → again ≡ (has_keys_once kind && is_repeated es entry.now)) }
     ensures seen { IfOk result (λ again. (terms : List (Option Terms)) (es : List Entry) → Knows terms es keys.old →
@@ -89,7 +96,7 @@ fn see_key(alloc: Global, keys: &mut KeySet, kind: Kind, entry: &Entry) -> Resul
     if !has_keys_once(kind) {
         return Ok(false);
     }
-    let key = identity(alloc, entry)?;
+    put_identity(key, entry)?;
     let is_new = keys.insert(key)?;
     Ok(!is_new)
 }
@@ -106,15 +113,16 @@ fn has_keys_once(kind: Kind) -> bool
     }
 }
 
-/// What no two entries of an exact or a prefix table share. The only fault is want of memory.
-fn identity(alloc: Global, entry: &Entry) -> Result<Vec<u128>, AllocError>
-    ensures { IfOk result (λ key. key.items ≡ identity entry.now) }
+/// Puts what no two entries of an exact or a prefix table share in place of what a vector has. The only fault is want of
+/// memory.
+fn put_identity(key: &mut Vec<u128>, entry: &Entry) -> Result<(), AllocError>
+    ensures { OnOk result (key.new.items ≡ identity entry.now) }
 {
-    let mut key = Vec::with_capacity(alloc, entry.tests.len().saturating_add(2))?;
+    key.clear();
     key.push(u128::from(entry.table))?;
     key.push(u128::from(entry.rank))?;
     for test in entry.tests.as_slice() {
         key.push(test.value)?;
     }
-    Ok(key)
+    Ok(())
 }

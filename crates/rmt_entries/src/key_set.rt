@@ -57,9 +57,9 @@ impl KeySet {
 
     /// Adds a list, and answers whether it is new. The only fault is want of memory, which more numbers than have 32-bit
     /// places are taken for; then nothing is known of the set.
-    pub fn insert(&mut self, key: Vec<u128>) -> Result<bool, AllocError>
-        ensures added { IfOk result (λ is_new. is_new ≡ not (has self.old key)) }
-        ensures updates { OnOk result ((q : Vec ℕ Global) → has self.new q ≡ cond (bytes_eq key.items q.items) true (has self.old q)) }
+    pub fn insert(&mut self, key: &Vec<u128>) -> Result<bool, AllocError>
+        ensures added { IfOk result (λ is_new. is_new ≡ not (has self.old key.now)) }
+        ensures updates { OnOk result ((q : Vec ℕ Global) → has self.new q ≡ cond (bytes_eq key.now.items q.items) true (has self.old q)) }
     {
         match self.spot_of(key.as_slice()) {
             Spot::Free(place) => {
@@ -72,7 +72,10 @@ impl KeySet {
                 Ok(true)
             }
             Spot::Held => Ok(false),
-            Spot::Crowded => Ok(self.crowded.insert(key)?),
+            Spot::Crowded => {
+                let copy = copy_of(key)?;
+                Ok(self.crowded.insert(copy)?)
+            }
         }
     }
 
@@ -151,6 +154,14 @@ pub fn put_list(held: &mut Vec<u128>, key: &[u128]) -> Result<(), AllocError>
 {
     held.push(key.len() as u128)?;
     held.extend_from_slice(key)
+}
+
+/// A copy of a list. The only fault is want of memory.
+fn copy_of(key: &Vec<u128>) -> Result<Vec<u128>, AllocError>
+    ensures { IfOk result (λ copy. copy.items ≡ key.now.items) }
+{
+    let copy = key.clone()?;
+    Ok(copy)
 }
 
 /// Whether a list is the one that stands behind its length at a place.

@@ -86,5 +86,5 @@ fn take_line(
     let mut words = Words::of(line);
     let table = take_table(tables, &mut words, number)?;
     let entry = read_entry(alloc, table, gathered.number, &mut words, number)?;
-    gathered.admit(alloc, table, entry, number)
+    gathered.admit(table, entry, number)
 }

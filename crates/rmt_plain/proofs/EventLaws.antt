@@ -15,7 +15,7 @@ use Rattle.rmt_ast.specs.Events.{Arrives, Commits, Event, Met, answers_of_events
 use Rattle.rmt_plain.specs.declared.plain.Plain.{Plain}
 use Rattle.rmt_plain.specs.Stands.{FollowOn, HasMet, HasTaken, StaysOrIsNew, Stands, counts_met, entries_after, entries_in, meets, numbers_in}
 use Rattle.rmt_bits.proofs.MostLaws.{fold_max}
-use Rattle.rmt_ast.proofs.EntryLaws.{all_without}
+use Rattle.rmt_ast.proofs.EntryLaws.{all_without, next_changed}
 
 -- ---- events behind others, and one more packet or commit
 
@@ -101,10 +101,6 @@ module _ (P : Entry → Type 0) where
       set_entries s.lists e.table (list_of s.lists e.table ++ own ∷ []) all
       (All-append P (list_of s.lists e.table) (own ∷ []) (list_entries s.lists e.table all) (All-cons P own [] (next own refl) (All-nil P)))
   changed_entries s (Removes node key) all next = set_entries s.lists node (without key (list_of s.lists node)) all (all_without P key (list_of s.lists node) (list_entries s.lists node all))
-
-next_changed : (s : Installed) (change : Change) → s.next ≤ (changed s change).next
-next_changed s (Adds e) = omega arith
-next_changed s (Removes node key) = omega arith
 
 next_committed : (s : Installed) (changes : List Change) → s.next ≤ (committed s changes).next
 next_committed s [] = omega arith

@@ -1,5 +1,5 @@
 -- Tests and arguments of entries side by side, as one number: where each has its place, and the steps that put one more.
-use Rattle.std.proofs.Common.{◌≡◌, ℕ, zero, suc, ◌+◌, ◌-◌, ◌*◌, ◌/◌, ◌%◌, ◌^◌, ◌<◌, ◌≤◌, List, [], ◌∷◌, ◌++◌, length, get_or, take, drop, refl, sym, ap, ◌∙◌, subst, arith}
+use Rattle.std.proofs.Common.{◌≡◌, Bool, true, false, ℕ, zero, suc, ◌+◌, ◌-◌, ◌*◌, ◌/◌, ◌%◌, ◌^◌, ◌<◌, ◌≤◌, List, [], ◌∷◌, ◌++◌, length, get_or, take, drop, refl, sym, ap, ◌∙◌, subst, arith}
 use Rattle.std.specs.Prelude.{slice_index, sum}
 use Rattle.std.specs.List.{AllZip}
 use Rattle.std.proofs.lemmas.List.{length-take-le, take_all, take_more}
@@ -12,7 +12,7 @@ use Rattle.rmt_bits.specs.Bits.{deposit}
 use Rattle.rmt_bits.proofs.BitLaws.{deposit-multiple, parts-lt}
 use Rattle.rmt_ast.specs.EntryLists.{IsWhole}
 use Rattle.rmt_ast.specs.WellFormed.{Fits, IsTest}
-use Rattle.rmt_config.specs.Rooms.{args_as_one, tests_as_one}
+use Rattle.rmt_config.specs.Rooms.{args_as_one, mask_or_value, tests_as_one}
 use Rattle.rmt_refine.specs.Types.{Test}
 use Rattle.rmt_pack.proofs.TcamLaws.{sum-drop}
 
@@ -30,6 +30,11 @@ pub next_place : (ws : List ℕ) (i w first from : ℕ) → i < length ws → fr
 next_place ws i w first from lt place = let more = sum_by_more (λ x. x) ws i w lt in omega (arith, more, place)
 
 -- ---- tests, the first one highest
+
+-- the mask and the value of a test fit its width
+pub part_fits : (mask : Bool) (w : ℕ) (t : Test) → IsTest w t → mask_or_value mask t < 2 ^ w
+part_fits true w t fit = fit.mask_fits
+part_fits false w t fit = fit.value_fits
 
 module _ (part : Test → ℕ) where
   abbrev values : List ℕ → List Test → ℕ

@@ -22,7 +22,7 @@ use Rattle.rmt_config.specs.Rooms.{args_as_one, tests_as_one}
 use Rattle.rmt_config.specs.RunCells.{written_mask}
 use Rattle.rmt_update.specs.declared.book.kept.Kept.{Kept}
 use Rattle.rmt_update.specs.Coming.{KeepsEntry}
-use Rattle.rmt_update.specs.Encoded.{part_of}
+use Rattle.rmt_config.specs.Rooms.{mask_or_value}
 use Rattle.rmt_update.specs.Told.{is_whole, told_entry}
 use Rattle.rmt_update.proofs.NamedLaws.{params-at}
 use Rattle.rmt_refine.proofs.SpelledFieldLaws.{tests_spelled}
@@ -44,7 +44,7 @@ pub own-params : (t : TableName) (e : Entry) (a : ActionName) → slice_get t.ac
 own-params t e a at = get_or_from_slice_get (map widths t.actions) e.action a.params [] (slice_get-map widths t.actions e.action ∙ ap (option_map widths) at)
 
 -- the whole mask of an exact entry
-pub mask-whole : (t : TableName) (e : Entry) → IsEntry t.node (terms_of_name t) e → t.kind ≡ kind.Exact → 2 ^ sum t.keys - 1 ≡ tests_as_one (part_of true) t.keys e.tests
+pub mask-whole : (t : TableName) (e : Entry) → IsEntry t.node (terms_of_name t) e → t.kind ≡ kind.Exact → 2 ^ sum t.keys - 1 ≡ tests_as_one (mask_or_value true) t.keys e.tests
 mask-whole t e fit is = sym (whole-mask t.keys e.tests (by t.kind is fit.rank))
   where
     by : (k : Kind) → k ≡ kind.Exact → HasRank k t.keys e → AllZip IsWhole t.keys e.tests
@@ -69,13 +69,13 @@ mask-written kind.Ternary (Ternary d ks rs cs) bits mask h = refl
 -- what keeps an entry
 module _ (t : TableName) (first cell visible : ℕ) (e : Entry) (k : Kept) (fit : IsEntry t.node (terms_of_name t) e) (low : visible < 4)
     (at : k.cell ≡ cell) (seen : k.visible ≡ visible) (number : k.number ≡ e.number) (rank : k.rank ≡ e.rank) (code : k.code ≡ first + e.action)
-    (key : number_of k.key.items ≡ tests_as_one (part_of false) t.keys e.tests)
-    (mask : (if is_whole t.kind then 2 ^ sum t.keys - 1 else number_of k.mask.items) ≡ tests_as_one (part_of true) t.keys e.tests)
+    (key : number_of k.key.items ≡ tests_as_one (mask_or_value false) t.keys e.tests)
+    (mask : (if is_whole t.kind then 2 ^ sum t.keys - 1 else number_of k.mask.items) ≡ tests_as_one (mask_or_value true) t.keys e.tests)
     (held : number_of k.held.items ≡ args_as_one (slice_index_or (terms_of_name t).params e.action []) e.args) where
   told-tests : tests_of_key t.keys (number_of k.key.items) (if is_whole t.kind then 2 ^ sum t.keys - 1 else number_of k.mask.items) ≡ e.tests
   told-tests =
       ap (λ n. tests_of_key t.keys n (if is_whole t.kind then 2 ^ sum t.keys - 1 else number_of k.mask.items)) key
-      ∙ ap (tests_of_key t.keys (tests_as_one (part_of false) t.keys e.tests)) mask ∙ tests_spelled t.keys e.tests fit.tests
+      ∙ ap (tests_of_key t.keys (tests_as_one (mask_or_value false) t.keys e.tests)) mask ∙ tests_spelled t.keys e.tests fit.tests
 
   told-args : args_of_data (params_in t (k.code - first)) (number_of k.held.items) ≡ e.args
   told-args =

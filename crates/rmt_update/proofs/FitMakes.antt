@@ -46,7 +46,7 @@ use Rattle.rmt_refine.proofs.StageLaws.{first_code_next}
 use Rattle.rmt_refine.proofs.LayoutLaws.{memory_formed}
 use Rattle.rmt_refine.proofs.FilledLaws.{room_there}
 use Rattle.rmt_refine.proofs.StandLaws.{at_is, code_at}
-use Rattle.rmt_update.specs.Encoded.{part_of}
+use Rattle.rmt_config.specs.Rooms.{mask_or_value}
 use Rattle.rmt_update.specs.Fitting.{AreFit, HasEntry, IsFitting, MaskFits}
 use Rattle.rmt_update.proofs.BookLaws.{TableFacts, names-fit, table-facts}
 use Rattle.rmt_update.proofs.ComingLaws.{mask-whole, own-args, own-params, some-action}
@@ -229,8 +229,8 @@ module _ (c : Config) (names : Names) (formed : Formed c) (limits : IsWithinLimi
                 visible_small = few;
                 code_small = omega (arith, low, lt, actions);
                 key = subst (λ b. key_number (terms_of_name x) e < 2 ^ b) bits (tests-lt false x.keys e.tests is.tests);
-                mask = subst (λ b. MaskFits b p.slot.memory (tests_as_one (part_of true) x.keys e.tests)) bits
-                    (mask-fits x.kind p.slot.memory (sum x.keys) (tests_as_one (part_of true) x.keys e.tests) facts.kind (λ exact. sym (mask-whole x e is exact)) (tests-lt true x.keys e.tests is.tests));
+                mask = subst (λ b. MaskFits b p.slot.memory (tests_as_one (mask_or_value true) x.keys e.tests)) bits
+                    (mask-fits x.kind p.slot.memory (sum x.keys) (tests_as_one (mask_or_value true) x.keys e.tests) facts.kind (λ exact. sym (mask-whole x e is exact)) (tests-lt true x.keys e.tests is.tests));
                 held = omega (arith, arguments, more);
               }
             where

@@ -19,7 +19,7 @@ use Rattle.rmt_ast.specs.Answers.{entry_numbers}
 use Rattle.rmt_ast.specs.Changes.{Adds, Change, Installed, Removes, at_first, changed, committed, list_of, without}
 use Rattle.rmt_ast.specs.EntryLists.{AreEntriesAt, IsEntry, Terms}
 use Rattle.rmt_ast.specs.NameRules.{AreEntriesOf, names_are_formed, terms_named}
-use Rattle.rmt_ast.proofs.EntryLaws.{all_without}
+use Rattle.rmt_ast.proofs.EntryLaws.{all_without, next_changed}
 use Rattle.rmt_entries.specs.declared.named.EntryName.{EntryName}
 use Rattle.rmt_entries.specs.Entries.{has_keys_once}
 use Rattle.rmt_entries.specs.NamedLines.{IsNamedEntry, named_entry, named_key}
@@ -68,10 +68,6 @@ number_changed P s (Adds e) all next =
     (All-append (λ (x : Entry). P x.number) es (own ∷ []) (numbers_of P s.lists e.table all) (All-cons (λ (x : Entry). P x.number) own [] next (All-nil (λ (x : Entry). P x.number))))
 number_changed P s (Removes node key) all next =
     numbers_set P s.lists node (without key (list_of s.lists node)) all (all_without (λ (x : Entry). P x.number) key (list_of s.lists node) (numbers_of P s.lists node all))
-
-next_changed : (s : Installed) (change : Change) → s.next ≤ (changed s change).next
-next_changed s (Adds e) = omega arith
-next_changed s (Removes node key) = omega arith
 
 -- and behind all changes of a commit
 numbers_committed : (P : ℕ → Type 0) (s : Installed) (changes : List Change) → All P (flat_map entry_numbers s.lists) → ((n : ℕ) → s.next ≤ n → P n) → All P (flat_map entry_numbers (committed s changes).lists)

@@ -1,15 +1,15 @@
 -- The cells of a book's tables, one after another, are those in which something is kept.
-use Rattle.std.proofs.Common.{◌≡◌, ℕ, zero, suc, ◌+◌, Bool, true, false, cond, List, [], ◌∷◌, ◌++◌, append_assoc, Option, Some, None, Vec, map, take, refl, sym, ap, ◌∙◌, subst, inl, inr, arith}
+use Rattle.std.proofs.Common.{◌≡◌, ℕ, zero, suc, ◌+◌, Bool, true, false, cond, List, [], ◌∷◌, ◌++◌, append_assoc, Option, Some, None, map, take, refl, sym, ap, ◌∙◌, subst, inl, inr, arith}
 use Rattle.std.specs.Prelude.{All, Contains, IsSome, option_and_then, slice_get}
-use Rattle.std.specs.Global.{Global}
 use Rattle.std.specs.Borrow.{Bor}
-use Rattle.std.specs.BTreeMap.{BTreeMap, IsOrdered, get, is_at}
+use Rattle.std.specs.BTreeMap.{IsOrdered, get, is_at}
 use Rattle.std.specs.Map.{lookup}
 use Rattle.std.specs.Map.Iter.{deref_pair}
-use Rattle.std.specs.Ordering.{nat_cmp}
+use Rattle.std.specs.Ordering.{eq_by_cmp, nat_cmp}
 use Rattle.std.proofs.lemmas.Bool.{false≢true}
 use Rattle.std.proofs.lemmas.List.{append-nil, map-append}
 use Rattle.std.proofs.lemmas.List.Elements.{All-nil, All-push, All-weaker, Contains-append_cases, Contains-append_left, Contains-append_right, Contains-push}
+use Rattle.std.proofs.lemmas.Map.{update_all_push}
 use Rattle.std.proofs.lemmas.Option.{none-some, same_Some}
 use Rattle.rmt_bits.proofs.AllLaws.{All-slice_get}
 use Rattle.rmt_bits.proofs.MemberLaws.{Contains-first, Contains-later, Contains-map, Contains-split, Contains-unmap}
@@ -21,7 +21,7 @@ use Rattle.rmt_update.specs.declared.book.table.TableCells.{TableCells}
 use Rattle.rmt_update.specs.BookIndex.{AreApart, FindsCells, IsRecentAt}
 use Rattle.rmt_update.specs.BookSpots.{kept_at, kept_in}
 use Rattle.rmt_update.specs.Come.{AreOrdered}
-use Rattle.rmt_update.specs.IndexCells.{HasCells, all_cells, numbered, part_cells, table_cells}
+use Rattle.rmt_update.specs.IndexCells.{HasCells, all_cells, found_in, numbered, part_cells, table_cells}
 use Rattle.rmt_update.specs.Recent.{is_recent}
 use Rattle.rmt_update.proofs.PairsTold.{cell-there}
 use Rattle.rmt_update.proofs.RowIndexLaws.{own-number, same-number}
@@ -108,16 +108,16 @@ module _ (ts : List TableCells) (ordered : All AreOrdered ts) where
       by (Some t) at e = in-table t at (slice_get t.parts.items s.at.part) refl e
 
   -- an index with all of them finds them
-  pub all-found : (ix : BookIndex) → AreApart ts → HasCells (all_cells ts) ix → FindsCells ts ix
-  all-found ix apart h = record {
-    spots = λ n s there. let d = h.spots n s there in (d.0, cell-kept s d.0 d.1, d.2);
-    all = λ s k is. one s k is (get nat_cmp ix.spots k.number) refl (h.all s k (kept-cell s k is));
+  pub all-found : (ix : BookIndex) (find : ℕ → Option BookSpot) → AreApart ts → ((n : ℕ) → get nat_cmp ix.spots n ≡ find n) → HasCells (all_cells ts) find ix.recent.items → FindsCells ts ix
+  all-found ix find apart same h = record {
+    spots = λ n s there. let d = h.spots n s (sym (same n) ∙ there) in (d.0, cell-kept s d.0 d.1, d.2);
+    all = λ s k is. same k.number ∙ one s k is (find k.number) refl (h.all s k (kept-cell s k is));
     each =
         All-weaker (λ s. (k : Kept) × Contains (all_cells ts) (s, k) × (is_recent k ≡ true)) (IsRecentAt ts) (λ s d. (d.0, cell-kept s d.0 d.1, d.2)) ix.recent.items h.each;
     recent = λ s k is off. h.recent s k (kept-cell s k is) off;
   }
     where
-      one : (s : BookSpot) (k : Kept) → kept_at ts s ≡ Some k → (o : Option BookSpot) → get nat_cmp ix.spots k.number ≡ o → IsSome o → get nat_cmp ix.spots k.number ≡ Some s
+      one : (s : BookSpot) (k : Kept) → kept_at ts s ≡ Some k → (o : Option BookSpot) → find k.number ≡ o → IsSome o → find k.number ≡ Some s
       one s k is None at some = absurd (false≢true some)
       one s k is (Some z) at some =
           let d = h.spots k.number z at in
@@ -128,46 +128,41 @@ module _ (ts : List TableCells) (ordered : All AreOrdered ts) where
 abbrev Has : List (BookSpot × Kept) → BookSpot → Kept → Type 0
 Has cells s k = Contains cells (s, k)
 
-pub cells-none : (ix : BookIndex) → ix.spots.entries ≡ [] → ix.recent.items ≡ [] → HasCells [] ix
-cells-none ix spots recent = record {
-  spots = λ n s there. absurd (none-some s (sym (ap (lookup (is_at (nat_cmp n))) spots) ∙ there));
+pub cells-none : (spots : List (ℕ × BookSpot)) (listed : List BookSpot) → spots ≡ [] → listed ≡ [] → HasCells [] (found_in spots) listed
+cells-none spots listed empty none = record {
+  spots = λ n s there. absurd (none-some s (sym (ap (λ (xs : List (ℕ × BookSpot)). found_in xs n) empty) ∙ there));
   all = λ s k there. absurd (let lt = there.1 in omega (arith, lt));
-  each = subst (All (λ s. (k : Kept) × Contains {X = BookSpot × Kept} [] (s, k) × (is_recent k ≡ true))) (sym recent) (All-nil (λ (s : BookSpot). (k : Kept) × Contains {X = BookSpot × Kept} [] (s, k) × (is_recent k ≡ true)));
+  each = subst (All (λ s. (k : Kept) × Contains {X = BookSpot × Kept} [] (s, k) × (is_recent k ≡ true))) (sym none) (All-nil (λ (s : BookSpot). (k : Kept) × Contains {X = BookSpot × Kept} [] (s, k) × (is_recent k ≡ true)));
   recent = λ s k there. absurd (let lt = there.1 in omega (arith, lt));
 }
 
-pub cells-same : (cells : List (BookSpot × Kept)) (a b : BookIndex) → b.spots ≡ a.spots → b.recent ≡ a.recent → HasCells cells a → HasCells cells b
-cells-same cells a b spots recent h = record {
-  spots = λ n s there. h.spots n s (ap (λ (m : BTreeMap ℕ BookSpot). get nat_cmp m n) (sym spots) ∙ there);
-  all = λ s k there. subst (λ (m : BTreeMap ℕ BookSpot). IsSome (get nat_cmp m k.number)) (sym spots) (h.all s k there);
-  each = subst (λ (v : Vec BookSpot Global). All (λ s. (k : Kept) × Contains cells (s, k) × (is_recent k ≡ true)) v.items) (sym recent) h.each;
-  recent = λ s k there off. subst (λ (v : Vec BookSpot Global). Contains v.items s) (sym recent) (h.recent s k there off);
-}
-
-module _ (cells : List (BookSpot × Kept)) (s : BookSpot) (k : Kept) (old new : BookIndex) (h : HasCells cells old) (up : (n : ℕ) → get nat_cmp new.spots n ≡ cond (is_at (nat_cmp k.number) n) (Some s) (get nat_cmp old.spots n)) where
+module _ (cells : List (BookSpot × Kept)) (s : BookSpot) (k : Kept) (old new : List (ℕ × BookSpot)) (listed : List BookSpot) (h : HasCells cells (found_in old) listed) (put : new ≡ old ++ (k.number, s) ∷ []) where
   abbrev more : List (BookSpot × Kept)
   more = cells ++ (s, k) ∷ []
 
-  spots-more : (n : ℕ) (z : BookSpot) → get nat_cmp new.spots n ≡ Some z → (j : Kept) × Has more z j × (j.number ≡ n)
+  up : (n : ℕ) → found_in new n ≡ cond (is_at (nat_cmp k.number) n) (Some s) (found_in old n)
+  up n = ap (λ (xs : List (ℕ × BookSpot)). found_in xs n) put ∙ sym (update_all_push (eq_by_cmp nat_cmp) (λ _. None) (found_in old) old (k.number, s) n refl)
+
+  spots-more : (n : ℕ) (z : BookSpot) → found_in new n ≡ Some z → (j : Kept) × Has more z j × (j.number ≡ n)
   spots-more n z there = by (is_at (nat_cmp k.number) n) refl (sym (up n) ∙ there)
     where
-      by : (b : Bool) → is_at (nat_cmp k.number) n ≡ b → cond b (Some s) (get nat_cmp old.spots n) ≡ Some z → (j : Kept) × Has more z j × (j.number ≡ n)
+      by : (b : Bool) → is_at (nat_cmp k.number) n ≡ b → cond b (Some s) (found_in old n) ≡ Some z → (j : Kept) × Has more z j × (j.number ≡ n)
       by true at e = (k, subst (λ y. Has more y k) (same_Some s z e) (Contains-push cells (s, k)), same-number k.number n at)
       by false at e = let d = h.spots n z e in (d.0, Contains-append_left cells ((s, k) ∷ []) (z, d.0) d.1, d.2)
 
-  some-more : (n : ℕ) → IsSome (get nat_cmp old.spots n) → IsSome (get nat_cmp new.spots n)
+  some-more : (n : ℕ) → IsSome (found_in old n) → IsSome (found_in new n)
   some-more n some = subst IsSome (sym (up n)) (by (is_at (nat_cmp k.number) n))
     where
-      by : (b : Bool) → IsSome (cond b (Some s) (get nat_cmp old.spots n))
+      by : (b : Bool) → IsSome (cond b (Some s) (found_in old n))
       by true = refl
       by false = some
 
-  all-more : (z : BookSpot) (j : Kept) → Has more z j → IsSome (get nat_cmp new.spots j.number)
+  all-more : (z : BookSpot) (j : Kept) → Has more z j → IsSome (found_in new j.number)
   all-more z j there = elim (Contains-append_cases cells ((s, k) ∷ []) (z, j) there) [
     | inl before ↦ some-more j.number (h.all z j before)
     | inr last ↦
         let same : k ≡ j = ap (λ (p : BookSpot × Kept). p.1) (last-one last) in
-        subst (λ (i : Kept). IsSome (get nat_cmp new.spots i.number)) same (subst IsSome (sym (up k.number ∙ ap (λ b. cond b (Some s) (get nat_cmp old.spots k.number)) (own-number k.number))) refl)
+        subst (λ (i : Kept). IsSome (found_in new i.number)) same (subst IsSome (sym (up k.number ∙ ap (λ b. cond b (Some s) (found_in old k.number)) (own-number k.number))) refl)
   ]
     where
       last-one : Contains {X = BookSpot × Kept} ((s, k) ∷ []) (z, j) → ◌≡◌ {A = BookSpot × Kept} (s, k) (z, j)
@@ -177,32 +172,32 @@ module _ (cells : List (BookSpot × Kept)) (s : BookSpot) (k : Kept) (old new : 
       ]
 
   -- one with both visible bits
-  pub cells-more : is_recent k ≡ false → new.recent.items ≡ old.recent.items → HasCells more new
-  cells-more both same = record {
+  pub cells-more : is_recent k ≡ false → HasCells more (found_in new) listed
+  cells-more both = record {
     spots = spots-more;
     all = all-more;
-    each = subst (All (λ z. (j : Kept) × Has more z j × (is_recent j ≡ true))) (sym same) (All-weaker (λ z. (j : Kept) × Contains cells (z, j) × (is_recent j ≡ true)) (λ z. (j : Kept) × Contains (cells ++ (s, k) ∷ []) (z, j) × (is_recent j ≡ true)) (λ z d. (d.0, Contains-append_left cells ((s, k) ∷ []) (z, d.0) d.1, d.2)) old.recent.items h.each);
-    recent = λ z j there off. subst (λ zs. Contains zs z) (sym same) (elim (Contains-append_cases cells ((s, k) ∷ []) (z, j) there) [
+    each = All-weaker (λ z. (j : Kept) × Contains cells (z, j) × (is_recent j ≡ true)) (λ z. (j : Kept) × Contains (cells ++ (s, k) ∷ []) (z, j) × (is_recent j ≡ true)) (λ z d. (d.0, Contains-append_left cells ((s, k) ∷ []) (z, d.0) d.1, d.2)) listed h.each;
+    recent = λ z j there off. elim (Contains-append_cases cells ((s, k) ∷ []) (z, j) there) [
       | inl before ↦ h.recent z j before off
       | inr last ↦ elim (Contains-split {X = BookSpot × Kept} (s, k) [] (z, j) last) [
         | inl e ↦ absurd (false≢true (sym both ∙ ap (λ (p : BookSpot × Kept). is_recent p.1) e ∙ off))
         | inr none ↦ absurd (let lt = none.1 in omega (arith, lt))
       ]
-    ]);
+    ];
   }
 
   -- and one without
-  pub cells-recent : is_recent k ≡ true → new.recent.items ≡ old.recent.items ++ s ∷ [] → HasCells more new
-  cells-recent lacks grown = record {
+  pub cells-recent : (grown : List BookSpot) → is_recent k ≡ true → grown ≡ listed ++ s ∷ [] → HasCells more (found_in new) grown
+  cells-recent grown lacks is = record {
     spots = spots-more;
     all = all-more;
-    each = subst (All (λ z. (j : Kept) × Has more z j × (is_recent j ≡ true))) (sym grown)
-        (All-push (λ z. (j : Kept) × Has more z j × (is_recent j ≡ true)) old.recent.items s
-        (All-weaker (λ z. (j : Kept) × Contains cells (z, j) × (is_recent j ≡ true)) (λ z. (j : Kept) × Contains (cells ++ (s, k) ∷ []) (z, j) × (is_recent j ≡ true)) (λ z d. (d.0, Contains-append_left cells ((s, k) ∷ []) (z, d.0) d.1, d.2)) old.recent.items h.each) (k, Contains-push cells (s, k), lacks));
-    recent = λ z j there off. subst (λ zs. Contains zs z) (sym grown) (elim (Contains-append_cases cells ((s, k) ∷ []) (z, j) there) [
-      | inl before ↦ Contains-append_left old.recent.items (s ∷ []) z (h.recent z j before off)
+    each = subst (All (λ z. (j : Kept) × Has more z j × (is_recent j ≡ true))) (sym is)
+        (All-push (λ z. (j : Kept) × Has more z j × (is_recent j ≡ true)) listed s
+        (All-weaker (λ z. (j : Kept) × Contains cells (z, j) × (is_recent j ≡ true)) (λ z. (j : Kept) × Contains (cells ++ (s, k) ∷ []) (z, j) × (is_recent j ≡ true)) (λ z d. (d.0, Contains-append_left cells ((s, k) ∷ []) (z, d.0) d.1, d.2)) listed h.each) (k, Contains-push cells (s, k), lacks));
+    recent = λ z j there off. subst (λ zs. Contains zs z) (sym is) (elim (Contains-append_cases cells ((s, k) ∷ []) (z, j) there) [
+      | inl before ↦ Contains-append_left listed (s ∷ []) z (h.recent z j before off)
       | inr last ↦ elim (Contains-split {X = BookSpot × Kept} (s, k) [] (z, j) last) [
-        | inl e ↦ subst (λ y. Contains (old.recent.items ++ s ∷ []) y) (ap (λ (p : BookSpot × Kept). p.0) e) (Contains-push old.recent.items s)
+        | inl e ↦ subst (λ y. Contains (listed ++ s ∷ []) y) (ap (λ (p : BookSpot × Kept). p.0) e) (Contains-push listed s)
         | inr none ↦ absurd (let lt = none.1 in omega (arith, lt))
       ]
     ]);

@@ -12,21 +12,21 @@ use Rattle.rmt_config.specs.Rooms.{args_as_one, tests_as_one}
 use Rattle.rmt_pack.proofs.TcamLaws.{masks-fit, side_by_side-lt, values-fit}
 use Rattle.rmt_refine.proofs.ContentLaws.{has_arguments}
 use Rattle.rmt_refine.proofs.SpelledFieldLaws.{args_spelled}
-use Rattle.rmt_update.specs.Encoded.{part_of}
+use Rattle.rmt_config.specs.Rooms.{mask_or_value}
 
 -- numbers side by side are below the power of their widths
-pub tests-lt : (m : Bool) (ws : List ℕ) (ts : List Test) → AllZip IsTest ws ts → tests_as_one (part_of m) ws ts < 2 ^ sum ws
-tests-lt true ws ts all = side_by_side-lt ws (map (part_of true) ts) (masks-fit ws ts all)
-tests-lt false ws ts all = side_by_side-lt ws (map (part_of false) ts) (values-fit ws ts all)
+pub tests-lt : (m : Bool) (ws : List ℕ) (ts : List Test) → AllZip IsTest ws ts → tests_as_one (mask_or_value m) ws ts < 2 ^ sum ws
+tests-lt true ws ts all = side_by_side-lt ws (map (mask_or_value true) ts) (masks-fit ws ts all)
+tests-lt false ws ts all = side_by_side-lt ws (map (mask_or_value false) ts) (values-fit ws ts all)
 
 -- the masks of whole tests are one whole mask
-pub whole-mask : (ws : List ℕ) (ts : List Test) → AllZip IsWhole ws ts → tests_as_one (part_of true) ws ts ≡ 2 ^ sum ws - 1
+pub whole-mask : (ws : List ℕ) (ts : List Test) → AllZip IsWhole ws ts → tests_as_one (mask_or_value true) ws ts ≡ 2 ^ sum ws - 1
 whole-mask [] [] all = refl
 whole-mask [] (t ∷ ts) all = absurd all
 whole-mask (w ∷ ws) [] all = absurd all
 whole-mask (w ∷ ws) (t ∷ ts) all =
     let k = sum ws in
-    let rest = tests_as_one (part_of true) ws ts in
+    let rest = tests_as_one (mask_or_value true) ws ts in
     let ones : t.mask * 2 ^ k + rest ≡ (2 ^ w - 1) * 2 ^ k + (2 ^ k - 1) = ap (λ n. n * 2 ^ k + rest) all.0 ∙ ap (λ n. (2 ^ w - 1) * 2 ^ k + n) (whole-mask ws ts all.1) in
     let size : 2 ^ sum (w ∷ ws) ≡ 2 ^ (w + k) = ap (λ n. 2 ^ n) (sum_by-cons (λ x. x) w ws) in
     let high = high_ones w k in

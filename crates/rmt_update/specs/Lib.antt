@@ -7,7 +7,6 @@ pub mod Come
 pub mod ComeIndex
 pub mod Coming
 pub mod Differences
-pub mod Encoded
 pub mod FirstFull
 pub mod Fitting
 pub mod Following

@@ -17,17 +17,14 @@ use Rattle.rmt_ast.specs.WellFormed.{IsTest}
 use Rattle.rmt_config.specs.Effects.{begin_of}
 use Rattle.rmt_config.specs.Rooms.{tests_as_one}
 use Rattle.rmt_refine.proofs.KeyLaws.{block_eq}
-use Rattle.rmt_verify.specs.Wanted.{part_of}
+use Rattle.rmt_config.specs.Rooms.{mask_or_value}
+use Rattle.rmt_refine.proofs.BesideLaws.{part_fits}
 use Rattle.rmt_config.proofs.RiseLaws.{one_off}
 
 -- ---- tests
 
 abbrev pub one : Bool → List ℕ → List Test → ℕ
-one m ws ts = tests_as_one (part_of m) ws ts
-
-part_fits : (m : Bool) (w : ℕ) (t : Test) → IsTest w t → part_of m t < 2 ^ w
-part_fits true w t fit = fit.mask_fits
-part_fits false w t fit = fit.value_fits
+one m ws ts = tests_as_one (mask_or_value m) ws ts
 
 pub one_lt : (m : Bool) (ws : List ℕ) (ts : List Test) → AllZip IsTest ws ts → one m ws ts < 2 ^ sum ws
 one_lt m [] [] zip = omega arith
@@ -36,8 +33,8 @@ one_lt m (w ∷ ws) [] zip = absurd zip
 one_lt m (w ∷ ws) (t ∷ ts) zip =
     let size : sum (w ∷ ws) ≡ w + sum ws = sum_by-cons (λ n. n) w ws in
     let room : w + sum ws - sum ws ≡ w = omega arith in
-    subst (λ k. part_of m t * 2 ^ sum ws + one m ws ts < 2 ^ k) (sym size)
-    (parts-lt (part_of m t) (one m ws ts) (sum ws) (w + sum ws) (omega arith) (subst (λ k. part_of m t < 2 ^ k) (sym room) (part_fits m w t zip.0)) (one_lt m ws ts zip.1))
+    subst (λ k. mask_or_value m t * 2 ^ sum ws + one m ws ts < 2 ^ k) (sym size)
+    (parts-lt (mask_or_value m t) (one m ws ts) (sum ws) (w + sum ws) (omega arith) (subst (λ k. mask_or_value m t < 2 ^ k) (sym room) (part_fits m w t zip.0)) (one_lt m ws ts zip.1))
 
 zip_drop : {X Y : Type 0} (R : X → Y → Type 0) (xs : List X) (ys : List Y) (i : ℕ) → AllZip R xs ys → AllZip R (drop i xs) (drop i ys)
 zip_drop R xs ys zero zip = zip
@@ -57,7 +54,7 @@ module _ (m : Bool) (ws : List ℕ) (ts : List Test) (n : ℕ) (zip : AllZip IsT
   abbrev left : ℕ → Bool
   left i = left_of m ws ts n i
 
-  pub tests_step : (i : ℕ) (d : Test) → i < length ts → left i ≡ ((slice n (rest (i + 1)) (get_or ws i 0) == part_of m (get_or ts i d)) && left (i + 1))
+  pub tests_step : (i : ℕ) (d : Test) → i < length ts → left i ≡ ((slice n (rest (i + 1)) (get_or ws i 0) == mask_or_value m (get_or ts i d)) && left (i + 1))
   tests_step i d lt =
       let w = get_or ws i 0 in
       let t = get_or ts i d in
@@ -66,10 +63,10 @@ module _ (m : Bool) (ws : List ℕ) (ts : List Test) (n : ℕ) (zip : AllZip IsT
       let long = AllZip-long IsTest ws ts zip in
       let inside : i < length ws = omega (arith, lt, long) in
       let size : rest i ≡ w + r = sum_by-drop_more (λ x. x) ws i 0 inside in
-      let value : one m (drop i ws) (drop i ts) ≡ part_of m t * 2 ^ r + low = ap (λ xs. one m xs (drop i ts)) (one_off ws i 0 inside) ∙ ap (one m (w ∷ drop (i + 1) ws)) (one_off ts i d lt) in
+      let value : one m (drop i ws) (drop i ts) ≡ mask_or_value m t * 2 ^ r + low = ap (λ xs. one m xs (drop i ts)) (one_off ws i 0 inside) ∙ ap (one m (w ∷ drop (i + 1) ws)) (one_off ts i d lt) in
       let split : n % 2 ^ rest i ≡ slice n r w * 2 ^ r + n % 2 ^ r = ap (λ k. n % 2 ^ k) size ∙ mod-pow-add n w r in
       ap (λ a. a == one m (drop i ws) (drop i ts)) split ∙ ap (λ b. (slice n r w * 2 ^ r + n % 2 ^ r) == b) value
-      ∙ block_eq (slice n r w) (part_of m t) (n % 2 ^ r) low r (mod_below n (2 ^ r) (pow_pos r)) (one_lt m (drop (i + 1) ws) (drop (i + 1) ts) (zip_drop IsTest ws ts (i + 1) zip))
+      ∙ block_eq (slice n r w) (mask_or_value m t) (n % 2 ^ r) low r (mod_below n (2 ^ r) (pow_pos r)) (one_lt m (drop (i + 1) ws) (drop (i + 1) ts) (zip_drop IsTest ws ts (i + 1) zip))
 
   pub tests_first : n < 2 ^ sum ws → left 0 ≡ (n == one m ws ts)
   tests_first small = ap (λ k. k == one m ws ts) (mod-eq_of_lt small)

@@ -15,7 +15,8 @@ use Rattle.rmt_ast.specs.declared.program.Kind.TheVariants as kind
 use Rattle.rmt_ast.specs.declared.program.What.TheVariants as what
 use Rattle.rmt_ast.specs.EntryLists.{AreEntries, IsWhole}
 use Rattle.rmt_ast.specs.State.{width_of}
-use Rattle.rmt_ast.specs.WellFormed.{HasKey, IsProgram, IsWidth, bits_of}
+use Rattle.rmt_ast.specs.WellFormed.{HasKey, IsProgram, bits_of}
+use Rattle.rmt_ast.proofs.WellFormedLemmas.{narrow_field}
 use Rattle.rmt_config.specs.declared.config.Unit.TheVariants.{Slot}
 use Rattle.rmt_config.specs.Form.{Formed}
 use Rattle.rmt_config.specs.LaneForm.{bits_of_lanes}
@@ -81,13 +82,6 @@ key_bits p kind.Exact t has = has.key_bits
 key_bits p kind.Prefix t has = has.0.key_bits
 key_bits p kind.Ternary t has = has.key_bits
 
-field_narrow : (p : Program) → IsProgram p → (f : ℕ) → width_of p f ≤ 128
-field_narrow p good f = by (slice_get p.fields f) refl
-  where
-    by : (o : Option Field) → slice_get p.fields f ≡ o → unwrap_or (option_map (λ (x : Field). x.width) o) 0 ≤ 128
-    by None e = omega arith
-    by (Some x) e = (All-slice_get (λ (y : Field). IsWidth y.width) p.fields f x good.fields.widths e).1
-
 -- the key of a table that a node applies is of fields of the program
 pub key_there : (p : Program) (n : ℕ) (t : Table) → IsProgram p → table_at p n ≡ Some t → All (λ f. f < length p.fields) t.key
 key_there p n t good at = key_fields p t.kind t (applied_table p n t good at).key
@@ -100,7 +94,7 @@ table_known p lists c n t es widths good entries formed at list is =
       table = own;
       actions = good.actions;
       widths_are = is;
-      narrow = subst (All (λ w. w ≤ 128)) (sym is) (All-map (λ w. w ≤ 128) (width_of p) t.key (λ i d lt. field_narrow p good (get_or t.key i d)));
+      narrow = subst (All (λ w. w ≤ 128)) (sym is) (All-map (λ w. w ≤ 128) (width_of p) t.key (λ i d lt. narrow_field p good (get_or t.key i d)));
       few = subst (λ (ws : List ℕ). sum ws ≤ 640) (sym is) (key_bits p t.kind t own.key);
       entries = table_entries p lists n t es entries at list;
       memory = memory_formed c formed;

@@ -18,33 +18,6 @@ use Rattle.rmt_verify.specs.CellsHeld.{KeepsOrder}
 abbrev pub Rise : List Entry → Type 0
 Rise es = AllPairs (λ (a b : Entry). a.number < b.number) es
 
-higher : (a b x : ℕ) → a ≤ b → ordering_index (nat_cmp a x) ≤ ordering_index (nat_cmp b x)
-higher a b x le = grind (arith, tests)
-
-less : (a x : ℕ) → nat_cmp a x ≡ Less → a < x
-less a x h = grind (arith, tests)
-
-greater : (a x : ℕ) → nat_cmp a x ≡ Greater → x < a
-greater a x h = grind (arith, tests)
-
-rising_le : (es : List Entry) → Rise es → (a b : ℕ) (d : Entry) → a ≤ b → b < length es → (get_or es a d).number ≤ (get_or es b d).number
-rising_le es rise a b d le lt = elim (cases_order a b) [
-  | inl e ↦ subst (λ j. (get_or es a d).number ≤ (get_or es j d).number) e (omega arith)
-  | inr more ↦ elim more [
-    | inl low ↦ (let up = rise a b d low lt in omega (arith, up))
-    | inr high ↦ absurd (omega (arith, le, high))
-  ]
-]
-
--- a search that finds nothing says that no entry has the number
-pub none_numbered : (es : List Entry) (n i : ℕ) → Rise es → IsBinarySearchResult (λ (e : Entry). nat_cmp e.number n) es (Err i) → All (λ (e : Entry). e.number ≢ n) es
-none_numbered es n i rise h k d lt =
-    let parts = h (λ a b e le inside. higher (get_or es a e).number (get_or es b e).number n (rising_le es rise a b e le inside)) in
-    elim (cases_lt k i) [
-      | inl low ↦ λ e. absurd (let up = less (get_or es k d).number n (parts.0 k d (omega arith) low) in omega (arith, up, e))
-      | inr high ↦ λ e. absurd (let up = greater (get_or es k d).number n (parts.1 k d high lt) in omega (arith, up, e))
-    ]
-
 -- two entries of one number are one
 pub one_numbered : (es : List Entry) → Rise es → (e f : Entry) → Contains es e → Contains es f → e.number ≡ f.number → e ≡ f
 one_numbered es rise e f in_e in_f same = elim (cases_order in_e.0 in_f.0) [

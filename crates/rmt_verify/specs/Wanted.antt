@@ -10,10 +10,6 @@ use Rattle.rmt_config.specs.Rooms.{tests_as_one}
 use Rattle.rmt_config.specs.declared.config.TcamRow.{TcamRow}
 use Rattle.rmt_pack.specs.declared.tcam.TcamWord.{TcamWord}
 
--- the mask of a test, or its value
-abbrev pub part_of : Bool → Test → ℕ
-part_of mask t = if mask then t.mask else t.value
-
 -- what a row of a TCAM block compares
 abbrev pub word_in : List TcamRow → ℕ → ℕ → TcamWord
 word_in rows row block = record { value = tcam_row (λ t. t.value) rows block row; mask = tcam_row (λ t. t.mask) rows block row }

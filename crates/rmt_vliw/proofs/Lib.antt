@@ -7,4 +7,5 @@ pub mod EffectLaws
 pub mod FormedLaws
 pub mod GivenLaws
 pub mod InstructionLaws
+pub mod AssignedLaws
 mod Examples

@@ -17,6 +17,7 @@ use crate::memory::SlotMemory;
 use crate::memory::changes::set_run;
 use crate::memory::keys::Keys;
 use crate::memory::listed::runs_of;
+use crate::memory::marks::{Marks, marks_of};
 use crate::memory::runs::{Runs, no_runs, run_at, zeros};
 use crate::memory::ternary::sliced_of;
 use crate::memory::ways::Ways;
@@ -42,6 +43,9 @@ pub fn without(alloc: Global) -> SlotMemory
             size: 1,
             count: 0,
             bytes: Vec::new(alloc),
+        },
+        marks: Marks {
+            words: Vec::new(alloc),
         },
         numbers: Vec::new(alloc),
     }
@@ -163,6 +167,7 @@ pub fn lay_exact(
     let held = exact_data(alloc, rows, numbers, per, quanta, slot.held, records)?;
     let count = 4096 * quanta as usize * per as usize;
     let cells = cells_of(alloc, count, numbers, &heads, &found, &held)?;
+    let marks = marks_of(alloc, &cells, found.size)?;
     let entries = numbers_by_cell(alloc, slot.counted, numbers, count)?;
     let ways = Ways {
         first_way,
@@ -175,6 +180,7 @@ pub fn lay_exact(
         stored: found.size,
         held_size: held.size,
         cells,
+        marks,
         numbers: entries,
     })
 }
@@ -213,6 +219,7 @@ pub fn lay_ternary(
     )?;
     let none = no_runs(alloc, numbers.len());
     let cells = cells_of(alloc, count, numbers, &heads, &none, &held)?;
+    let marks = marks_of(alloc, &cells, 0)?;
     let entries = numbers_by_cell(alloc, slot.counted, numbers, count)?;
     Ok(SlotMemory {
         keys: Keys::InVectors(sliced),
@@ -220,6 +227,7 @@ pub fn lay_ternary(
         stored: 0,
         held_size: held.size,
         cells,
+        marks,
         numbers: entries,
     })
 }

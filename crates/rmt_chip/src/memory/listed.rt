@@ -12,7 +12,8 @@ ghost use Rattle.rmt_chip.specs.Laying.{entry_of, runs_of as runs_of_cells};
 use crate::memory::runs::Runs;
 use rmt_config::config::{CellNumber, SramRow};
 use rmt_config::form::layout::Layout;
-use rmt_config::form::names::key_bytes::{Near, push_entry};
+use rmt_config::form::names::key_bytes::push_entry;
+use rmt_config::form::sram::Near;
 use std::alloc::{AllocError, Global};
 
 /// For each listed cell `len` bits of its entry, from the bit `from` on.
@@ -37,10 +38,7 @@ pub fn runs_of(
 {
     let size = ((len + 7) / 8) as usize;
     let mut bytes = Vec::with_capacity(alloc, numbers.len().saturating_mul(size))?;
-    let mut near = Near {
-        first: 0,
-        second: 0,
-    };
+    let mut near = Near::new();
     for number in numbers {
         push_entry(
             &mut bytes,

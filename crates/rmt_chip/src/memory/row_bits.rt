@@ -1,6 +1,6 @@
 //! The bits of rows in vectors of bits that stand one behind another, 64 rows to a word.
 
-ghost use Rattle.std.specs.Prelude.{◌≡◌, ◌≢◌, ◌≤◌, ◌<◌, ◌+◌, ◌*◌, ◌==◌, ℕ, length, bit_and};
+ghost use Rattle.std.specs.Prelude.{◌≡◌, ◌≢◌, ◌≤◌, ◌<◌, ◌+◌, ◌*◌, ◌==◌, ℕ, false, length, bit_and};
 ghost use Rattle.std.specs.Int.{bit_at};
 ghost use Rattle.rmt_chip.specs.Sights.{seen_by};
 ghost use Rattle.rmt_chip.specs.Slicing.{nibble as nibble_of, leaves as leaves_of, bit_if, bit_in};
@@ -30,8 +30,17 @@ fn with_bit(word: u64, bit: usize, on: bool) -> u64
     }
 }
 
+/// Whether the bit of a row is set in the first vector.
+pub fn has_bit(bits: &[u64], width: usize, row: usize) -> bool
+    requires row { row < 64 * width }
+    requires width { width ≤ length bits.now }
+    ensures { result ≡ false → bit_in bits.now width 0 row ≡ 1 → ⊥ }
+{
+    (bits[row / 64] >> (row % 64)) % 2 == 1
+}
+
 /// Sets the bit of a row in a vector.
-fn set_bit(bits: &mut [u64], width: usize, vector: usize, row: usize, on: bool)
+pub fn set_bit(bits: &mut [u64], width: usize, vector: usize, row: usize, on: bool)
     requires row { row < 64 * width }
     requires vector { (vector + 1) * width ≤ length bits.old }
     ensures size { length bits.new ≡ length bits.old }

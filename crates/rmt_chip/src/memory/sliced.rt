@@ -3,6 +3,7 @@
 ghost use Rattle.std.specs.Prelude.{◌≡◌, ◌≤◌, ◌+◌, ◌*◌, ◌^◌, vec_len};
 
 use crate::memory::row_bits::{nibble, set_row, set_seen};
+use crate::memory::rows_left::{SIDE, first_bit, is_zero, keep};
 use std::alloc::{AllocError, Global};
 
 /// Rows of a ternary part, of which some may be missing. For each nibble of a key and each of its
@@ -10,10 +11,10 @@ use std::alloc::{AllocError, Global};
 /// the last three vectors, one for each sight, have the rows that the sight shows. Under a sight a key
 /// has the rows whose bits are set in the vectors of all its nibbles and in that of the sight.
 ///
-/// A look-up takes at most one step for a nibble and 64 rows, whatever the masks: 20,000 rows are
-/// 313 runs of 64, and a run ends as soon as none of its rows is left. A row that is put takes 16
-/// steps for a nibble. The memory is 20 bytes a row for each word of 40 bits of a key, and three bits;
-/// rows are counted up to a multiple of 64.
+/// A look-up takes at most one step for a nibble and 512 rows, whatever the masks, each step being that
+/// of eight words side by side: 20,000 rows are 40 runs of 512. A run ends where none of its rows is left
+/// after 40 bits of the key. A row that is put takes 16 steps for a nibble. The memory is 20 bytes a row
+/// for each word of 40 bits of a key, and three bits; rows are counted up to a multiple of 64.
 #[derive(Drop)]
 pub struct Sliced {
     /// How many words of 40 bits a key has.
@@ -89,6 +90,46 @@ impl Sliced {
         left
     }
 
+    /// Of eight words of 64 rows each those rows that a sight shows and that are left by the nibbles whose
+    /// vectors begin at some words.
+    fn left_of_eight(&self, sight: u8, vectors: &[usize], at: usize) -> [u64; SIDE]
+        requires sight { sight < 3 }
+        requires at { at + 8 ≤ self.now.width }
+        requires all { length vectors.now ≡ 160 }
+        requires within { (n : ℕ) → n < 10 * self.now.words → slice_index vectors.now n + self.now.width ≤ vec_len self.now.bits }
+        ensures on { (k j : ℕ) → k < 8 → bit_at (slice_index result k) j ≡ 1 → IsOn self.now sight vectors.now (10 * self.now.words) (at + k) j }
+        ensures all { (k j : ℕ) → k < 8 → IsOn self.now sight vectors.now (10 * self.now.words) (at + k) j → bit_at (slice_index result k) j ≡ 1 }
+    {
+        let mut left = [0; SIDE];
+        let from = (160 * self.words + sight as usize) * self.width + at;
+        left.copy_from_slice(&self.bits[from..from + SIDE]);
+        for nibble in 0..10 * self.words {
+            if nibble % 10 == 0 && is_zero(&left) {
+                return left;
+            }
+            let from = vectors[nibble] + at;
+            keep(&mut left, &self.bits[from..from + SIDE]);
+        }
+        left
+    }
+
+    /// The first row among those in whole runs of eight words that a sight shows and that is left by the
+    /// nibbles whose vectors begin at some words.
+    fn first_in_runs(&self, sight: u8, vectors: &[usize]) -> Option<usize>
+        requires sight { sight < 3 }
+        requires all { length vectors.now ≡ 160 }
+        requires within { (n : ℕ) → n < 10 * self.now.words → slice_index vectors.now n + self.now.width ≤ vec_len self.now.bits }
+        ensures { FirstIn (OnIn self.now sight vectors.now) 0 (512 * (self.now.width / 8)) result }
+    {
+        for run in 0..self.width / SIDE {
+            let left = self.left_of_eight(sight, vectors, SIDE * run);
+            if let Some(row) = first_bit(&left) {
+                return Some(64 * SIDE * run + row);
+            }
+        }
+        None
+    }
+
     /// The first row that a sight shows and that is left by the nibbles whose vectors begin at some words.
     fn first_left(&self, sight: u8, vectors: &[usize]) -> Option<usize>
         requires sight { sight < 3 }
@@ -96,7 +137,10 @@ impl Sliced {
         requires within { (n : ℕ) → n < 10 * self.now.words → slice_index vectors.now n + self.now.width ≤ vec_len self.now.bits }
         ensures { FirstIn (OnIn self.now sight vectors.now) 0 (64 * self.now.width) result }
     {
-        for at in 0..self.width {
+        if let Some(row) = self.first_in_runs(sight, vectors) {
+            return Some(row);
+        }
+        for at in SIDE * (self.width / SIDE)..self.width {
             let left = self.left(sight, vectors, at);
             if left != 0 {
                 return Some(64 * at + left.trailing_zeros() as usize);

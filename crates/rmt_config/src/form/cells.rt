@@ -12,14 +12,7 @@ ghost use Rattle.rmt_config.specs.declared.config.CellNumber.{CellNumber};
 use crate::config::{CellNumber, SramRow};
 use crate::form::layout::{Layout, joined};
 use crate::form::search::items_rise;
-use crate::form::sram::{byte_of_two, row_bits};
-
-/// Where the last head was found among the rows: its first block's row, and that of the block beside it.
-#[derive(Clone, Copy)]
-struct Near {
-    first: usize,
-    second: usize,
-}
+use crate::form::sram::{Near, byte_of_two, row_bits};
 
 /// The 8 bits from one on of a row of a unit.
 fn head_at(
@@ -40,9 +33,9 @@ fn head_at(
 {
     let block = bit / 112;
     let at = joined(unit, layout.side, block) as usize;
-    let first = row_bits(rows, blocks[at], row, &mut near.first);
+    let first = row_bits(rows, blocks[at], block, row, near);
     let second = if block + 1 < layout.side {
-        row_bits(rows, blocks[at + 1], row, &mut near.second)
+        row_bits(rows, blocks[at + 1], block + 1, row, near)
     } else {
         0
     };
@@ -96,10 +89,7 @@ fn heads_fit(
     requires first { first < 65536 }
     ensures { result ≡ heads_hold layout.now (sram_row rows.now) blocks.now visible first actions (listed_cells numbers.now) }
 {
-    let mut near = Near {
-        first: 0,
-        second: 0,
-    };
+    let mut near = Near::new();
     for number in numbers {
         let head = head_of(layout, blocks, rows, number.cell as u64, &mut near);
         if !head_fits(head, visible, first, actions) {

@@ -94,15 +94,20 @@ impl Numbered for TailOf {
     }
 }
 
-/// The index of the first item whose number is at least this one.
-pub fn first_from<T: Numbered>(items: &[T], place: u64) -> usize
-    requires { IsTrue (rises_from 0 (map T.place_of items.now)) }
+/// The index of the first item whose number is at least this one, where that of all items before `low` is smaller, and
+/// that of none from `high` on.
+fn first_between<T: Numbered>(items: &[T], place: u64, low: usize, high: usize) -> usize
+    requires rising { IsTrue (rises_from 0 (map T.place_of items.now)) }
+    requires order { low ≤ high }
+    requires within { high ≤ length items.now }
+    requires below { (k : ℕ) (d : T) → k < low → T.place_of (slice_index_or items.now k d) < place }
+    requires above { (k : ℕ) (d : T) → high ≤ k → k < length items.now → place ≤ T.place_of (slice_index_or items.now k d) }
     ensures within { result ≤ length items.now }
     ensures below { (k : ℕ) (d : T) → k < result → T.place_of (slice_index_or items.now k d) < place }
     ensures above { (k : ℕ) (d : T) → result ≤ k → k < length items.now → place ≤ T.place_of (slice_index_or items.now k d) }
 {
-    let mut low = 0;
-    let mut high = items.len();
+    let mut low = low;
+    let mut high = high;
     while low < high {
         let middle = low + (high - low) / 2;
         if (items[middle].place() as u64) < place {
@@ -114,23 +119,54 @@ pub fn first_from<T: Numbered>(items: &[T], place: u64) -> usize
     low
 }
 
-/// The same, looked for first at a place near which the last one was found, and at the next.
+/// The index of the first item whose number is at least this one.
+pub fn first_from<T: Numbered>(items: &[T], place: u64) -> usize
+    requires { IsTrue (rises_from 0 (map T.place_of items.now)) }
+    ensures within { result ≤ length items.now }
+    ensures below { (k : ℕ) (d : T) → k < result → T.place_of (slice_index_or items.now k d) < place }
+    ensures above { (k : ℕ) (d : T) → result ≤ k → k < length items.now → place ≤ T.place_of (slice_index_or items.now k d) }
+{
+    first_between(items, place, 0, items.len())
+}
+
+/// The same, where the numbers of all items before `from` are smaller. Steps of twice the length each lead there.
+fn first_behind<T: Numbered>(items: &[T], place: u64, from: usize) -> usize
+    requires rising { IsTrue (rises_from 0 (map T.place_of items.now)) }
+    requires within { from ≤ length items.now }
+    requires below { (k : ℕ) (d : T) → k < from → T.place_of (slice_index_or items.now k d) < place }
+    ensures within { result ≤ length items.now }
+    ensures below { (k : ℕ) (d : T) → k < result → T.place_of (slice_index_or items.now k d) < place }
+    ensures above { (k : ℕ) (d : T) → result ≤ k → k < length items.now → place ≤ T.place_of (slice_index_or items.now k d) }
+{
+    let mut low = from;
+    let mut high = from;
+    let mut step = 1usize;
+    while high < items.len() && (items[high].place() as u64) < place {
+        low = high + 1;
+        high = low + (items.len() - low).min(step);
+        step = step.saturating_mul(2);
+    }
+    first_between(items, place, low, high)
+}
+
+/// The same, looked for first at a place near which the last one was found, and then behind it.
 pub fn first_near<T: Numbered>(items: &[T], place: u64, near: usize) -> usize
     requires { IsTrue (rises_from 0 (map T.place_of items.now)) }
     ensures within { result ≤ length items.now }
     ensures below { (k : ℕ) (d : T) → k < result → T.place_of (slice_index_or items.now k d) < place }
     ensures above { (k : ℕ) (d : T) → result ≤ k → k < length items.now → place ≤ T.place_of (slice_index_or items.now k d) }
 {
-    if near < items.len() {
-        if items[near].place() as u64 == place {
-            return near;
-        }
-        let next = near + 1;
-        if next < items.len() && items[next].place() as u64 == place {
-            return next;
-        }
+    if near >= items.len() {
+        return first_from(items, place);
     }
-    first_from(items, place)
+    let here = items[near].place() as u64;
+    if here == place {
+        return near;
+    }
+    if here > place {
+        return first_from(items, place);
+    }
+    first_behind(items, place, near + 1)
 }
 
 /// Whether items rise by their numbers, from that one on.

@@ -7,18 +7,33 @@ ghost use Rattle.rmt_config.specs.MemoryRules.{SramRows};
 use crate::config::SramRow;
 use crate::form::search::{Numbered, first_near};
 
-/// What a row of an SRAM block holds, looked for first near the place where the last one was found; a row that isn't
-/// listed is 0.
-pub fn row_bits(rows: &[SramRow], block: u8, row: u64, near: &mut usize) -> u128
+/// Where rows were found last among those of all blocks: one place for each block of a unit, which blocks that are a
+/// multiple of eight apart share.
+#[derive(Clone, Copy)]
+pub struct Near {
+    places: [usize; 8],
+}
+
+impl Near {
+    /// No row was found so far.
+    pub fn new() -> Near {
+        Near { places: [0; 8] }
+    }
+}
+
+/// What a row of an SRAM block holds, looked for first near the place where the last row of the block was found; a row
+/// that isn't listed is 0. The block is the one of its unit with the number `at`.
+pub fn row_bits(rows: &[SramRow], block: u8, at: u64, row: u64, near: &mut Near) -> u128
     requires rows { SramRows rows.now }
     requires row { row < 1024 }
     ensures { result ≡ sram_row rows.now block row }
 {
     let number = block as u64 * 1024 + row;
-    let at = first_near(rows, number, *near);
-    *near = at;
-    if at < rows.len() && rows[at].place() as u64 == number {
-        rows[at].bits
+    let place = (at % 8) as usize;
+    let found = first_near(rows, number, near.places[place]);
+    near.places[place] = found;
+    if found < rows.len() && rows[found].place() as u64 == number {
+        rows[found].bits
     } else {
         0
     }

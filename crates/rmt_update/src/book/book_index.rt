@@ -1,12 +1,14 @@
 //! Where the cells of a book are found, kept from commit to commit.
 
 ghost use Rattle.std.specs.Prelude.{◌≡◌, ◌++◌, ◌∷◌, [], IfOk, List, None, OnOk};
+ghost use Rattle.std.specs.List.{AllZip};
 ghost use Rattle.rmt_ast.specs.declared.entry.Entry.{Entry as EntryOf};
 ghost use Rattle.rmt_config.specs.RunCells.{RunCells};
 ghost use Rattle.rmt_config.specs.declared.config.Config.{Config as ConfigOf};
 ghost use Rattle.rmt_update.specs.BookIndex.{AreApart, IsBookIndex};
 ghost use Rattle.rmt_update.specs.BookStands.{BookStands};
-ghost use Rattle.rmt_update.specs.IndexCells.{HasCells, part_cells, table_cells};
+ghost use Rattle.rmt_update.specs.IndexCells.{HasGathered, all_cells, part_cells, table_cells};
+ghost use Rattle.rmt_update.specs.RowIndex.{IsIndex, never};
 ghost use Rattle.rmt_update.specs.declared.book.kept.Kept.{Kept as KeptOf};
 ghost use Rattle.rmt_update.specs.declared.book.spot.BookSpot.{BookSpot as SpotOf};
 
@@ -31,47 +33,84 @@ pub struct BookIndex {
     pub tables: Vec<TableIndex>,
 }
 
-/// Adds an occupied cell to an index. The only fault is want of memory.
-fn put_cell(index: &mut BookIndex, spot: BookSpot, kept: &Kept) -> Result<(), AllocError>
-    ensures cells { OnOk result ((cells : List (SpotOf × KeptOf)) → HasCells cells index.old → HasCells (cells ++ (spot, kept.now) ∷ []) index.new) }
-    ensures tables { OnOk result (index.new.tables ≡ index.old.tables) }
+/// Occupied cells as they are gathered.
+#[derive(Drop)]
+struct Gathered {
+    /// The cells, each behind the number of its entry.
+    spots: Vec<(u32, BookSpot)>,
+    /// Those that don't have both visible bits.
+    recent: Vec<BookSpot>,
+}
+
+/// Adds an occupied cell to the others. The only fault is want of memory.
+fn put_cell(gathered: &mut Gathered, spot: BookSpot, kept: &Kept) -> Result<(), AllocError>
+    ensures { OnOk result ((cells : List (SpotOf × KeptOf)) → HasGathered cells gathered.old → HasGathered (cells ++ (spot, kept.now) ∷ []) gathered.new) }
 {
-    index.spots.insert(kept.number, spot)?;
+    gathered.spots.push((kept.number, spot))?;
     if kept.visible != 3 {
-        index.recent.push(spot)?;
+        gathered.recent.push(spot)?;
     }
     Ok(())
 }
 
-/// Adds the occupied cells of a part of the table at a place to an index. The only fault is want of memory.
+/// Adds the occupied cells of a part of the table at a place to the others. The only fault is want of memory.
 fn put_part(
-    index: &mut BookIndex,
+    gathered: &mut Gathered,
     table: usize,
     part: usize,
     own: &PartCells,
 ) -> Result<(), AllocError>
-    ensures cells { OnOk result ((cells : List (SpotOf × KeptOf)) → HasCells cells index.old → HasCells (cells ++ part_cells table part own.now) index.new) }
-    ensures tables { OnOk result (index.new.tables ≡ index.old.tables) }
+    ensures { OnOk result ((cells : List (SpotOf × KeptOf)) → HasGathered cells gathered.old → HasGathered (cells ++ part_cells table part own.now) gathered.new) }
 {
     for (cell, kept) in own.cells.iter() {
         let at = Spot { part, cell: *cell };
-        put_cell(index, BookSpot { table, at }, kept)?;
+        put_cell(gathered, BookSpot { table, at }, kept)?;
     }
     Ok(())
 }
 
-/// Adds the occupied cells of the table at a place to an index. The only fault is want of memory.
-fn put_table(index: &mut BookIndex, table: usize, parts: &[PartCells]) -> Result<(), AllocError>
-    ensures cells { OnOk result ((cells : List (SpotOf × KeptOf)) → HasCells cells index.old → HasCells (cells ++ table_cells table parts.now) index.new) }
-    ensures tables { OnOk result (index.new.tables ≡ index.old.tables) }
+/// Adds the occupied cells of the table at a place to the others. The only fault is want of memory.
+fn put_table(gathered: &mut Gathered, table: usize, parts: &[PartCells]) -> Result<(), AllocError>
+    ensures { OnOk result ((cells : List (SpotOf × KeptOf)) → HasGathered cells gathered.old → HasGathered (cells ++ table_cells table parts.now) gathered.new) }
 {
     for (part, own) in parts.iter().enumerate() {
-        put_part(index, table, part, own)?;
+        put_part(gathered, table, part, own)?;
     }
     Ok(())
 }
 
-/// The index of tables. The only fault is want of memory.
+/// The occupied cells of tables. The only fault is want of memory.
+fn gathered_of(alloc: Global, tables: &[TableCells]) -> Result<Gathered, AllocError>
+    ensures { IfOk result (HasGathered (all_cells tables.now)) }
+{
+    let mut gathered = Gathered {
+        spots: Vec::new(alloc),
+        recent: Vec::new(alloc),
+    };
+    for (at, table) in tables.iter().enumerate() {
+        put_table(&mut gathered, at, table.parts.as_slice())?;
+    }
+    Ok(gathered)
+}
+
+/// Where the entries of each table stand. The only fault is want of memory.
+fn indexes_of(
+    alloc: Global,
+    odd: bool,
+    tables: &[TableCells],
+) -> Result<Vec<TableIndex>, AllocError>
+    requires { AreApart tables.now }
+    ensures { IfOk result (λ indexes. AllZip (IsIndex odd never) tables.now indexes.items) }
+{
+    let mut indexes = Vec::with_capacity(alloc, tables.len())?;
+    for table in tables {
+        indexes.push(index_of(alloc, odd, table)?)?;
+    }
+    Ok(indexes)
+}
+
+/// The index of tables. Its map is made of all cells at once, which is faster than to add them one by one in the order of
+/// cells. The only fault is want of memory.
 pub fn index_of_book(
     alloc: Global,
     odd: bool,
@@ -81,16 +120,12 @@ pub fn index_of_book(
     ensures { IfOk result (IsBookIndex odd tables.now) }
 {
     all_ordered(tables);
-    let mut index = BookIndex {
-        spots: BTreeMap::new(alloc),
-        recent: Vec::new(alloc),
-        tables: Vec::with_capacity(alloc, tables.len())?,
-    };
-    for (at, table) in tables.iter().enumerate() {
-        put_table(&mut index, at, table.parts.as_slice())?;
-        index.tables.push(index_of(alloc, odd, table)?)?;
-    }
-    Ok(index)
+    let Gathered { spots, recent } = gathered_of(alloc, tables)?;
+    Ok(BookIndex {
+        spots: BTreeMap::from_iter(alloc, spots)?,
+        recent,
+        tables: indexes_of(alloc, odd, tables)?,
+    })
 }
 
 impl Book {

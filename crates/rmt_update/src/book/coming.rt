@@ -8,7 +8,7 @@ ghost use Rattle.rmt_ast.specs.declared.names.ActionName.{ActionName as ActionOf
 ghost use Rattle.rmt_config.specs.Rooms.{args_as_one, tests_as_one};
 ghost use Rattle.rmt_config.specs.Shapes.{divided_up};
 ghost use Rattle.rmt_update.specs.Coming.{HasSizes, KeepsEntry};
-ghost use Rattle.rmt_update.specs.Encoded.{part_of};
+ghost use Rattle.rmt_config.specs.Rooms.{mask_or_value};
 ghost use Rattle.rmt_update.specs.Told.{is_whole};
 
 use crate::book::encoded::{args_bytes, tests_bytes};
@@ -24,7 +24,7 @@ pub fn key_of(alloc: Global, table: &TableName, entry: &Entry) -> Result<Vec<u8>
     requires entry { IsEntry table.now.node (terms_of_name table.now) entry.now }
     requires keys { sum table.now.keys ≤ 640 }
     ensures size { IfOk result (λ key. length key.items ≡ divided_up (sum table.now.keys) 8) }
-    ensures number { IfOk result (λ key. number_of key.items ≡ tests_as_one (part_of false) table.now.keys entry.now.tests) }
+    ensures number { IfOk result (λ key. number_of key.items ≡ tests_as_one (mask_or_value false) table.now.keys entry.now.tests) }
 {
     let tests = entry.tests.as_slice();
     tests_bytes(alloc, table.keys.as_slice(), tests, false)
@@ -37,7 +37,7 @@ fn mask_of(alloc: Global, table: &TableName, entry: &Entry) -> Result<Vec<u8>, A
     requires keys { sum table.now.keys ≤ 640 }
     ensures size { IfOk result (λ mask. length mask.items ≡ (if is_whole table.now.kind then 0 else divided_up (sum table.now.keys) 8)) }
     ensures number { IfOk result (λ mask. (if is_whole table.now.kind then 2 ^ sum table.now.keys - 1 else number_of mask.items)
-        ≡ tests_as_one (part_of true) table.now.keys entry.now.tests) }
+        ≡ tests_as_one (mask_or_value true) table.now.keys entry.now.tests) }
 {
     match table.kind {
         Kind::Exact => Ok(Vec::new(alloc)),

@@ -6,7 +6,7 @@ ghost use Rattle.rmt_bits.specs.Bits.{number_of};
 ghost use Rattle.rmt_ast.specs.WellFormed.{Fits, IsTest};
 ghost use Rattle.rmt_config.specs.Rooms.{args_as_one, tests_as_one};
 ghost use Rattle.rmt_config.specs.Shapes.{divided_up as divided_up_of};
-ghost use Rattle.rmt_update.specs.Encoded.{part_of as part_of_test};
+ghost use Rattle.rmt_config.specs.Rooms.{mask_or_value};
 
 use rmt_ast::program::Test;
 use rmt_bits::bits::bytes_of_bits;
@@ -42,7 +42,7 @@ fn bytes_for(alloc: Global, bits: u32) -> Result<Vec<u8>, AllocError>
 
 /// The mask of a test, or its value.
 fn part_of(mask: bool, test: &Test) -> u128
-    ensures { result ≡ part_of_test mask test.now }
+    ensures { result ≡ mask_or_value mask test.now }
 {
     if mask { test.mask } else { test.value }
 }
@@ -54,7 +54,7 @@ fn put_tests(bytes: &mut [u8], first: u32, widths: &[u8], tests: &[Test], mask: 
     requires room { first + sum widths.now ≡ 8 * length bytes.old }
     requires narrow { All (λ w. w ≤ 128) widths.now }
     requires tests { AllZip IsTest widths.now tests.now }
-    ensures number { number_of bytes.new ≡ tests_as_one (part_of_test mask) widths.now tests.now }
+    ensures number { number_of bytes.new ≡ tests_as_one (mask_or_value mask) widths.now tests.now }
     ensures bytes { (k : ℕ) → slice_index bytes.new k < 2 ^ 8 }
 {
     let mut from = first;
@@ -75,7 +75,7 @@ pub fn tests_bytes(
     requires narrow { All (λ w. w ≤ 128) widths.now }
     requires few { sum widths.now ≤ 640 }
     ensures long { IfOk result (λ bytes. length bytes.items ≡ divided_up_of (sum widths.now) 8) }
-    ensures number { IfOk result (λ bytes. number_of bytes.items ≡ tests_as_one (part_of_test mask) widths.now tests.now) }
+    ensures number { IfOk result (λ bytes. number_of bytes.items ≡ tests_as_one (mask_or_value mask) widths.now tests.now) }
 {
     let bits = width_sum(widths);
     let mut bytes = bytes_for(alloc, bits)?;

@@ -7,7 +7,7 @@ ghost use Rattle.rmt_config.specs.PrefixRow.{PrefixRows};
 ghost use Rattle.rmt_config.specs.declared.config.TcamRow.{TcamRow as TcamRowOf};
 
 use rmt_config::config::{SramRow, TcamRow};
-use rmt_config::form::sram::row_bits;
+use rmt_config::form::sram::{Near, row_bits};
 use rmt_config::form::tcam::row_compared;
 use std::alloc::{AllocError, Global};
 
@@ -23,9 +23,9 @@ pub fn sram_words(
     ensures { IfOk result (λ words. words.items ≡ map (λ b. sram_row rows.now b row) blocks.now) }
 {
     let mut words = Vec::with_capacity(alloc, blocks.len())?;
-    let mut near = 0;
+    let mut near = Near::new();
     for block in blocks {
-        words.push(row_bits(rows, *block, row, &mut near))?;
+        words.push(row_bits(rows, *block, 0, row, &mut near))?;
     }
     Ok(words)
 }

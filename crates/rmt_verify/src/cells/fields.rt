@@ -6,7 +6,7 @@ ghost use Rattle.rmt_bits.specs.Bits.{number_of};
 ghost use Rattle.rmt_ast.specs.WellFormed.{Fits, IsTest};
 ghost use Rattle.rmt_config.specs.Effects.{HasArguments};
 ghost use Rattle.rmt_config.specs.Rooms.{tests_as_one};
-ghost use Rattle.rmt_verify.specs.Wanted.{part_of as part_of_test};
+ghost use Rattle.rmt_config.specs.Rooms.{mask_or_value};
 
 use rmt_ast::program::Test;
 use rmt_bits::bits::bits_of_bytes;
@@ -25,7 +25,7 @@ fn width_sum(widths: &[u8]) -> u32
 
 /// The mask of a test, or its value.
 fn part_of(mask: bool, test: &Test) -> u128
-    ensures { result ≡ part_of_test mask test.now }
+    ensures { result ≡ mask_or_value mask test.now }
 {
     if mask { test.mask } else { test.value }
 }
@@ -37,7 +37,7 @@ pub fn are_tests(bytes: &[u8], widths: &[u8], tests: &[Test], mask: bool) -> boo
     requires few { length bytes.now < 2 ^ 16 }
     requires room { sum widths.now ≤ 8 * length bytes.now }
     requires small { number_of bytes.now < 2 ^ sum widths.now }
-    ensures { IsTrue result ↔ number_of bytes.now ≡ tests_as_one (part_of_test mask) widths.now tests.now }
+    ensures { IsTrue result ↔ number_of bytes.now ≡ tests_as_one (mask_or_value mask) widths.now tests.now }
 {
     let mut from = 8 * bytes.len() as u32 - width_sum(widths);
     for (at, test) in tests.iter().enumerate() {

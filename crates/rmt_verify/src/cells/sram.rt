@@ -9,7 +9,8 @@ ghost use Rattle.rmt_config.specs.Shapes.{divided_up};
 
 use rmt_config::config::SramRow;
 use rmt_config::form::layout::Layout;
-use rmt_config::form::names::key_bytes::{Near, push_entry};
+use rmt_config::form::names::key_bytes::push_entry;
+use rmt_config::form::sram::Near;
 use std::alloc::{AllocError, Global};
 
 /// Some bits of the entry of a cell as bytes, the highest first.
@@ -30,10 +31,7 @@ pub fn entry_bytes(
     ensures { IfOk result (λ bytes. bytes.items ≡ bytes_of (divided_up len 8)
         (slice_of (entry_in layout.now (sram_row rows.now) blocks.now (quantum_of layout.now cell) (local_of layout.now cell)) from len)) }
 {
-    let mut near = Near {
-        first: 0,
-        second: 0,
-    };
+    let mut near = Near::new();
     let mut bytes = Vec::new(alloc);
     push_entry(&mut bytes, layout, blocks, rows, cell, from, len, &mut near)?;
     Ok(bytes)
@@ -77,10 +75,7 @@ pub fn data_bytes(
         ≡ slice_of (entry_in layout.now (sram_row rows.now) blocks.now (quantum_of layout.now cell) (local_of layout.now cell)) from len) }
     ensures long { IfOk result (λ bytes. length bytes.items ≡ 256 + divided_up len 8) }
 {
-    let mut near = Near {
-        first: 0,
-        second: 0,
-    };
+    let mut near = Near::new();
     let mut bytes = vec![in alloc; 0u8; 256]?;
     push_entry(&mut bytes, layout, blocks, rows, cell, from, len, &mut near)?;
     Ok(bytes)

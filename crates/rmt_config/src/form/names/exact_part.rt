@@ -13,8 +13,9 @@ ghost use Rattle.rmt_config.specs.declared.config.CellNumber.{CellNumber};
 use crate::config::{CellNumber, SramRow};
 pub use crate::form::lane::key_bits;
 use crate::form::layout::divided_up;
-use crate::form::names::key_bytes::{Near, bits_at, lowest, piece_at, push_bits};
+use crate::form::names::key_bytes::{bits_at, lowest, piece_at, push_bits};
 use crate::form::names::key_prints::{put_long, put_short};
+use crate::form::sram::Near;
 use rmt_bits::hash::hash_row;
 use std::alloc::{AllocError, Global};
 
@@ -183,10 +184,7 @@ fn put_short_keys(
         KeysAdded whole (divided_up_of bits 8) (stands_there seed first_way per quanta (divided_up_of bits 8) (key_in rows.now blocks.now width per quanta bits))
         (key_in rows.now blocks.now width per quanta bits) numbers.now kept.old.items kept.new.items stand) }
 {
-    let mut near = Near {
-        first: 0,
-        second: 0,
-    };
+    let mut near = Near::new();
     let mut near_row = 0;
     let size = divided_up(bits, 8);
     for number in numbers {
@@ -232,10 +230,7 @@ fn put_long_keys(
         KeysAdded whole (divided_up_of bits 8) (stands_there seed first_way per quanta (divided_up_of bits 8) (key_in rows.now blocks.now width per quanta bits))
         (key_in rows.now blocks.now width per quanta bits) numbers.now kept.old.items kept.new.items stand) }
 {
-    let mut near = Near {
-        first: 0,
-        second: 0,
-    };
+    let mut near = Near::new();
     let mut near_row = 0;
     let mut key = Vec::new(alloc);
     for number in numbers {

@@ -9,16 +9,9 @@ ghost use Rattle.rmt_config.specs.Shapes.{divided_up};
 
 use crate::config::SramRow;
 use crate::form::layout::{Layout, joined};
-use crate::form::sram::row_bits;
+use crate::form::sram::{Near, row_bits};
 use rmt_bits::bits::slice;
 use std::alloc::AllocError;
-
-/// Where rows were found last among those of all blocks: that of a block, and that of the block beside it.
-#[derive(Clone, Copy)]
-pub struct Near {
-    pub first: usize,
-    pub second: usize,
-}
 
 /// Where an entry begins: its unit, the row there, and its lowest bit in the row.
 #[derive(Clone, Copy)]
@@ -67,14 +60,14 @@ pub fn bits_at(
     requires within { bit + len ≤ 112 * length blocks.now }
     ensures { result ≡ slice_of (unit_row 112 (sram_row rows.now) row blocks.now) bit len }
 {
-    let block = (bit / 112) as usize;
+    let block = bit / 112;
     let low = bit % 112;
-    let first = row_bits(rows, blocks[block], row, &mut near.first);
+    let first = row_bits(rows, blocks[block as usize], block, row, near);
     if low + len <= 112 {
         return slice(first, low as u8, len as u8) as u64;
     }
     let here = 112 - low;
-    let second = row_bits(rows, blocks[block + 1], row, &mut near.second);
+    let second = row_bits(rows, blocks[block as usize + 1], block + 1, row, near);
     let high = slice(second, 0, (len - here) as u8) as u64;
     (high << here) + slice(first, low as u8, here as u8) as u64
 }

@@ -1,4 +1,4 @@
-use Rattle.std.proofs.Common.{◌≡◌, ◌+◌, ◌-◌, ◌<◌, ◌≤◌, ◌++◌, ◌∷◌, ℕ, List, [], length, get_or, set, take, drop, vec_len, ap, subst, subst₂, sym, ◌∙◌, arith}
+use Rattle.std.proofs.Common.{◌≡◌, ◌+◌, ◌-◌, ◌<◌, ◌≤◌, ℕ, List, [], length, get_or, set, vec_len, ap, subst, subst₂, sym, ◌∙◌, arith}
 use Rattle.std.proofs.lemmas.List.{get_or-map, get_or-set_same, get_or_read, length-map}
 use Rattle.rmt_bits.specs.declared.answer.Count.{Count}
 use Rattle.rmt_bits.specs.Counts.{Counters}

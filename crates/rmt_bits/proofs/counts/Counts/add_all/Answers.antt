@@ -1,4 +1,4 @@
-use Rattle.std.proofs.Common.{◌≡◌, ◌+◌, ◌≤◌, ◌++◌, ◌∷◌, ℕ, List, [], length, take, get_or, sym, ap, ◌∙◌, arith}
+use Rattle.std.proofs.Common.{ℕ, List, [], take, get_or, sym, ap, ◌∙◌, arith}
 use Rattle.std.proofs.lemmas.List.{take_more}
 use Rattle.rmt_bits.specs.Counts.{counts}
 use Rattle.rmt_bits.specs.Counting.{with_count}

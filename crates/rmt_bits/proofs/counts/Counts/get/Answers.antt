@@ -1,4 +1,4 @@
-use Rattle.std.proofs.Common.{◌≡◌, ap, sym, ◌∙◌}
+use Rattle.std.proofs.Common.{sym, ◌∙◌}
 use Rattle.rmt_bits.proofs.RunLaws.{get-front}
 use Rattle.rmt_bits.proofs.counts.Counts.get.Goals as goal
 

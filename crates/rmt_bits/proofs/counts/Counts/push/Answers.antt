@@ -1,7 +1,5 @@
-use Rattle.std.proofs.Common.{◌≡◌, ◌<◌, ◌++◌, ◌∷◌, List, [], append-nil, ap, subst, sym, ◌∙◌}
-use Rattle.std.specs.Prelude.{All}
-use Rattle.rmt_bits.specs.declared.answer.Count.{Count}
-use Rattle.rmt_bits.specs.Counting.{with_count, zero_count}
+use Rattle.std.proofs.Common.{[], append-nil, ap, sym, ◌∙◌}
+use Rattle.rmt_bits.specs.Counting.{with_count}
 use Rattle.rmt_bits.proofs.CountLaws.{with_count-above}
 use Rattle.rmt_bits.proofs.counts.Counts.push.Goals as goal
 

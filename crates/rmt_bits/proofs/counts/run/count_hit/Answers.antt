@@ -5,7 +5,8 @@ use Rattle.std.specs.List.Sorted.{IsBinarySearchResult}
 use Rattle.std.proofs.lemmas.Fn.{always_returns_same}
 use Rattle.std.proofs.lemmas.Map.Lookups.{exact_unsigned}
 use Rattle.rmt_bits.specs.declared.answer.Count.{Count}
-use Rattle.rmt_bits.proofs.CountLaws.{counted_absent, counted_found, not_found}
+use Rattle.rmt_bits.proofs.CountLaws.{counted_absent, counted_found}
+use Rattle.rmt_bits.proofs.SearchLaws.{not_found}
 use Rattle.rmt_bits.proofs.counts.run.count_hit.Goals as goal
 
 abbrev no_count : Count
@@ -25,4 +26,4 @@ returns-in_default c = λ rising.
     let found : IsBinarySearchResult (λ (x : Count). nat_cmp x.entry c.args.number) cs c.binary_search_by_key.result =
     c.binary_search_by_key.ensures.position (λ (x : Count). x.entry) (always_returns_same _ _ _ (λ a r q k. search rules)) in
     counted_absent cs c.args.number c.args.bytes
-    (not_found cs c.args.number c.in_default.field-0 rising (subst (λ (r : Result ℕ ℕ). IsBinarySearchResult (λ (x : Count). nat_cmp x.entry c.args.number) cs r) c.in_default.is found))
+    (not_found (λ (x : Count). x.entry) cs c.args.number c.in_default.field-0 rising (subst (λ (r : Result ℕ ℕ). IsBinarySearchResult (λ (x : Count). nat_cmp x.entry c.args.number) cs r) c.in_default.is found))

@@ -1,8 +1,9 @@
-use Rattle.std.proofs.Common.{◌≡◌, ℕ, ◌+◌, ◌*◌, List, ◌∷◌, ◌++◌, length, get_or, take, sym, refl, ap, ◌∙◌, subst}
-use Rattle.std.proofs.lemmas.List.{with_items_is}
+use Rattle.std.proofs.Common.{◌≡◌, ℕ, ◌+◌, ◌*◌, List, ◌∷◌, ◌++◌, length, get_or, take, sym, refl, ap, ◌∙◌, subst, rules}
+use Rattle.std.proofs.lemmas.List.{with_items_is, length-take}
 use Rattle.rmt_bits.proofs.ByteLaws.{AreBytes}
 use Rattle.rmt_chip.specs.KeysWithin.{KeysSet}
 use Rattle.rmt_chip.proofs.CellWriteLaws.{after-entry, entry-shown}
+use Rattle.rmt_chip.proofs.MarkLaws.{marked-set}
 use Rattle.rmt_chip.proofs.memory.SlotMemory.put.Goals as goal
 
 pub returns-clause-holds : goal.returns-clause-holds
@@ -28,3 +29,12 @@ returns-clause-holds c = λ content number held.
     (λ n ne. ap (λ (ns : List ℕ). get_or ns n 0) is ∙ c.set_number.ensures.others n ne ∙ ap (λ (ns : List ℕ). get_or ns n 0) seen)
     keys some taken key-bytes held-bytes run
     (λ counted. ap (λ (ns : List ℕ). get_or ns w.cell 0) is ∙ c.set_number.ensures.set counted)
+
+pub invariant_of-self-clause-marked : goal.invariant_of-self-clause-marked
+invariant_of-self-clause-marked c =
+    let w = c.args.write.now in
+    let m = c.args.self.now in
+    let key = c.args.key.now in
+    let size : length (take m.stored key) ≡ m.stored = (let e = length-take m.stored key in search rules) in
+    marked-set m.cells c.set_run.new.runs w.cell m.stored (1 + 2 * w.visible + 8 * w.code) (take m.stored key) c.args.held.now m.marks.words.items c.mark.new.marks.words.items
+    c.set_run.ensures m.marked size c.mark.ensures.own c.mark.ensures.others

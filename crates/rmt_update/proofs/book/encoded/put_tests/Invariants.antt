@@ -2,7 +2,7 @@ use Rattle.std.proofs.Common.{◌≡◌, ℕ, ◌+◌, ◌-◌, ◌*◌, ◌^◌
 use Rattle.std.specs.Prelude.{sum}
 use Rattle.rmt_bits.specs.Bits.{number_of}
 use Rattle.rmt_config.specs.Rooms.{tests_as_one}
-use Rattle.rmt_update.specs.Encoded.{part_of}
+use Rattle.rmt_config.specs.Rooms.{mask_or_value}
 use Rattle.rmt_update.proofs.book.encoded.put_tests.Given as goal
 
 -- the tests so far stand at their places, and behind them only zeros
@@ -11,5 +11,5 @@ invariant-loop-at l = record {
   long : length l.bytes ≡ length l.fn.bytes;
   place : l.from ≡ l.first + sum (take l.at l.widths);
   fits : (k : ℕ) → get_or l.bytes k 0 < 2 ^ 8;
-  number : number_of l.bytes ≡ tests_as_one (part_of l.mask) (take l.at l.widths) (take l.at l.tests) * 2 ^ (8 * length l.bytes - l.from);
+  number : number_of l.bytes ≡ tests_as_one (mask_or_value l.mask) (take l.at l.widths) (take l.at l.tests) * 2 ^ (8 * length l.bytes - l.from);
 }

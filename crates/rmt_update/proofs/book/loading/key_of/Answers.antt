@@ -2,7 +2,7 @@ use Rattle.std.proofs.Common.{◌≤◌, ◌<◌, ◌^◌, ℕ, List, false, get
 use Rattle.rmt_ast.specs.NameRules.{terms_of_name}
 use Rattle.rmt_config.specs.Rooms.{key_number, tests_as_one}
 use Rattle.rmt_config.specs.Shapes.{divided_up}
-use Rattle.rmt_update.specs.Encoded.{part_of}
+use Rattle.rmt_config.specs.Rooms.{mask_or_value}
 use Rattle.rmt_update.proofs.NamedLaws.{keys-low}
 use Rattle.rmt_update.proofs.SmallLaws.{bytes-are}
 use Rattle.rmt_update.proofs.book.loading.key_of.Goals as goal
@@ -16,4 +16,4 @@ returns c =
     let key = c.in_ok-key.key.items in
     bytes-are key (divided_up (sum t.keys) 8) (key_number (terms_of_name t) c.args.entry.now) (subst (λ (bs : List ℕ). (k : ℕ) → get_or bs k 0 < 2 ^ 8) c.as_slice-3.ensures.value c.are_bytes.ensures)
     (c.in_ok-key.ensures.long ∙ ap (λ ws. divided_up (sum ws) 8) c.as_slice.ensures)
-    (c.in_ok-key.ensures.number ∙ ap (λ ws. tests_as_one (part_of false) ws c.as_slice-2.result.now) c.as_slice.ensures ∙ ap (tests_as_one (part_of false) t.keys) c.as_slice-2.ensures)
+    (c.in_ok-key.ensures.number ∙ ap (λ ws. tests_as_one (mask_or_value false) ws c.as_slice-2.result.now) c.as_slice.ensures ∙ ap (tests_as_one (mask_or_value false) t.keys) c.as_slice-2.ensures)

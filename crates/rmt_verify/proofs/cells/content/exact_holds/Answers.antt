@@ -8,7 +8,7 @@ use Rattle.rmt_config.specs.Rooms.{tests_as_one}
 use Rattle.rmt_config.specs.Shapes.{divided_up}
 use Rattle.rmt_config.specs.declared.config.Memory.TheVariants.{Exact}
 use Rattle.rmt_config.specs.declared.form.layout.Layout.{Layout}
-use Rattle.rmt_verify.specs.Wanted.{part_of}
+use Rattle.rmt_config.specs.Rooms.{mask_or_value}
 use Rattle.rmt_verify.proofs.ContentLaws.{args_along, code_told, exact_all, exact_head, exact_key, exact_key-lt, key_few, key_room, key_small, stands_told, told_along, way_low}
 use Rattle.rmt_verify.proofs.cells.content.exact_holds.Goals as goal
 use Rattle.rmt_refine.proofs.LayoutLaws.{at_layout, bytes_hold}
@@ -74,14 +74,14 @@ returns c = λ cs.
     let key_is : c.in_ok-key.key.items ≡ bytes_of (divided_up bits 8) (stands / 256) = exact_key sram ks memory.width memory.per memory.quanta bits cell some_p some_d c.exact_keys-layout.result c.key_bits-bits.result c.in_ok-key.key.items c.exact_keys-layout.ensures same c.in_ok-key.ensures in
     let key_lt = exact_key-lt sram ks memory.width memory.per memory.quanta bits cell some_p some_d in
     let number : number_of c.deref.result.now ≡ stands / 256 = ap number_of (c.deref.ensures.value ∙ key_is) ∙ bytes_hold bits (stands / 256) key_lt in
-    let tests : tests_as_one (part_of false) c.as_slice-2.result.now c.as_slice-3.result.now ≡ tests_as_one (λ t. t.value) ws e.tests =
-    ap (λ (z : List ℕ). tests_as_one (part_of false) z c.as_slice-3.result.now) c.as_slice-2.ensures ∙ ap (λ (z : List Test). tests_as_one (part_of false) ws z) c.as_slice-3.ensures in
+    let tests : tests_as_one (mask_or_value false) c.as_slice-2.result.now c.as_slice-3.result.now ≡ tests_as_one (λ t. t.value) ws e.tests =
+    ap (λ (z : List ℕ). tests_as_one (mask_or_value false) z c.as_slice-3.result.now) c.as_slice-2.ensures ∙ ap (λ (z : List Test). tests_as_one (mask_or_value false) ws z) c.as_slice-3.ensures in
     let read : number_of c.deref-3.result.now ≡ held = ap number_of c.deref-3.ensures.value ∙ c.in_ok-data.ensures.number in
     exact_all ws ps c.args.code e (exact_content sram slot memory.width memory.per ks rs at)
     (λ key. Contains (candidates c.args.seed bits (Exact memory.width memory.per memory.quanta memory.first_way ks rs cs) key) cell)
     (c.in_ok-head.head / 8 == c.args.code) c.are_tests-has_key.result c.stands_at-stands.result c.are_arguments-has_data.result
     (code_told c.in_ok-head.head stands c.args.code head_is)
-    (told_along c.are_tests-has_key.result (number_of c.deref.result.now) (stands / 256) (tests_as_one (part_of false) c.as_slice-2.result.now c.as_slice-3.result.now) (tests_as_one (λ t. t.value) ws e.tests) c.are_tests-has_key.ensures number tests)
+    (told_along c.are_tests-has_key.result (number_of c.deref.result.now) (stands / 256) (tests_as_one (mask_or_value false) c.as_slice-2.result.now c.as_slice-3.result.now) (tests_as_one (λ t. t.value) ws e.tests) c.are_tests-has_key.ensures number tests)
     (ap (λ n. 2 ^ n - 1) c.requires.bits ∙ sym c.requires.whole)
     (stands_told memory.width memory.per memory.quanta memory.first_way ks rs cs c.args.seed bits (stands / 256) cell c.deref-2.result.now c.stands_at-stands.result some_p some_d
     (way_low memory.per memory.quanta cell some_p some_d c.requires.cell) (c.deref-2.ensures.value ∙ key_is) c.stands_at-stands.ensures)

@@ -3,7 +3,7 @@ use Rattle.std.specs.Prelude.{sum}
 use Rattle.std.proofs.lemmas.Bool.{both_ways, eq-eqb, eqb-true, ne_eqb}
 use Rattle.rmt_bits.specs.Bits.{number_of, slice}
 use Rattle.rmt_ast.specs.declared.program.Test.{Test}
-use Rattle.rmt_verify.specs.Wanted.{part_of}
+use Rattle.rmt_config.specs.Rooms.{mask_or_value}
 use Rattle.rmt_verify.proofs.FieldLaws.{left_of, one, place_next, test_read, tests_end, tests_first, tests_step, width_there}
 use Rattle.rmt_verify.proofs.cells.fields.are_tests.Goals as goal
 
@@ -36,13 +36,13 @@ returns-then-bits_of_bytes-part_of c =
     let i = c.loop-at.at in
     let zip = c.requires.tests in
     let read = test_read m ws ts n zip c.loop-at.from (8 * length c.args.bytes.now) i c.bits_of_bytes.result c.loop-at-test.true c.loop-at.invariant.place c.bits_of_bytes.ensures in
-    let differ : (slice n (sum (drop (i + 1) ws)) (get_or ws i 0) == part_of m (get_or ts i none)) ≡ false =
+    let differ : (slice n (sum (drop (i + 1) ws)) (get_or ws i 0) == mask_or_value m (get_or ts i none)) ≡ false =
     ne_eqb _ _ (λ e. c.if-bits_of_bytes-part_of.true (read ∙ e ∙ sym (test_part c))) in
     let no : (n == one m ws ts) ≡ false =
     sym c.loop-at.invariant.same ∙ tests_step m ws ts n zip i none c.loop-at-test.true ∙ ap (λ b. b && left_of m ws ts n (i + 1)) differ in
     (λ nothing. absurd cc, λ same. absurd (both_ways (n == one m ws ts) no (eq-eqb n (one m ws ts) same)))
   where
-    test_part : (c : goal.Then-bits_of_bytes-part_of) → c.part_of.result ≡ part_of c.args.mask (get_or c.args.tests.now c.loop-at.at none)
+    test_part : (c : goal.Then-bits_of_bytes-part_of) → c.part_of.result ≡ mask_or_value c.args.mask (get_or c.args.tests.now c.loop-at.at none)
     test_part c = c.part_of.ensures
 
 pub bounds-widths-at-in-loop-at : goal.bounds-widths-at-in-loop-at
@@ -63,7 +63,7 @@ loop-at-preserved c =
     let i = c.loop-at.at in
     let zip = c.requires.tests in
     let read = test_read m ws ts n zip c.loop-at.from (8 * length c.args.bytes.now) i c.bits_of_bytes.result c.loop-at-test.true c.loop-at.invariant.place c.bits_of_bytes.ensures in
-    let same : (slice n (sum (drop (i + 1) ws)) (get_or ws i 0) == part_of m (get_or ts i none)) ≡ true = eq-eqb _ _ (sym read ∙ c.if-bits_of_bytes-part_of.false ∙ c.part_of.ensures) in
+    let same : (slice n (sum (drop (i + 1) ws)) (get_or ws i 0) == mask_or_value m (get_or ts i none)) ≡ true = eq-eqb _ _ (sym read ∙ c.if-bits_of_bytes-part_of.false ∙ c.part_of.ensures) in
     record {
       place = (place_next m ws ts n zip c.loop-at.from (8 * length c.args.bytes.now) i c.loop-at-test.true c.loop-at.invariant.place).0;
       same = sym (tests_step m ws ts n zip i none c.loop-at-test.true ∙ ap (λ b. b && left_of m ws ts n (i + 1)) same) ∙ c.loop-at.invariant.same;

@@ -1,10 +1,10 @@
-use Rattle.std.proofs.Common.{◌≡◌, ◌<◌, ◌∷◌, ◌++◌, ap, subst, sym, ◌∙◌, Result, List, ℕ, length, get_or, take, drop, rules}
+use Rattle.std.proofs.Common.{◌≡◌, ◌<◌, ◌∷◌, ◌++◌, ap, subst, ◌∙◌, Result, List, ℕ, length, get_or, take, drop, rules}
 use Rattle.std.specs.Ordering.{nat_cmp}
 use Rattle.std.specs.List.Sorted.{IsBinarySearchResult}
 use Rattle.std.proofs.lemmas.Fn.{always_returns_same}
 use Rattle.std.proofs.lemmas.Map.Lookups.{exact_unsigned}
 use Rattle.rmt_bits.specs.declared.answer.Count.{Count}
-use Rattle.rmt_bits.specs.Counting.{AreRising, zero_count, with_count}
+use Rattle.rmt_bits.specs.Counting.{zero_count}
 use Rattle.rmt_bits.proofs.CountLaws.{with_count-here, with_count-there}
 use Rattle.rmt_bits.proofs.counts.run.Run.add.Goals as goal
 

@@ -1,14 +1,13 @@
-use Rattle.std.proofs.Common.{◌≡◌, ℕ, List, ◌++◌, ◌+◌, ◌*◌, ◌/◌, ◌<◌, get_or, drop, length, Bool, true, false, eqb, sym, subst, ap, ◌∙◌, arith}
+use Rattle.std.proofs.Common.{◌≡◌, ℕ, List, ◌++◌, ◌*◌, ◌/◌, ◌<◌, get_or, drop, length, true, false, sym, subst, ap, ◌∙◌, arith}
 use Rattle.std.proofs.lemmas.List.{drop_all}
 use Rattle.rmt_bits.specs.Bits.{bytes_of}
 use Rattle.rmt_bits.proofs.ByteLaws.{length-bytes_of}
-use Rattle.rmt_bits.specs.Hash.{hash_row}
 use Rattle.rmt_config.specs.Cells.{Cell, entry_at, sram_row}
 use Rattle.rmt_config.specs.Types.{CellNumber}
 use Rattle.rmt_config.specs.Shapes.{divided_up}
 use Rattle.rmt_config.specs.KeyPrints.{kept_of}
 use Rattle.rmt_config.specs.KeysSeen.{key_in, stands_there}
-use Rattle.rmt_config.proofs.SpelledCandidates.{candidate-row, cell-stands, place-same}
+use Rattle.rmt_config.proofs.SpelledCandidates.{cell-stands, place-same}
 use Rattle.rmt_config.proofs.KeyListLaws.{keys-at, keys-none, keys-stop}
 use Rattle.rmt_config.proofs.form.names.exact_part.put_long_keys.Goals as goal
 use Rattle.rmt_config.proofs.form.names.exact_part.put_long_keys.Goals.{After-stands_at}
@@ -31,20 +30,6 @@ read c =
     c.in_ok-put_key.ensures
     ∙ ap (λ (old : List ℕ). old ++ entry (record { way = place.result.way; row = place.result.row; position = place.result.position })) c.clear.ensures.items ∙ same
 
--- whether the cell stands so was found out
-its : (c : After-stands_at)
-    → stands_there c.args.seed c.args.first_way c.args.per c.args.quanta (divided_up c.args.bits 8) (key_of c) (here c) ≡ c.stands_at.result
-its c =
-    let per = c.args.per in
-    let d = c.args.quanta in
-    let n = here c in
-    let place = c.place_of-place in
-    let bytes = c.as_slice.result.now in
-    let is_at : ℕ → ℕ → Bool = λ way row. eqb (hash_row c.args.seed (c.args.first_way + way) bytes (1024 * d)) row in
-    let candidate = c.stands_at.ensures ∙ ap (λ way. is_at way place.result.row) place.ensures.way ∙ ap (is_at (n.cell / per / (1024 * d))) place.ensures.row
-    ∙ sym (candidate-row c.args.seed c.args.first_way per d bytes n.cell c.requires.per c.requires.quanta (subst (λ way. way < 4) place.ensures.way place.ensures.four)) in
-    cell-stands c.args.seed c.args.first_way per d (divided_up c.args.bits 8) (key_of c) n bytes c.put_key.new.keys.items c.stands_at.result candidate c.as_slice.ensures.value (read c)
-
 pub put_long-requires : goal.put_long-requires
 put_long-requires c =
     let size = divided_up c.args.bits 8 in
@@ -61,7 +46,8 @@ returns-then-not-stands_at c =
     let old = c.loop-number.kept.items in
     c.loop-number.invariant old false
     (keys-stop c.args.whole size stands key c.args.numbers.now c.loop-number.number-index none old old c.loop-number-test.true
-    (its (goal.at.returns-then-not-stands_at c).After-stands_at ∙ c.if-not-stands_at.true))
+    (cell-stands c.args.seed c.args.first_way c.args.per c.args.quanta size key (here (goal.at.returns-then-not-stands_at c).After-stands_at) c.as_slice.result.now c.place_of-place.result.way c.place_of-place.result.row c.stands_at.result c.requires.per c.requires.quanta
+    c.place_of-place.ensures.four c.place_of-place.ensures.way c.place_of-place.ensures.row (c.as_slice.ensures.value ∙ read (goal.at.returns-then-not-stands_at c).After-stands_at) c.stands_at.ensures ∙ c.if-not-stands_at.true))
 
 pub loop-number-preserved : goal.loop-number-preserved
 loop-number-preserved c new stand h =
@@ -72,7 +58,8 @@ loop-number-preserved c new stand h =
     let added = c.in_ok-put_long.ensures ∙ ap (λ (bs : List ℕ). old ++ kept_of c.args.whole bs) (c.as_slice-in-loop-number.ensures.value ∙ read (goal.at.loop-number-preserved c).After-stands_at) in
     c.loop-number.invariant new stand
     (keys-at c.args.whole size stands key c.args.numbers.now c.loop-number.number-index none old c.put_long.new.into.items new stand c.loop-number-test.true
-    (its (goal.at.loop-number-preserved c).After-stands_at ∙ c.if-not-stands_at.false) added h)
+    (cell-stands c.args.seed c.args.first_way c.args.per c.args.quanta size key (here (goal.at.loop-number-preserved c).After-stands_at) c.as_slice.result.now c.place_of-place.result.way c.place_of-place.result.row c.stands_at.result c.requires.per c.requires.quanta
+    c.place_of-place.ensures.four c.place_of-place.ensures.way c.place_of-place.ensures.row (c.as_slice.ensures.value ∙ read (goal.at.loop-number-preserved c).After-stands_at) c.stands_at.ensures ∙ c.if-not-stands_at.false) added h)
 
 pub returns : goal.returns
 returns c =

@@ -1,14 +1,13 @@
-use Rattle.std.proofs.Common.{◌≡◌, ℕ, List, ◌++◌, ◌+◌, ◌*◌, ◌/◌, ◌<◌, ◌≤◌, get_or, drop, length, Bool, true, false, eqb, refl, sym, subst, ap, ◌∙◌, arith}
+use Rattle.std.proofs.Common.{◌≡◌, ℕ, List, ◌++◌, ◌*◌, ◌/◌, ◌≤◌, get_or, drop, length, true, false, sym, subst, ap, ◌∙◌, arith}
 use Rattle.std.proofs.lemmas.List.{drop_all}
 use Rattle.rmt_bits.specs.Bits.{bytes_of, number_of}
 use Rattle.rmt_bits.proofs.ByteLaws.{length-bytes_of}
-use Rattle.rmt_bits.specs.Hash.{hash_row}
 use Rattle.rmt_config.specs.Cells.{Cell, entry_at, sram_row}
 use Rattle.rmt_config.specs.Types.{CellNumber}
 use Rattle.rmt_config.specs.Shapes.{divided_up}
 use Rattle.rmt_config.specs.KeyPrints.{kept_of}
 use Rattle.rmt_config.specs.KeysSeen.{key_in, stands_there}
-use Rattle.rmt_config.proofs.SpelledCandidates.{candidate-row, cell-stands, place-same}
+use Rattle.rmt_config.proofs.SpelledCandidates.{cell-stands, place-same}
 use Rattle.rmt_config.proofs.HighFirst.{last-of}
 use Rattle.rmt_config.proofs.KeyListLaws.{keys-at, keys-none, keys-stop}
 use Rattle.rmt_config.proofs.form.names.exact_part.put_short_keys.Goals as goal
@@ -38,20 +37,6 @@ read c =
     ∙ last-of _ c.divided_up-size.result c.short_key-key.result (omega (arith, c.divided_up-size.ensures, c.requires.short)) c.to_be_bytes-all.ensures
     ∙ ap (λ size. bytes_of size c.short_key-key.result) c.divided_up-size.ensures ∙ ap (bytes_of (divided_up c.args.bits 8)) (key-is c)
 
--- whether the cell stands so was found out
-its : (c : After-stands_at)
-    → stands_there c.args.seed c.args.first_way c.args.per c.args.quanta (divided_up c.args.bits 8) (key_of c) (here c) ≡ c.stands_at.result
-its c =
-    let per = c.args.per in
-    let d = c.args.quanta in
-    let n = here c in
-    let place = c.place_of-place in
-    let bytes = c.lowest-bytes.result.now in
-    let is_at : ℕ → ℕ → Bool = λ way row. eqb (hash_row c.args.seed (c.args.first_way + way) bytes (1024 * d)) row in
-    let candidate = c.stands_at.ensures ∙ ap (λ way. is_at way place.result.row) place.ensures.way ∙ ap (is_at (n.cell / per / (1024 * d))) place.ensures.row
-    ∙ sym (candidate-row c.args.seed c.args.first_way per d bytes n.cell c.requires.per c.requires.quanta (subst (λ way. way < 4) place.ensures.way place.ensures.four)) in
-    cell-stands c.args.seed c.args.first_way per d (divided_up c.args.bits 8) (key_of c) n bytes bytes c.stands_at.result candidate refl (read c)
-
 pub lowest-bytes-requires-clause-few : goal.lowest-bytes-requires-clause-few
 lowest-bytes-requires-clause-few c = omega (arith, c.divided_up-size.ensures, c.requires.short)
 
@@ -76,7 +61,8 @@ returns-then-not-stands_at c =
     let old = c.loop-number.kept.items in
     c.loop-number.invariant old false
     (keys-stop c.args.whole size stands key c.args.numbers.now c.loop-number.number-index none old old c.loop-number-test.true
-    (its (goal.at.returns-then-not-stands_at c).After-stands_at ∙ c.if-not-stands_at.true))
+    (cell-stands c.args.seed c.args.first_way c.args.per c.args.quanta size key (here (goal.at.returns-then-not-stands_at c).After-stands_at) c.lowest-bytes.result.now c.place_of-place.result.way c.place_of-place.result.row c.stands_at.result c.requires.per c.requires.quanta
+    c.place_of-place.ensures.four c.place_of-place.ensures.way c.place_of-place.ensures.row (read (goal.at.returns-then-not-stands_at c).After-stands_at) c.stands_at.ensures ∙ c.if-not-stands_at.true))
 
 pub loop-number-preserved : goal.loop-number-preserved
 loop-number-preserved c new stand h =
@@ -88,7 +74,8 @@ loop-number-preserved c new stand h =
     let added = c.in_ok-put_short.ensures ∙ ap (λ (bs : List ℕ). old ++ kept_of c.args.whole bs) (read at) in
     c.loop-number.invariant new stand
     (keys-at c.args.whole size stands key c.args.numbers.now c.loop-number.number-index none old c.put_short.new.into.items new stand c.loop-number-test.true
-    (its at ∙ c.if-not-stands_at.false) added h)
+    (cell-stands c.args.seed c.args.first_way c.args.per c.args.quanta size key (here at) c.lowest-bytes.result.now c.place_of-place.result.way c.place_of-place.result.row c.stands_at.result c.requires.per c.requires.quanta
+    c.place_of-place.ensures.four c.place_of-place.ensures.way c.place_of-place.ensures.row (read at) c.stands_at.ensures ∙ c.if-not-stands_at.false) added h)
 
 pub returns : goal.returns
 returns c =

@@ -1,7 +1,6 @@
-use Rattle.std.proofs.Common.{◌≡◌, ◌+◌, ◌*◌, ◌/◌, ◌%◌, ◌^◌, ◌<◌, ◌≤◌, List, ℕ, ap, ◌∙◌, sym, subst, arith}
+use Rattle.std.proofs.Common.{◌≡◌, ◌+◌, ◌*◌, ◌/◌, ◌%◌, ◌<◌, List, ℕ, ap, ◌∙◌, sym, subst, arith}
 use Rattle.std.proofs.lemmas.Nat.{div_below, mul-le}
 use Rattle.rmt_bits.specs.Bits.{slice, bytes_of, number_of}
-use Rattle.rmt_bits.proofs.BitLaws.{slice-lt}
 use Rattle.rmt_config.specs.Cells.{blocks_at, sram_row, unit_row}
 use Rattle.rmt_config.specs.Shapes.{divided_up}
 use Rattle.rmt_config.proofs.SpelledBytes.{slice-number}

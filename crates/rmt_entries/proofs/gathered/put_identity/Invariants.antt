@@ -1,6 +1,6 @@
 use Rattle.std.proofs.Common.{◌≡◌, ◌++◌, ◌∷◌, drop, map}
 use Rattle.rmt_ast.specs.declared.program.Test.{Test}
-use Rattle.rmt_entries.proofs.gathered.identity.Given as goal
+use Rattle.rmt_entries.proofs.gathered.put_identity.Given as goal
 
 -- the key so far, and then the values of the other tests
 abbrev pub invariant-loop-test : goal.invariant-loop-test

@@ -1,6 +1,6 @@
 use Rattle.std.proofs.Common.{◌+◌, ◌-◌, ◌/◌, ◌<◌, length, arith}
 use Rattle.rmt_config.proofs.RiseLaws.{middle-below, middle-above}
-use Rattle.rmt_config.proofs.form.search.first_from.Goals as goal
+use Rattle.rmt_config.proofs.form.search.first_between.Goals as goal
 
 pub loop-low-preserved-then-place : goal.loop-low-preserved-then-place
 loop-low-preserved-then-place g c =
@@ -9,7 +9,7 @@ loop-low-preserved-then-place g c =
     record {
       order = omega arith;
       within = omega arith;
-      below = middle-below g.T.Numbered.place_of c.args.items.now m c.args.place c.index-items-middle.result c.requires lm c.index-items-middle.is
+      below = middle-below g.T.Numbered.place_of c.args.items.now m c.args.place c.index-items-middle.result c.requires.rising lm c.index-items-middle.is
           (omega (arith, c.place.ensures, c.if-place.true));
       above = c.loop-low.invariant.above;
     }
@@ -22,6 +22,6 @@ loop-low-preserved g c =
       order = omega arith;
       within = omega arith;
       below = c.loop-low.invariant.below;
-      above = middle-above g.T.Numbered.place_of c.args.items.now m c.args.place c.index-items-middle.result c.requires lm c.index-items-middle.is
+      above = middle-above g.T.Numbered.place_of c.args.items.now m c.args.place c.index-items-middle.result c.requires.rising lm c.index-items-middle.is
           (omega (arith, c.place.ensures, c.if-place.false));
     }

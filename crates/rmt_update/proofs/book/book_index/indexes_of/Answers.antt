@@ -1,0 +1,30 @@
+use Rattle.std.proofs.Common.{◌≡◌, ◌++◌, ◌∷◌, [], Some, refl, sym, subst, take}
+use Rattle.std.specs.Prelude.{slice_get}
+use Rattle.std.specs.List.{AllZip}
+use Rattle.std.proofs.lemmas.List.{take_all}
+use Rattle.rmt_bits.proofs.ListLaws.{slice_get-seen, zip_push}
+use Rattle.rmt_update.specs.RowIndex.{IsIndex, never}
+use Rattle.rmt_update.proofs.GoingLaws.{own-rows}
+use Rattle.rmt_update.proofs.SliceLoops.{take-next}
+use Rattle.rmt_update.proofs.book.book_index.indexes_of.Goals as goal
+
+pub loop-table-init : goal.loop-table-init
+loop-table-init c = subst (AllZip (IsIndex c.args.odd never) []) (sym c.in_ok-indexes.ensures.items) tt
+
+pub index_of-requires : goal.index_of-requires
+index_of-requires c =
+    let ts = c.args.tables.now in
+    record { numbers = own-rows ts c.requires c.loop-table.table-index c.table-item.result (slice_get-seen ts ts c.loop-table.table-index c.table-item.result refl c.loop-table-test.true c.table-item.is) }
+
+pub loop-table-preserved : goal.loop-table-preserved
+loop-table-preserved c =
+    let ts = c.args.tables.now in
+    let i = c.loop-table.table-index in
+    let t = c.table-item.result in
+    let at : slice_get ts i ≡ Some t = slice_get-seen ts ts i t refl c.loop-table-test.true c.table-item.is in
+    subst (λ us. AllZip (IsIndex c.args.odd never) us c.push.new.self.items) (sym (take-next ts i t at))
+    (subst (AllZip (IsIndex c.args.odd never) (take i ts ++ t ∷ [])) (sym c.in_ok-push.ensures.items)
+    (zip_push (IsIndex c.args.odd never) (take i ts) c.loop-table.indexes.items t c.in_ok-index_of.field-0 c.loop-table.invariant c.in_ok-index_of.ensures))
+
+pub returns : goal.returns
+returns c = subst (λ us. AllZip (IsIndex c.args.odd never) us c.loop-table.indexes.items) (take_all c.loop-table.table-index c.args.tables.now c.loop-table-test.false) c.loop-table.invariant
