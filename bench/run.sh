@@ -3,10 +3,10 @@
 # them in flight; a counted table of 100,000 exact keys, and one of 20,000 ternary entries under 40 masks, by `sim` and by `plain`; one of
 # as many under random masks, by `sim`; 20,000 packets with 2,000 commits over 200 entries; some 100,000 changed cells with packets
 # between them; two tables of 1,000,000 exact keys each, which are compiled, verified and run, and a thousand commits of one change
-# each on them beside one reading of their image; 1,000,000 additions in one commit; 128 tables; a ternary table that is too large
-# for the chip; and images of 1,048,576 exact and of 262,144 ternary entries, read without and with their names; and captures of
-# 16 MiB through the router of `examples/`. Behind them what `bench/improve.sh` and `bench/captures.sh` print; the latter wants
-# `tshark` and `tcpdump`.
+# each on such tables, additions, removals and both, each beside one reading of the image; 1,000,000 additions in one commit; 128
+# tables; a ternary table that is too large for the chip; and images of 1,048,576 exact and of 262,144 ternary entries, read without
+# and with their names; and captures of 16 MiB through the router of `examples/`. Behind them what `bench/improve.sh` and
+# `bench/captures.sh` print; the latter wants `tshark` and `tcpdump`.
 set -eu
 top=$(cd "$(dirname "$0")/.." && pwd)
 work=$(mktemp -d)
@@ -111,9 +111,10 @@ cycles = next(int(line.split()[1]) for line in lines if line.startswith("cycles 
 print(f"cells: sim of 50,000 packets with as many commits, of two cells or more each, in {seconds:.2f} s, "
       f"{cycles / seconds:,.0f} cycles a second, {peak:.0f} MiB")
 
-write("large.rmt", ["header h { a : 48; b : 48; } next accept;\naction go(p : 9) { out_port = p; }\n"
-    "table first { exact h.a; actions go; size 1000000; default go(0); }\ntable second { exact h.b; actions go; size 1000000; default go(0); }\n"
-    "control { apply first; apply second; }\n"])
+large = "header h { a : 48; b : 48; } next accept;\naction go(p : 9) { out_port = p; }\n" \
+    "table first { exact h.a; actions go; size 1000000; default go(0); }\ntable second { exact h.b; actions go; size 1000000; default go(0); }\n" \
+    "control { apply first; apply second; }\n"
+write("large.rmt", [large])
 write("large.ent", (f"{table} {wide(i)} go {i % 512}\n" for table in ("first", "second") for i in range(1_000_000)))
 compiled("large")
 compiled("large", "large.map")
@@ -121,13 +122,23 @@ seconds, peak, lines = printed("verify", "large.rmt", "large.ent", "large.img", 
 print(f"large: verified in {seconds:.2f} s, {peak:.0f} MiB: {lines[0]}")
 packets("large", 1_000_000, lambda k: f"{k % 512} {wide(k):012x}{wide(k * 7 % 1_000_000):012x}\n")
 
-# One reading of the image, a run over no packet, and one with a thousand commits of one change each.
+# One reading of an image, a run over no packet, and runs with a thousand commits of one change each: additions to a table that has
+# room, removals of entries all over one, and both in turn.
 write("none.pkt", [])
-write("changes.pkt", (f"- first {wide(k)}\ncommit\n+ first {wide(k)} go 1\ncommit\n" for k in range(0, 500_000, 1000)))
-reading, _ = run("report", "large.img")
-without, _ = run("sim", "large.img", "none.pkt")
-seconds, peak = run("sim", "large.img", "changes.pkt")
-print(f"large: 1,000 commits of one change each in {seconds - without:.2f} s, {peak:.0f} MiB; the image is read in {reading:.2f} s")
+write("room.rmt", [large])
+write("room.ent", (f"{table} {wide(i)} go {i % 512}\n" for table in ("first", "second") for i in range(999_000)))
+compiled("room")
+thousand = {
+    "additions": ("room", (f"+ first {wide(k)} go 1\ncommit\n" for k in range(999_000, 1_000_000))),
+    "removals": ("large", (f"- first {wide(k)}\ncommit\n" for k in range(0, 1_000_000, 1000))),
+    "removals and additions": ("large", (f"- first {wide(k)}\ncommit\n+ first {wide(k)} go 1\ncommit\n" for k in range(0, 1_000_000, 2000))),
+}
+for what, (name, lines) in thousand.items():
+    write("changes.pkt", lines)
+    reading, _ = run("report", f"{name}.img")
+    without, _ = run("sim", f"{name}.img", "none.pkt")
+    seconds, peak = run("sim", f"{name}.img", "changes.pkt")
+    print(f"{name}: 1,000 commits of one change each, {what}, in {seconds - without:.2f} s, {peak:.0f} MiB; the image is read in {reading:.2f} s")
 
 write("none.ent", [])
 run("compile", "large.rmt", "none.ent", "empty.img")

@@ -14,7 +14,8 @@ use Rattle.rmt_ast.specs.WellFormed.{IsProgram}
 use Rattle.rmt_config.specs.declared.config.Memory.TheVariants as memory
 use Rattle.rmt_config.specs.declared.config.Unit.TheVariants.{Gate, Slot}
 use Rattle.rmt_config.specs.LaneForm.{bits_of_lanes}
-use Rattle.rmt_config.specs.Resources.{memory_sram, memory_tcam, unit_instructions, unit_sram, unit_tcam}
+use Rattle.rmt_config.specs.Instructions.{unit_instructions}
+use Rattle.rmt_config.specs.Resources.{memory_sram, memory_tcam, unit_sram, unit_tcam}
 use Rattle.rmt_config.specs.StageForm.{memory_sram_blocks, memory_tcam_blocks, sram_blocks, tcam_blocks}
 use Rattle.rmt_pack.specs.Placements.{key_bits, quanta_in}
 use Rattle.rmt_pack.proofs.BlockLaws.{apart-both, range-apart}

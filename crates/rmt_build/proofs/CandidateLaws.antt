@@ -13,7 +13,7 @@ use Rattle.rmt_bits.specs.Bits.{bytes_of}
 use Rattle.rmt_bits.specs.Hash.{hash_row}
 use Rattle.rmt_config.specs.declared.config.Memory.TheVariants.{Exact}
 use Rattle.rmt_config.specs.Cells.{candidates as looked_in, index_of, key_row}
-use Rattle.rmt_config.specs.Shapes.{divided_up}
+use Rattle.rmt_config.specs.BlockCounts.{divided_up}
 use Rattle.rmt_cuckoo.specs.declared.layout.Ways.{Ways}
 use Rattle.rmt_cuckoo.specs.declared.way.Way.{Way}
 use Rattle.rmt_cuckoo.specs.Loading.{candidates, cells_in, row_start, way_of, ways_from}

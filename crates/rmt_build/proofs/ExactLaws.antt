@@ -10,7 +10,7 @@ use Rattle.rmt_build.specs.Types.{Program, Table}
 use Rattle.rmt_ast.specs.declared.entry.Entry.{Entry}
 use Rattle.rmt_config.specs.CellForm.{EndsAt, RecordsEnd}
 use Rattle.rmt_config.specs.Cells.{Blocks, blocks_at, unit_row}
-use Rattle.rmt_config.specs.Shapes.{record_units, record_width, records_a_row}
+use Rattle.rmt_config.specs.BlockCounts.{record_units, record_width, records_a_row}
 use Rattle.rmt_pack.specs.declared.shape.Shape.{Shape}
 use Rattle.rmt_pack.specs.Cells.{PutsEntry, PutsRecord, entry_of, index_in, place_of, quantum_in, record_of, thousands_in}
 use Rattle.rmt_pack.specs.Shape.{IsShape, cells_in}

@@ -19,7 +19,7 @@ use Rattle.rmt_pack.specs.declared.placement.Part.{Part}
 use Rattle.rmt_pack.specs.declared.format.Format.{Format}
 use Rattle.rmt_pack.specs.Formats.{no_memory}
 use Rattle.rmt_pack.specs.Placements.{quanta_in}
-use Rattle.rmt_build.specs.declared.memory.Need.{Need}
+use Rattle.rmt_build.specs.declared.memory.PartNeed.{PartNeed}
 use Rattle.rmt_build.specs.declared.memory.Taken.{Taken}
 use Rattle.rmt_build.specs.Memories.{blocks_for, memory_for, sram_for, tcam_for}
 use Rattle.rmt_build.specs.Plans.{AreParts, format_at, need_in, taken_upto, what_format}
@@ -40,13 +40,13 @@ three_ranges start a b c =
 
 -- ---- the blocks of a memory
 
-memory_sram_is : (kd : Kind) (n : Need) (taken : Taken) → memory_sram (memory_for kd n taken) ≡ range_with_len taken.sram (sram_for kd (blocks_for kd n))
+memory_sram_is : (kd : Kind) (n : PartNeed) (taken : Taken) → memory_sram (memory_for kd n taken) ≡ range_with_len taken.sram (sram_for kd (blocks_for kd n))
 memory_sram_is kind.Keyless n taken = refl
 memory_sram_is kind.Exact n taken = let s = blocks_for kind.Exact n in three_ranges taken.sram s.keys s.records s.counters
 memory_sram_is kind.Prefix n taken = let s = blocks_for kind.Prefix n in sym (range-append taken.sram s.records s.counters)
 memory_sram_is kind.Ternary n taken = let s = blocks_for kind.Ternary n in sym (range-append taken.sram s.records s.counters)
 
-memory_tcam_is : (kd : Kind) (n : Need) (taken : Taken) → memory_tcam (memory_for kd n taken) ≡ range_with_len taken.tcam (tcam_for kd (blocks_for kd n))
+memory_tcam_is : (kd : Kind) (n : PartNeed) (taken : Taken) → memory_tcam (memory_for kd n taken) ≡ range_with_len taken.tcam (tcam_for kd (blocks_for kd n))
 memory_tcam_is kind.Keyless n taken = refl
 memory_tcam_is kind.Exact n taken = refl
 memory_tcam_is kind.Prefix n taken = refl

@@ -37,7 +37,7 @@ use Rattle.rmt_build.proofs.FormMemory.{cells_within}
 use Rattle.rmt_build.proofs.FormSlots.{AreSmall, HasKeyed, are_small, exact_formed, few_quanta_cells, ternary_formed}
 use Rattle.rmt_build.proofs.FormUnits.{few_lanes, guard_formed, small_mask, some_lanes}
 use Rattle.rmt_build.proofs.PlanLaws.{has_need, is_format, is_table, sram_fits, tcam_fits}
-use Rattle.rmt_config.specs.Shapes.{divided_up}
+use Rattle.rmt_config.specs.BlockCounts.{divided_up}
 use Rattle.rmt_build.proofs.MemoryLaws.{few_quanta}
 
 none_below : (xs : List Stand) → All (λ (s : Stand). s.cell < 0) xs → length xs ≡ 0

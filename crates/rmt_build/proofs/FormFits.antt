@@ -15,7 +15,7 @@ use Rattle.rmt_ast.specs.WellFormed.{AllNumbered, IsProgram}
 use Rattle.rmt_config.specs.declared.config.Unit.TheVariants.{Slot}
 use Rattle.rmt_config.specs.Resources.{distinct, memory_width, node_count, node_numbers, unit_width}
 use Rattle.rmt_config.specs.TableForm.{node_of}
-use Rattle.rmt_pack.specs.declared.format.Need.{Need as TableNeed}
+use Rattle.rmt_pack.specs.declared.format.Need.{Need}
 use Rattle.rmt_pack.specs.declared.placement.Part.{Part}
 use Rattle.rmt_pack.specs.Formats.{IsFormat}
 use Rattle.rmt_pack.specs.Placements.{quanta_in, table_need}
@@ -26,7 +26,7 @@ use Rattle.rmt_refine.specs.View.{as_slot}
 use Rattle.rmt_refine.proofs.FindLaws.{Contains-range}
 use Rattle.rmt_bits.proofs.MemberLaws.{Contains-unfilter}
 use Rattle.rmt_refine.proofs.PartLaws.{then_some}
-use Rattle.rmt_build.specs.declared.memory.Need.{Need}
+use Rattle.rmt_build.specs.declared.memory.PartNeed.{PartNeed}
 use Rattle.rmt_build.specs.declared.memory.Taken.{Taken}
 use Rattle.rmt_build.specs.declared.plan.Plan.{Plan}
 use Rattle.rmt_build.specs.BuiltStage.{IsBuiltSlot, IsBuiltStage}
@@ -98,7 +98,7 @@ module _ (p : Program) (lists : List (List Entry)) (plan : Plan) (program : IsPr
         let own = (slot_built i n s t (at_u ∙ ap Some is) number table).1.memory in
         own ∙ ap (λ m. memory_for t.kind (need_in p parts t m k) (taken_upto p parts k m)) number)) built.units
 
-    narrow_memory : (kd : Kind) (n : ℕ) (t : TableNeed) (need : Need) (taken : Taken) → IsFormat kd t need.format → memory_width (memory_for kd need taken) ≤ 8
+    narrow_memory : (kd : Kind) (n : ℕ) (t : Need) (need : PartNeed) (taken : Taken) → IsFormat kd t need.format → memory_width (memory_for kd need taken) ≤ 8
     narrow_memory kind.Keyless n t need taken f = omega arith
     narrow_memory kind.Exact n t need taken f = f.width
     narrow_memory kind.Prefix n t need taken f = omega arith

@@ -12,7 +12,7 @@ use Rattle.rmt_config.specs.declared.config.Unit.TheVariants.{Gate, Slot}
 use Rattle.rmt_config.specs.CellForm.{SlotHolds, StageHolds}
 use Rattle.rmt_config.specs.Order.{rises_from}
 use Rattle.rmt_config.specs.StageForm.{starts_are_formed}
-use Rattle.rmt_refine.specs.Cells.{first_code}
+use Rattle.rmt_config.specs.Instructions.{first_code}
 use Rattle.rmt_refine.specs.Units.{UnitCarried, nodes_in}
 use Rattle.rmt_refine.proofs.TheLaw.{table_entries}
 use Rattle.rmt_build.specs.declared.plan.Plan.{Plan}

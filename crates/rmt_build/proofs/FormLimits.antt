@@ -7,7 +7,8 @@ use Rattle.rmt_bits.proofs.AllLaws.{All-slice_get}
 use Rattle.rmt_build.specs.Types.{Config, ParserConfig, ParserState, ParserEntry, Stage}
 use Rattle.rmt_config.specs.declared.limits.LimitHit.{LimitHit}
 use Rattle.rmt_config.specs.Limits.{IsWithinLimits, code_hit, crowded_stage, data_hit, entries_hit, entry_hit, exact_words_hit, first_hit, first_passed, gates_hit, last_start_hit, listed_hit, lookups_hit, nodes_hit, over, parser_limit_hit, reading_limit_hit, slots_hit, sram_hit, stage_hit, stage_limit_hit, stages_hit, states_hit, tcam_hit, ternary_words_hit, unit_limit_hit, width_hit}
-use Rattle.rmt_config.specs.Resources.{crossbar_bits, exact_words, greatest_by, is_gate, is_slot, most_listed_in, node_count, ternary_words, unit_data, unit_instructions, unit_sram, unit_tcam, unit_width}
+use Rattle.rmt_config.specs.Instructions.{unit_instructions}
+use Rattle.rmt_config.specs.Resources.{crossbar_bits, exact_words, greatest_by, is_gate, is_slot, most_listed_in, node_count, ternary_words, unit_data, unit_sram, unit_tcam, unit_width}
 use Rattle.rmt_config.proofs.LimitLaws.{no_hit, none_of}
 
 -- ---- one limit

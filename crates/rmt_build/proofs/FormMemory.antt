@@ -17,7 +17,7 @@ use Rattle.rmt_config.specs.declared.config.Unit.TheVariants.{Gate, Slot}
 use Rattle.rmt_config.specs.CellForm.{Coded, SlotHolds, cells_of, coded_from, content_is_formed, numbers_are_formed}
 use Rattle.rmt_config.specs.Cells.{cells_in, code_of, content_of, visible_bits}
 use Rattle.rmt_config.specs.Order.{rises_from}
-use Rattle.rmt_config.specs.Resources.{unit_instructions}
+use Rattle.rmt_config.specs.Instructions.{first_code, unit_instructions}
 use Rattle.rmt_build.specs.declared.plan.Plan.{Plan}
 use Rattle.rmt_build.specs.declared.stands.Stand.{Stand}
 use Rattle.rmt_build.specs.BuiltStage.{HoldsStand, IsBuiltSlot}
@@ -25,7 +25,6 @@ use Rattle.rmt_build.specs.Numbers.{number_at}
 use Rattle.rmt_build.specs.Plans.{format_at, need_in, quanta_before, stands_of_part, taken_upto}
 use Rattle.rmt_build.specs.EntryCells.{cells_for, counted_from, stands_there, stands_within}
 use Rattle.rmt_pack.specs.Placements.{quanta_in}
-use Rattle.rmt_refine.specs.Cells.{first_code}
 use Rattle.rmt_refine.proofs.PartLaws.{some_and}
 use Rattle.rmt_build.proofs.MemoryLaws.{memory_cells}
 

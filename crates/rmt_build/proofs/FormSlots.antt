@@ -11,13 +11,13 @@ use Rattle.rmt_bits.proofs.AllLaws.{All-range}
 use Rattle.rmt_build.specs.Types.{Program, Table, Kind, SlotUnit}
 use Rattle.rmt_ast.specs.declared.program.Kind.TheVariants as kind
 use Rattle.rmt_ast.specs.WellFormed.{HasKey, bits_of}
-use Rattle.rmt_config.specs.Shapes.{divided_up, exact_shape, ternary_shape}
-use Rattle.rmt_config.specs.UnitForm.{are_sram_blocks, are_tcam_blocks, format_is_formed, has_shape, may_have_memory, memory_is_formed}
+use Rattle.rmt_config.specs.BlockCounts.{divided_up, exact_block_counts, ternary_block_counts}
+use Rattle.rmt_config.specs.UnitForm.{are_sram_blocks, are_tcam_blocks, format_is_formed, has_block_counts, may_have_memory, memory_is_formed}
 use Rattle.rmt_config.specs.LaneForm.{bits_of_lanes}
-use Rattle.rmt_pack.specs.declared.format.Need.{Need as TableNeed}
+use Rattle.rmt_pack.specs.declared.format.Need.{Need}
 use Rattle.rmt_pack.specs.Formats.{HasNeed, IsExactFormat, most_cells}
 use Rattle.rmt_pack.specs.Placements.{data_bits, key_bits, param_bits, table_need}
-use Rattle.rmt_build.specs.declared.memory.Need.{Need}
+use Rattle.rmt_build.specs.declared.memory.PartNeed.{PartNeed}
 use Rattle.rmt_build.specs.declared.memory.Taken.{Taken}
 use Rattle.rmt_build.specs.Memories.{blocks_for, memory_for, sram_for, tcam_for}
 use Rattle.rmt_pack.specs.declared.format.Format.{Format}
@@ -47,13 +47,13 @@ blocks_below most a n le =
     list_all-from_AllPass (λ b. nat_lt b most) (range_with_len a n) (All-range (λ b. nat_lt b most ≡ true) a n (λ w lt. lt-ltb w most (omega (arith, lt, le))))
 
 -- cells of an exact row fit its blocks
-cells_fit : (n : TableNeed) (k per : ℕ) → per ≤ most_cells n k → per * (n.key + 8) ≤ 112 * k
+cells_fit : (n : Need) (k per : ℕ) → per ≤ most_cells n k → per * (n.key + 8) ≤ 112 * k
 cells_fit n k per le =
     let one = mul-le per (n.key + 8) (112 * k / (n.key + 8)) (n.key + 8) le (omega arith) in
     let two = mul-div-le (112 * k) (n.key + 8) in
     omega (arith, one, two)
 
-few_cells : (n : TableNeed) (k per : ℕ) → k ≤ 8 → per * (n.key + 8) ≤ 112 * k → per ≤ 112
+few_cells : (n : Need) (k per : ℕ) → k ≤ 8 → per * (n.key + 8) ≤ 112 * k → per ≤ 112
 few_cells n k per few le =
     let split : per * (n.key + 8) ≡ per * n.key + per * 8 = omega arith in
     omega (arith, split, few, le)
@@ -67,7 +67,7 @@ three_equal a b c x y z ea eb ec = rw (eq-eqb a x ea, eq-eqb b y eb, eq-eqb c z 
 -- ---- the memory of a slot
 
 -- what is known of a slot with memory
-pub record HasKeyed (p : Program) (t : Table) (s : SlotUnit) (n : Need) : Type 0 where
+pub record HasKeyed (p : Program) (t : Table) (s : SlotUnit) (n : PartNeed) : Type 0 where
   pub some_keys : 1 ≤ length s.keys
   pub bits : bits_of_lanes s.keys ≡ n.key
   pub some_bits : 1 ≤ n.key
@@ -78,8 +78,8 @@ pub record HasKeyed (p : Program) (t : Table) (s : SlotUnit) (n : Need) : Type 0
   pub held : s.held ≡ n.held
   pub counted : s.counted ≡ n.counted
 
-module _ (p : Program) (t : Table) (s : SlotUnit) (n : Need) (taken : Taken) where
-  pub exact_formed : (need : TableNeed) → need.key ≡ n.key → IsExactFormat need n.format → HasKeyed p t s n → taken.sram + sram_for kind.Exact (blocks_for kind.Exact n) ≤ 106
+module _ (p : Program) (t : Table) (s : SlotUnit) (n : PartNeed) (taken : Taken) where
+  pub exact_formed : (need : Need) → need.key ≡ n.key → IsExactFormat need n.format → HasKeyed p t s n → taken.sram + sram_for kind.Exact (blocks_for kind.Exact n) ≤ 106
       → memory_is_formed s (memory_for kind.Exact n taken) ≡ true
   exact_formed need same f has room =
       let k = n.format.width in
@@ -91,7 +91,7 @@ module _ (p : Program) (t : Table) (s : SlotUnit) (n : Need) (taken : Taken) whe
       let own : per * (bits_of_lanes s.keys + 8) ≤ 112 * k = subst (λ b. per * (b + 8) ≤ 112 * k) (same ∙ sym has.bits) fits in
       let wide = f.has_width in
       let few_d = few_quanta d (4 * k) 106 (omega (arith, wide)) (omega (arith, room)) in
-      let shapes : exact_shape k per d s.held s.counted ≡ shape = ap (λ h. exact_shape k per d h s.counted) has.held ∙ ap (exact_shape k per d n.held) has.counted in
+      let shapes : exact_block_counts k per d s.held s.counted ≡ shape = ap (λ h. exact_block_counts k per d h s.counted) has.held ∙ ap (exact_block_counts k per d n.held) has.counted in
       let few_k = f.width in
       let before = has.before in
       let bits = has.bits in
@@ -113,11 +113,11 @@ module _ (p : Program) (t : Table) (s : SlotUnit) (n : Need) (taken : Taken) whe
         lt-ltb (4 * n.before) 256 (omega (arith, before)),
         le-leb (per * (bits_of_lanes s.keys + 8)) (112 * k) own,
       ) refl in
-      let shaped : has_shape (exact_shape k per d s.held s.counted) ks rs cs ≡ true =
-      ap (λ x. has_shape x ks rs cs) shapes
+      let shaped : has_block_counts (exact_block_counts k per d s.held s.counted) ks rs cs ≡ true =
+      ap (λ x. has_block_counts x ks rs cs) shapes
       ∙ three_equal (length ks) (length rs) (length cs) shape.keys shape.records shape.counters (length-range_with_len taken.sram shape.keys) (length-range_with_len (taken.sram + shape.keys) shape.records)
       (length-range_with_len (taken.sram + shape.keys + shape.records) shape.counters) in
-      five (format_is_formed s k per d (4 * n.before)) (has_shape (exact_shape k per d s.held s.counted) ks rs cs) (are_sram_blocks ks) (are_sram_blocks rs) (are_sram_blocks cs) format shaped
+      five (format_is_formed s k per d (4 * n.before)) (has_block_counts (exact_block_counts k per d s.held s.counted) ks rs cs) (are_sram_blocks ks) (are_sram_blocks rs) (are_sram_blocks cs) format shaped
       (blocks_below 106 taken.sram shape.keys (omega (arith, room))) (blocks_below 106 (taken.sram + shape.keys) shape.records (omega (arith, room)))
       (blocks_below 106 (taken.sram + shape.keys + shape.records) shape.counters (omega (arith, room)))
 
@@ -131,8 +131,8 @@ module _ (p : Program) (t : Table) (s : SlotUnit) (n : Need) (taken : Taken) whe
       let few_bits = has.few_bits in
       let row : 1 ≤ divided_up n.key 40 = omega (arith, some) in
       let few_d = few_quanta d (divided_up n.key 40) 16 row (omega (arith, tcam)) in
-      let shapes : ternary_shape (bits_of_lanes s.keys) d s.held s.counted ≡ shape =
-      ap (λ b. ternary_shape b d s.held s.counted) (sym key) ∙ ap (λ h. ternary_shape n.key d h s.counted) has.held ∙ ap (ternary_shape n.key d n.held) has.counted in
+      let shapes : ternary_block_counts (bits_of_lanes s.keys) d s.held s.counted ≡ shape =
+      ap (λ b. ternary_block_counts b d s.held s.counted) (sym key) ∙ ap (λ h. ternary_block_counts n.key d h s.counted) has.held ∙ ap (ternary_block_counts n.key d n.held) has.counted in
       let ks = range_with_len taken.tcam shape.keys in
       let rs = range_with_len taken.sram shape.records in
       let cs = range_with_len (taken.sram + shape.records) shape.counters in
@@ -144,15 +144,15 @@ module _ (p : Program) (t : Table) (s : SlotUnit) (n : Need) (taken : Taken) whe
         le-leb 1 d has.some_quanta,
         le-leb d 106 (omega (arith, few_d)),
       ) refl in
-      let shaped : has_shape (ternary_shape (bits_of_lanes s.keys) d s.held s.counted) ks rs cs ≡ true =
-      ap (λ x. has_shape x ks rs cs) shapes
+      let shaped : has_block_counts (ternary_block_counts (bits_of_lanes s.keys) d s.held s.counted) ks rs cs ≡ true =
+      ap (λ x. has_block_counts x ks rs cs) shapes
       ∙ three_equal (length ks) (length rs) (length cs) shape.keys shape.records shape.counters (length-range_with_len taken.tcam shape.keys) (length-range_with_len taken.sram shape.records)
       (length-range_with_len (taken.sram + shape.records) shape.counters) in
-      five (may_have_memory s d) (has_shape (ternary_shape (bits_of_lanes s.keys) d s.held s.counted) ks rs cs) (are_tcam_blocks ks) (are_sram_blocks rs) (are_sram_blocks cs) head shaped
+      five (may_have_memory s d) (has_block_counts (ternary_block_counts (bits_of_lanes s.keys) d s.held s.counted) ks rs cs) (are_tcam_blocks ks) (are_sram_blocks rs) (are_sram_blocks cs) head shaped
       (blocks_below 16 taken.tcam shape.keys tcam) (blocks_below 106 taken.sram shape.records (omega (arith, sram))) (blocks_below 106 (taken.sram + shape.records) shape.counters (omega (arith, sram)))
 
 -- the cells of a part are told by 32 bits
-pub few_quanta_cells : (n : TableNeed) (f : Format) (q : ℕ) → IsExactFormat n f → q ≤ 106 → 4096 * q * f.per ≤ 2 ^ 32
+pub few_quanta_cells : (n : Need) (f : Format) (q : ℕ) → IsExactFormat n f → q ≤ 106 → 4096 * q * f.per ≤ 2 ^ 32
 few_quanta_cells n f q is few =
     let fits = cells_fit n f.width f.per is.cells in
     let per = few_cells n f.width f.per is.width fits in

@@ -16,7 +16,8 @@ use Rattle.rmt_ast.specs.declared.program.What.TheVariants as what
 use Rattle.rmt_ast.specs.Places.{lanes_of}
 use Rattle.rmt_config.specs.declared.config.Memory.TheVariants as memory
 use Rattle.rmt_config.specs.declared.config.Unit.TheVariants.{Gate, Slot}
-use Rattle.rmt_config.specs.Resources.{crossbar_bits, exact_words, is_gate, is_slot, key_words_if_exact, key_words_if_ternary, ternary_words, unit_data, unit_instructions, words_of}
+use Rattle.rmt_config.specs.Instructions.{unit_instructions}
+use Rattle.rmt_config.specs.Resources.{crossbar_bits, exact_words, is_gate, is_slot, key_words_if_exact, key_words_if_ternary, ternary_words, unit_data, words_of}
 use Rattle.rmt_pack.specs.declared.placement.Part.{Part}
 use Rattle.rmt_pack.specs.Placements.{data_bits, quanta_in}
 use Rattle.rmt_pack.proofs.BlockLaws.{range-apart}

@@ -24,7 +24,7 @@ use Rattle.rmt_refine.proofs.RunLaws.{is_earlier}
 use Rattle.rmt_refine.proofs.PartLaws.{and_at}
 use Rattle.rmt_build.proofs.FormStage.{HoldsData, IsGateOf, IsSlotOf, kinds}
 use Rattle.rmt_build.proofs.FormBlocks.{HasMemory}
-use Rattle.rmt_build.specs.declared.memory.Need.{Need}
+use Rattle.rmt_build.specs.declared.memory.PartNeed.{PartNeed}
 use Rattle.rmt_build.specs.declared.memory.Taken.{Taken}
 use Rattle.rmt_build.specs.Memories.{memory_for}
 use Rattle.rmt_pack.specs.declared.format.Format.{Format}
@@ -347,13 +347,13 @@ module _ (p : Program) (program : IsProgram p) (places : List (List Lane)) (part
     lanes_same [] = refl
     lanes_same (l ∷ ls) = rw (eq-eqb l.word l.word refl, eq-eqb l.low l.low refl, eq-eqb l.len l.len refl, lanes_same ls) refl
 
-    kind_same : (kd : Kind) (a b : Need) (x y : Taken) → a.format ≡ b.format → same_kind (memory_for kd a x) (memory_for kd b y) ≡ true
+    kind_same : (kd : Kind) (a b : PartNeed) (x y : Taken) → a.format ≡ b.format → same_kind (memory_for kd a x) (memory_for kd b y) ≡ true
     kind_same kind.Keyless a b x y e = refl
     kind_same kind.Exact a b x y e = rw (eq-eqb a.format.width b.format.width (ap (λ (f : Format). f.width) e), eq-eqb a.format.per b.format.per (ap (λ (f : Format). f.per) e)) refl
     kind_same kind.Prefix a b x y e = refl
     kind_same kind.Ternary a b x y e = refl
 
-    ways_same : (kd : Kind) (n : Need) (x : Taken) (count : ℕ) → count ≡ n.before → ways_follow count (memory_for kd n x) ≡ true
+    ways_same : (kd : Kind) (n : PartNeed) (x : Taken) (count : ℕ) → count ≡ n.before → ways_follow count (memory_for kd n x) ≡ true
     ways_same kind.Keyless n x count e = refl
     ways_same kind.Exact n x count e = eq-eqb (4 * n.before) (4 * count) (ap (λ c. 4 * c) (sym e))
     ways_same kind.Prefix n x count e = refl

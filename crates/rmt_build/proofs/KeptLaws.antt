@@ -8,7 +8,7 @@ use Rattle.rmt_ast.specs.State.{width_of}
 use Rattle.rmt_config.specs.declared.config.Memory.TheVariants.{Without, Exact, Ternary}
 use Rattle.rmt_config.specs.CellForm.{is_clear}
 use Rattle.rmt_config.specs.Cells.{Content, data_at, entry_at, cell_of, record_at, row_key, row_record, visible_bits}
-use Rattle.rmt_config.specs.Shapes.{divided_up, record_units, record_width, records_a_row}
+use Rattle.rmt_config.specs.BlockCounts.{divided_up, record_units, record_width, records_a_row}
 use Rattle.rmt_config.specs.StageForm.{memory_sram_blocks, memory_tcam_blocks}
 use Rattle.rmt_refine.specs.Cells.{HoldsEntry}
 use Rattle.rmt_bits.specs.Bits.{slice}

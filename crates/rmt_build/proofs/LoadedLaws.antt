@@ -20,7 +20,7 @@ use Rattle.rmt_ast.specs.WellFormed.{HasKey, IsProgram, IsTable}
 use Rattle.rmt_ast.specs.State.{width_of}
 use Rattle.rmt_config.specs.declared.config.Memory.TheVariants as memory
 use Rattle.rmt_config.specs.Cells.{candidates as looked_in}
-use Rattle.rmt_config.specs.Shapes.{divided_up}
+use Rattle.rmt_config.specs.BlockCounts.{divided_up}
 use Rattle.rmt_cuckoo.specs.Loading.{candidates}
 use Rattle.rmt_pack.specs.declared.placement.Part.{Part}
 use Rattle.rmt_pack.specs.declared.format.Format.{Format}

@@ -3,20 +3,20 @@ use Rattle.std.proofs.Common.{◌≡◌, ◌≢◌, ℕ, ◌+◌, ◌*◌, ◌/�
 use Rattle.std.proofs.Math.Nat.{div-lt_iff_lt-mul, mul-le-mul_left}
 use Rattle.rmt_build.specs.Types.{Kind}
 use Rattle.rmt_ast.specs.declared.program.Kind.TheVariants.{Keyless, Exact, Prefix, Ternary}
-use Rattle.rmt_config.specs.Shapes.{divided_up, record_units, record_width}
+use Rattle.rmt_config.specs.BlockCounts.{divided_up, record_units, record_width}
 use Rattle.rmt_pack.specs.declared.format.Format.{Format}
-use Rattle.rmt_pack.specs.declared.format.Need.{Need as TableNeed}
+use Rattle.rmt_pack.specs.declared.format.Need.{Need}
 use Rattle.rmt_pack.specs.Formats.{HasNeed, IsNeed, IsFormat, memory_format, ternary_format}
 use Rattle.rmt_pack.proofs.FormatLaws.{exact_format-taken}
 use Rattle.rmt_bounds.proofs.FormatBounds.{ternary_fits_stage}
-use Rattle.rmt_build.specs.declared.memory.Need.{Need}
+use Rattle.rmt_build.specs.declared.memory.PartNeed.{PartNeed}
 use Rattle.rmt_build.specs.Memories.{blocks_for, sram_for, tcam_for, memory_for}
 use Rattle.rmt_config.specs.Cells.{cells_in}
 use Rattle.rmt_build.specs.declared.memory.Taken.{Taken}
 use Rattle.rmt_build.specs.EntryCells.{cells_for}
 
 -- what a part has to hold is what its table needs
-pub record IsNeedOf (n : Need) (t : TableNeed) : Type 0 where
+pub record IsNeedOf (n : PartNeed) (t : Need) : Type 0 where
   pub key : n.key ≡ t.key
   pub held : n.held ≡ t.held
   pub counted : n.counted ≡ t.counted
@@ -34,15 +34,15 @@ exact_quantum k p held counted = 1 * (4 * k) + 1 * (record_units (4 * p) held * 
 abbrev ternary_quantum : ℕ → Bool → ℕ
 ternary_quantum held counted = 1 * (record_units 2 (held + 8) * record_width (held + 8)) + 1 * cond counted 2 0
 
-ternary_sram_is : (n : Need) (t : TableNeed) → IsNeedOf n t → n.format ≡ ternary_format t → sram_for Ternary (blocks_for Ternary n) ≡ n.quanta * n.format.sram
+ternary_sram_is : (n : PartNeed) (t : Need) → IsNeedOf n t → n.format ≡ ternary_format t → sram_for Ternary (blocks_for Ternary n) ≡ n.quanta * n.format.sram
 ternary_sram_is n t is f =
     spread_two n.quanta (record_units 2 (n.held + 8) * record_width (n.held + 8)) (cond n.counted 2 0)
     ∙ ap (λ m. n.quanta * m) (ap (λ h. ternary_quantum h n.counted) is.held ∙ (ap (ternary_quantum t.held) is.counted ∙ sym (ap (λ (x : Format). x.sram) f)))
 
-ternary_tcam_is : (n : Need) (t : TableNeed) → IsNeedOf n t → n.format ≡ ternary_format t → tcam_for Ternary (blocks_for Ternary n) ≡ n.quanta * n.format.tcam
+ternary_tcam_is : (n : PartNeed) (t : Need) → IsNeedOf n t → n.format ≡ ternary_format t → tcam_for Ternary (blocks_for Ternary n) ≡ n.quanta * n.format.tcam
 ternary_tcam_is n t is f = ap (λ m. n.quanta * m) (ap (λ key. divided_up key 40) is.key ∙ sym (ap (λ (x : Format). x.tcam) f))
 
-pub sram_is : (kind : Kind) (n : Need) (t : TableNeed) → IsNeedOf n t → IsFormat kind t n.format → sram_for kind (blocks_for kind n) ≡ n.quanta * n.format.sram
+pub sram_is : (kind : Kind) (n : PartNeed) (t : Need) → IsNeedOf n t → IsFormat kind t n.format → sram_for kind (blocks_for kind n) ≡ n.quanta * n.format.sram
 sram_is Keyless n t is f =
     let none = ap (λ (x : Format). n.quanta * x.sram) f in omega (arith, none)
 sram_is Exact n t is f =
@@ -53,7 +53,7 @@ sram_is Exact n t is f =
 sram_is Prefix n t is f = ternary_sram_is n t is f
 sram_is Ternary n t is f = ternary_sram_is n t is f
 
-pub tcam_is : (kind : Kind) (n : Need) (t : TableNeed) → IsNeedOf n t → IsFormat kind t n.format → tcam_for kind (blocks_for kind n) ≡ n.quanta * n.format.tcam
+pub tcam_is : (kind : Kind) (n : PartNeed) (t : Need) → IsNeedOf n t → IsFormat kind t n.format → tcam_for kind (blocks_for kind n) ≡ n.quanta * n.format.tcam
 tcam_is Keyless n t is f =
     let none = ap (λ (x : Format). n.quanta * x.tcam) f in omega (arith, none)
 tcam_is Exact n t is f =
@@ -62,7 +62,7 @@ tcam_is Prefix n t is f = ternary_tcam_is n t is f
 tcam_is Ternary n t is f = ternary_tcam_is n t is f
 
 -- the rule's format is one
-pub format_of_kind : (kind : Kind) (t : TableNeed) → HasNeed kind t → IsFormat kind t (memory_format kind t)
+pub format_of_kind : (kind : Kind) (t : Need) → HasNeed kind t → IsFormat kind t (memory_format kind t)
 format_of_kind Keyless t need = refl
 format_of_kind Exact t need = (exact_format-taken t need).format
 format_of_kind Prefix t need = refl
@@ -77,7 +77,7 @@ pub record Quantum (f : Format) : Type 0 where
   pub some : 1 ≤ f.sram
   pub per : f.per < 100
 
-ternary_quantum_of : (t : TableNeed) (f : Format) → IsNeed t → f ≡ ternary_format t → Quantum f
+ternary_quantum_of : (t : Need) (f : Format) → IsNeed t → f ≡ ternary_format t → Quantum f
 ternary_quantum_of t f need is = record {
   some = let sram = ap (λ (x : Format). x.sram) is in let some = (ternary_fits_stage t need).blocks in omega (arith, sram, some);
   per = let none = ap (λ (x : Format). x.per) is in omega (arith, none);
@@ -89,7 +89,7 @@ few_cells width key wide some =
     let less : 112 * width < 100 * (key + 8) = omega (arith, wide, some) in
     (div-lt_iff_lt-mul positive).1 less
 
-pub quantum_of : (kind : Kind) (t : TableNeed) (f : Format) → HasNeed kind t → IsFormat kind t f → kind ≢ Keyless → Quantum f
+pub quantum_of : (kind : Kind) (t : Need) (f : Format) → HasNeed kind t → IsFormat kind t f → kind ≢ Keyless → Quantum f
 quantum_of Keyless t f need is keyed = absurd (keyed refl)
 quantum_of Exact t f need is keyed = record {
   some = let sram = ap (λ (x : Format). x.sram) is.layout in let wide = is.has_width in omega (arith, sram, wide);
@@ -99,7 +99,7 @@ quantum_of Prefix t f need is keyed = ternary_quantum_of t f need is
 quantum_of Ternary t f need is keyed = ternary_quantum_of t f need is
 
 -- a memory for a part has as many cells as its quanta
-pub memory_cells : (kind : Kind) (need : Need) (taken : Taken) → cells_in (memory_for kind need taken) ≡ cells_for kind need.format.per need.quanta
+pub memory_cells : (kind : Kind) (need : PartNeed) (taken : Taken) → cells_in (memory_for kind need taken) ≡ cells_for kind need.format.per need.quanta
 memory_cells Keyless need taken = refl
 memory_cells Exact need taken = refl
 memory_cells Prefix need taken = refl

@@ -15,7 +15,8 @@ use Rattle.rmt_config.specs.Cells.{candidates}
 use Rattle.rmt_config.specs.LaneForm.{bits_of_lanes}
 use Rattle.rmt_config.specs.NamesForm.{held_by}
 use Rattle.rmt_config.specs.Rooms.{PartAt, parts_among, parts_of, tests_as_one}
-use Rattle.rmt_refine.specs.Cells.{HoldsEntry, Spot, first_code}
+use Rattle.rmt_config.specs.Instructions.{first_code}
+use Rattle.rmt_refine.specs.Cells.{HoldsEntry, Spot}
 use Rattle.rmt_refine.specs.Units.{UnitsCarried, table_at}
 use Rattle.rmt_refine.specs.View.{slot_of}
 use Rattle.rmt_refine.proofs.PartLaws.{and_at, spot_of_part}

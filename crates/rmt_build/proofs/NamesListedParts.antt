@@ -15,11 +15,10 @@ use Rattle.rmt_bits.proofs.PairLaws.{AllPairs-head, AllPairs-tail}
 use Rattle.rmt_ast.specs.declared.entry.Entry.{Entry}
 use Rattle.rmt_ast.specs.EntryLists.{AreEntries}
 use Rattle.rmt_config.specs.declared.config.Unit.TheVariants.{Gate, Slot}
-use Rattle.rmt_config.specs.Resources.{unit_instructions}
+use Rattle.rmt_config.specs.Instructions.{first_code, unit_instructions}
 use Rattle.rmt_config.specs.Rooms.{PartAt, parts_among, parts_of}
 use Rattle.rmt_config.specs.TableForm.{node_of}
 use Rattle.rmt_pack.specs.Placements.{quanta_in}
-use Rattle.rmt_refine.specs.Cells.{first_code}
 use Rattle.rmt_refine.specs.Units.{UnitCarried, UnitsCarried, applied, nodes_in, table_at}
 use Rattle.rmt_refine.specs.View.{as_slot}
 use Rattle.rmt_refine.proofs.NodeLaws.{one_place}

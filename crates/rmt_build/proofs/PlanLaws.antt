@@ -7,7 +7,7 @@ use Rattle.std.proofs.lemmas.Option.{get_or_from_slice_get, slice_get-map, slice
 use Rattle.rmt_bits.proofs.AllLaws.{All-slice_get}
 use Rattle.rmt_build.specs.Types.{Program, Test, Table, Kind, Node}
 use Rattle.rmt_ast.specs.declared.program.Kind.TheVariants.{Keyless, Exact, Prefix, Ternary}
-use Rattle.rmt_pack.specs.declared.format.Need.{Need as TableNeed}
+use Rattle.rmt_pack.specs.declared.format.Need.{Need}
 use Rattle.rmt_ast.specs.WellFormed.{IsProgram, IsTable}
 use Rattle.rmt_pack.specs.declared.format.Format.{Format}
 use Rattle.rmt_pack.specs.declared.placement.Part.{Part}
@@ -16,7 +16,7 @@ use Rattle.rmt_pack.specs.Placements.{quanta_in, table_need}
 use Rattle.rmt_pack.proofs.NeedLaws.{table_has_need}
 use Rattle.rmt_refine.specs.Units.{table_at}
 use Rattle.rmt_ast.specs.declared.program.What.TheVariants.{Gate}
-use Rattle.rmt_build.specs.declared.memory.Need.{Need}
+use Rattle.rmt_build.specs.declared.memory.PartNeed.{PartNeed}
 use Rattle.rmt_build.specs.Memories.{HasRoom, blocks_for, sram_for, taken_behind, tcam_for}
 use Rattle.rmt_build.specs.Plans.{AreParts, format_at, formats_of, need_in, parts_before, taken_upto, what_format}
 use Rattle.rmt_build.proofs.MemoryLaws.{IsNeedOf, few_quanta, format_of_kind, quantum_of, sram_is, tcam_is}
@@ -65,14 +65,14 @@ parts-le parts n (suc k) =
     let rest = parts-le parts n k in
     omega (arith, same, more, one, rest)
 
-key_few : (kind : Kind) (t : TableNeed) → HasNeed kind t → kind ≢ Keyless → t.key ≤ 640
+key_few : (kind : Kind) (t : Need) → HasNeed kind t → kind ≢ Keyless → t.key ≤ 640
 key_few Keyless t need keyed = absurd (keyed refl)
 key_few Exact t need keyed = need.key
 key_few Prefix t need keyed = need.key
 key_few Ternary t need keyed = need.key
 
 pub need_same : (f g : Format) (q r b d k l h i : ℕ) (counted : Bool) → f ≡ g → q ≡ r → b ≡ d → k ≡ l → h ≡ i
-    → ◌≡◌ {A = Need} (record { format = f; quanta = q; before = b; key = k; held = h; counted = counted }) (record { format = g; quanta = r; before = d; key = l; held = i; counted = counted })
+    → ◌≡◌ {A = PartNeed} (record { format = f; quanta = q; before = b; key = k; held = h; counted = counted }) (record { format = g; quanta = r; before = d; key = l; held = i; counted = counted })
 need_same f g q r b d k l h i counted ef eq eb ek eh = cc
 
 -- a gate takes no block

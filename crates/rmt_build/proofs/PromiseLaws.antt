@@ -19,7 +19,7 @@ use Rattle.rmt_ast.specs.RowOrder.{goes_first}
 use Rattle.rmt_refine.specs.declared.map.CellOf.{CellOf}
 use Rattle.rmt_refine.specs.Cells.{IsTold}
 use Rattle.rmt_refine.specs.Units.{UnitsCarried}
-use Rattle.rmt_build.specs.declared.memory.Need.{Need}
+use Rattle.rmt_build.specs.declared.memory.PartNeed.{PartNeed}
 use Rattle.rmt_build.specs.declared.memory.Taken.{Taken}
 use Rattle.rmt_build.specs.declared.stands.Stand.{Stand}
 use Rattle.rmt_build.specs.declared.plan.Plan.{Plan}
@@ -35,7 +35,7 @@ use Rattle.rmt_bits.proofs.MemberLaws.{Contains-map}
 
 -- ---- formats
 
-pub memory_format_is : (kind : Kind) (need : Need) (taken : Taken) → HasFormat need.format (memory_for kind need taken)
+pub memory_format_is : (kind : Kind) (need : PartNeed) (taken : Taken) → HasFormat need.format (memory_for kind need taken)
 memory_format_is Keyless need taken = tt
 memory_format_is Exact need taken = (refl, refl)
 memory_format_is Prefix need taken = tt

@@ -6,18 +6,18 @@ use Rattle.std.proofs.lemmas.Nat.{div-add-mod', mul-le}
 use Rattle.rmt_bits.proofs.AllLaws.{All-range}
 use Rattle.rmt_build.specs.Types.{Program, Table, Kind}
 use Rattle.rmt_ast.specs.declared.program.Kind.TheVariants.{Keyless, Exact, Prefix, Ternary}
-use Rattle.rmt_config.specs.Shapes.{divided_up, exact_shape, ternary_shape}
+use Rattle.rmt_config.specs.BlockCounts.{divided_up, exact_block_counts, ternary_block_counts}
 use Rattle.rmt_pack.specs.Formats.{HasNeed, IsExactFormat, IsFormat, IsNeed}
 use Rattle.rmt_pack.specs.Placements.{data_bits, key_bits, table_need}
 use Rattle.rmt_pack.proofs.BlockLaws.{range-apart}
 use Rattle.rmt_pack.proofs.ShapeLaws.{exact-is, ternary-is}
-use Rattle.rmt_build.specs.declared.memory.Need.{Need}
+use Rattle.rmt_build.specs.declared.memory.PartNeed.{PartNeed}
 use Rattle.rmt_build.specs.declared.memory.Taken.{Taken}
 use Rattle.rmt_build.specs.Holding.{exact_part, ternary_part}
 use Rattle.rmt_build.specs.Memories.{HasRoom, blocks_for, memory_for}
 use Rattle.rmt_build.specs.Rooms.{HasBlocks}
 
-module _ (p : Program) (t : Table) (need : Need) (taken : Taken) (key : need.key ≡ key_bits p t) (held : need.held ≡ data_bits p t) (some : 1 ≤ need.quanta) where
+module _ (p : Program) (t : Table) (need : PartNeed) (taken : Taken) (key : need.key ≡ key_bits p t) (held : need.held ≡ data_bits p t) (some : 1 ≤ need.quanta) where
   exact_blocks : t.kind ≡ Exact → IsNeed (table_need p t) → IsExactFormat (table_need p t) need.format → HasRoom Exact need taken → HasBlocks p t (memory_for Exact need taken)
   exact_blocks kind needs format room =
       let f = need.format in
@@ -28,22 +28,22 @@ module _ (p : Program) (t : Table) (need : Need) (taken : Taken) (key : need.key
       let le = mul-le f.per (bits + 8) (112 * f.width / (bits + 8)) (bits + 8) format.cells (omega arith) in
       let whole = div-add-mod' (112 * f.width) (bits + 8) in
       omega (arith, le, whole) in
-      let records : s.records ≡ (exact_shape f.width f.per need.quanta own_data false).records = ap (λ n. (exact_shape f.width f.per need.quanta n false).records) held in
+      let records : s.records ≡ (exact_block_counts f.width f.per need.quanta own_data false).records = ap (λ n. (exact_block_counts f.width f.per need.quanta n false).records) held in
       let within : taken.sram + (s.keys + s.records) ≤ 106 = let le = room.sram in omega (arith, le) in (
         kind,
         exact-is (exact_part bits own_data f.width f.per need.quanta (range_with_len taken.sram s.keys) (range_with_len (taken.sram + s.keys) s.records)) taken.sram s.keys s.records
             refl needs.has_key needs.key (omega (arith, some)) room.quanta (let le = format.has_width in omega (arith, le)) (let le = format.has_cells in omega (arith, le)) fits refl refl refl records within,
       )
 
-  ternary_blocks : t.kind ≢ Keyless → IsNeed (table_need p t) → need.quanta ≤ 106 → taken.sram + ((ternary_shape need.key need.quanta need.held need.counted).records + (ternary_shape need.key need.quanta need.held need.counted).counters) ≤ 106
-      → taken.tcam + (ternary_shape need.key need.quanta need.held need.counted).keys ≤ 16 → HasBlocks p t (memory_for Ternary need taken)
+  ternary_blocks : t.kind ≢ Keyless → IsNeed (table_need p t) → need.quanta ≤ 106 → taken.sram + ((ternary_block_counts need.key need.quanta need.held need.counted).records + (ternary_block_counts need.key need.quanta need.held need.counted).counters) ≤ 106
+      → taken.tcam + (ternary_block_counts need.key need.quanta need.held need.counted).keys ≤ 16 → HasBlocks p t (memory_for Ternary need taken)
   ternary_blocks kind needs quanta sram tcam =
       let s = blocks_for Ternary need in
       let bits = key_bits p t in
       let own_data = data_bits p t in
       let back : own_data + 8 - 8 ≡ own_data = omega arith in
-      let records : s.records ≡ (ternary_shape bits need.quanta (own_data + 8 - 8) false).records =
-      ap (λ n. (ternary_shape bits need.quanta n false).records) (held ∙ sym back) in
+      let records : s.records ≡ (ternary_block_counts bits need.quanta (own_data + 8 - 8) false).records =
+      ap (λ n. (ternary_block_counts bits need.quanta n false).records) (held ∙ sym back) in
       let keys : s.keys ≡ need.quanta * divided_up bits 40 = ap (λ n. need.quanta * divided_up n 40) key in (
         kind,
         ternary-is (ternary_part bits own_data need.quanta (range_with_len taken.sram s.records)) taken.sram s.records refl needs.has_key needs.key (omega (arith, some)) quanta refl refl (omega arith) refl refl

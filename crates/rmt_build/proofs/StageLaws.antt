@@ -16,7 +16,8 @@ use Rattle.rmt_config.specs.LaneForm.{bits_of_lanes}
 use Rattle.rmt_config.specs.Order.{rises_from}
 use Rattle.rmt_config.specs.StageForm.{is_listed, rows_are_formed, sram_blocks, srow_is_formed, srow_number, tcam_blocks, trow_is_formed, trow_number}
 use Rattle.rmt_pack.specs.Placements.{data_bits, key_bits}
-use Rattle.rmt_refine.specs.Cells.{HoldsEntry, first_code}
+use Rattle.rmt_config.specs.Instructions.{first_code}
+use Rattle.rmt_refine.specs.Cells.{HoldsEntry}
 use Rattle.rmt_refine.specs.Units.{table_at}
 use Rattle.rmt_refine.specs.View.{as_slot, slot_of}
 use Rattle.rmt_build.specs.declared.plan.Plan.{Plan}

@@ -18,13 +18,14 @@ use Rattle.rmt_config.specs.LaneForm.{bits_of_lanes}
 use Rattle.rmt_pack.specs.Placements.{quanta_in}
 use Rattle.rmt_refine.specs.declared.map.CellOf.{CellOf}
 use Rattle.rmt_config.specs.Rooms.{tests_as_one}
-use Rattle.rmt_refine.specs.Cells.{HoldsEntry, IsBefore, IsCandidate, IsSpotOf, IsTold, Spot, TableCellsCarried, first_code}
+use Rattle.rmt_config.specs.Instructions.{first_code}
+use Rattle.rmt_refine.specs.Cells.{HoldsEntry, IsBefore, IsCandidate, IsSpotOf, IsTold, Spot, TableCellsCarried}
 use Rattle.rmt_refine.specs.Units.{UnitsCarried, applied, nodes_in, table_at}
 use Rattle.rmt_refine.specs.View.{own_content, own_number, own_view, slot_of}
 use Rattle.rmt_refine.proofs.FindLaws.{Contains-range, found_passes}
 use Rattle.rmt_refine.proofs.NodeLaws.{one_place}
 use Rattle.rmt_refine.proofs.PartLaws.{IsPart, and_from, part_of_spot, slot_of_part, spot_of_part, then_some, unit_of_part}
-use Rattle.rmt_build.specs.declared.memory.Need.{Need}
+use Rattle.rmt_build.specs.declared.memory.PartNeed.{PartNeed}
 use Rattle.rmt_build.specs.declared.memory.Taken.{Taken}
 use Rattle.rmt_build.specs.declared.plan.Plan.{Plan}
 use Rattle.rmt_build.specs.declared.stands.Stand.{Stand}
@@ -123,7 +124,7 @@ in_front kind es own e f s r order once in_s in_r at_s at_r first = elim (compar
   ]
 ]
 
-row_candidates : (kind : Kind) (need : Need) (taken : Taken) (seed bits key cell : ℕ) → (kind ≡ Exact → ⊥) → cell < cells_for kind need.format.per need.quanta
+row_candidates : (kind : Kind) (need : PartNeed) (taken : Taken) (seed bits key cell : ℕ) → (kind ≡ Exact → ⊥) → cell < cells_for kind need.format.per need.quanta
     → Contains (candidates seed bits (memory_for kind need taken) key) cell
 row_candidates Keyless need taken seed bits key cell other lt = absurd (omega (arith, lt))
 row_candidates Exact need taken seed bits key cell other lt = absurd (other refl)

@@ -10,7 +10,7 @@ use Rattle.rmt_build.specs.Types.{Program, Table}
 use Rattle.rmt_ast.specs.declared.entry.Entry.{Entry}
 use Rattle.rmt_config.specs.CellForm.{EndsAt}
 use Rattle.rmt_config.specs.Cells.{Blocks, blocks_at, row_key, unit_row}
-use Rattle.rmt_config.specs.Shapes.{divided_up}
+use Rattle.rmt_config.specs.BlockCounts.{divided_up}
 use Rattle.rmt_pack.specs.declared.shape.Shape.{Shape}
 use Rattle.rmt_pack.specs.Cells.{PutsRecord, record_of, thousands_in}
 use Rattle.rmt_pack.specs.Shape.{IsShape, cells_in}

@@ -9,7 +9,7 @@ use Rattle.rmt_ast.specs.declared.program.What.TheVariants as what
 use Rattle.rmt_config.specs.declared.config.Unit.TheVariants as unit
 use Rattle.rmt_pack.specs.declared.placement.Part.{Part}
 use Rattle.rmt_ast.specs.declared.program.Kind.TheVariants.{Keyless, Exact, Prefix, Ternary}
-use Rattle.rmt_build.specs.declared.memory.Need.{Need}
+use Rattle.rmt_build.specs.declared.memory.PartNeed.{PartNeed}
 use Rattle.rmt_build.specs.declared.memory.Taken.{Taken}
 use Rattle.rmt_build.specs.Memories.{memory_for}
 use Rattle.rmt_refine.specs.Units.{HasKind, TableCarried, UnitCarried, DoesAs, applied, guard_in, guard_of, table_at}
@@ -52,7 +52,7 @@ guard_small n None is few = tt
 guard_small n (Some g) is few = let below = is.0 in omega (arith, below, few)
 
 -- the memory of a part is of the kind of its table
-pub kind_of_memory : (kind : Kind) (n : Need) (taken : Taken) → HasKind kind n.quanta (memory_for kind n taken)
+pub kind_of_memory : (kind : Kind) (n : PartNeed) (taken : Taken) → HasKind kind n.quanta (memory_for kind n taken)
 kind_of_memory Keyless n taken = tt
 kind_of_memory Exact n taken = refl
 kind_of_memory Prefix n taken = refl

@@ -9,7 +9,8 @@ use Rattle.rmt_config.specs.CellForm.{MemoryEnds, is_clear}
 use Rattle.rmt_config.specs.Cells.{cells_in, content_of, visible_bits}
 use Rattle.rmt_config.specs.StageForm.{rows_are_formed}
 use Rattle.rmt_pack.specs.Placements.{data_bits}
-use Rattle.rmt_refine.specs.Cells.{HoldsEntry, first_code}
+use Rattle.rmt_config.specs.Instructions.{first_code}
+use Rattle.rmt_refine.specs.Cells.{HoldsEntry}
 use Rattle.rmt_refine.specs.Units.{UnitCarried, nodes_in, table_at}
 use Rattle.rmt_refine.specs.View.{as_slot, slot_of}
 use Rattle.rmt_build.specs.declared.plan.Plan.{Plan}

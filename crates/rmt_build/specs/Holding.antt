@@ -7,7 +7,7 @@ use Rattle.rmt_ast.specs.State.{width_of}
 use Rattle.rmt_config.specs.declared.config.Memory.TheVariants.{Without, Exact, Ternary}
 use Rattle.rmt_config.specs.CellForm.{EndsAt, RecordsEnd, is_clear}
 use Rattle.rmt_config.specs.Cells.{Blocks, Content, cell_of, cells_in, data_at, entry_at, row_key, row_record, unit_row, visible_bits}
-use Rattle.rmt_config.specs.Shapes.{divided_up}
+use Rattle.rmt_config.specs.BlockCounts.{divided_up}
 use Rattle.rmt_pack.specs.declared.shape.Shape.{Shape}
 use Rattle.rmt_pack.specs.Cells.{PutsEntry, PutsRecord, entry_of, record_of, thousands_in}
 use Rattle.rmt_pack.specs.Shape.{cells_in as cells_of}

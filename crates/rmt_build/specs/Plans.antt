@@ -11,7 +11,7 @@ use Rattle.rmt_pack.specs.Placements.{data_bits, key_bits, quanta_in, quanta_of,
 use Rattle.rmt_phv.specs.Places.{KeepsApart}
 use Rattle.rmt_place.specs.Placing.{AreTwo, IsPart}
 use Rattle.rmt_refine.specs.Units.{table_at}
-use Rattle.rmt_build.specs.declared.memory.Need.{Need}
+use Rattle.rmt_build.specs.declared.memory.PartNeed.{PartNeed}
 use Rattle.rmt_build.specs.declared.memory.Taken.{Taken}
 use Rattle.rmt_build.specs.declared.plan.Plan.{Plan}
 use Rattle.rmt_build.specs.declared.stands.Stand.{Stand}
@@ -52,7 +52,7 @@ pub record AreParts (p : Program) (parts : List Part) : Type 0 where
   pub tcam : (k : ℕ) → taken_in p parts (λ n. (format_at p n).tcam) k ≤ 16
 
 -- what the memory of the table of node n has to hold in stage k
-abbrev pub need_in : Program → List Part → Table → ℕ → ℕ → Need
+abbrev pub need_in : Program → List Part → Table → ℕ → ℕ → PartNeed
 need_in p parts t n k = record {
   format = format_at p n;
   quanta = quanta_in parts n k;

@@ -26,7 +26,7 @@ use Rattle.rmt_ptcam.specs.Clustering.{clustered_or}
 use Rattle.rmt_refine.specs.declared.map.CellOf.{CellOf}
 use Rattle.rmt_refine.specs.declared.map.Map.{Map}
 use Rattle.rmt_refine.specs.Carries.{all_edges}
-use Rattle.rmt_refine.specs.Cells.{first_code}
+use Rattle.rmt_config.specs.Instructions.{first_code}
 use Rattle.rmt_refine.specs.Units.{table_at}
 use Rattle.rmt_refine.specs.View.{slot_of}
 use Rattle.rmt_vliw.specs.Coded.{ActionsFold, TableCoded}

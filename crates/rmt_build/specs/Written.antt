@@ -4,7 +4,7 @@ use Rattle.rmt_build.specs.Types.{Program, Table, Unit, SlotUnit}
 use Rattle.rmt_ast.specs.declared.entry.Entry.{Entry}
 use Rattle.rmt_config.specs.declared.config.Unit.TheVariants.{Gate, Slot}
 use Rattle.rmt_config.specs.Cells.{cells_in}
-use Rattle.rmt_config.specs.Resources.{unit_instructions}
+use Rattle.rmt_config.specs.Instructions.{unit_instructions}
 use Rattle.rmt_config.specs.StageForm.{sram_blocks, tcam_blocks}
 use Rattle.rmt_pack.specs.Placements.{data_bits, key_bits}
 use Rattle.rmt_refine.specs.Units.{table_at}

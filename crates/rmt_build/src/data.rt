@@ -6,7 +6,7 @@ ghost use Rattle.rmt_ast.specs.declared.program.Test.{Test};
 ghost use Rattle.rmt_bits.specs.Bits.{bytes_of, number_of};
 ghost use Rattle.rmt_ast.specs.State.{width_of};
 ghost use Rattle.rmt_ast.specs.WellFormed.{Fits, IsTest};
-ghost use Rattle.rmt_config.specs.Shapes.{divided_up};
+ghost use Rattle.rmt_config.specs.BlockCounts.{divided_up};
 ghost use Rattle.rmt_config.specs.Rooms.{args_as_one, tests_as_one};
 
 use rmt_ast::program::{Program, Test};

@@ -8,9 +8,9 @@ ghost use Rattle.rmt_ast.specs.State.{width_of};
 ghost use Rattle.rmt_ast.specs.WellFormed.{Fits, IsProgram, IsTable, IsTest};
 ghost use Rattle.rmt_bits.specs.Bits.{number_of};
 ghost use Rattle.rmt_config.specs.Cells.{cells_in as cells_in_memory};
-ghost use Rattle.rmt_config.specs.Resources.{unit_instructions};
+ghost use Rattle.rmt_config.specs.Instructions.{unit_instructions};
 ghost use Rattle.rmt_config.specs.StageForm.{memory_sram_blocks, memory_tcam_blocks};
-ghost use Rattle.rmt_config.specs.Shapes.{divided_up};
+ghost use Rattle.rmt_config.specs.BlockCounts.{divided_up};
 ghost use Rattle.rmt_pack.specs.Cells.{PutsRecord};
 ghost use Rattle.rmt_pack.specs.Placements.{data_bits as bits_of_data, key_bits as bits_of_key};
 ghost use Rattle.rmt_pack.specs.Rows.{blocks_of};
@@ -62,16 +62,6 @@ struct PlacedEntry<'a> {
     code: u8,
 }
 
-/// The format of an exact part, and its blocks.
-#[derive(Clone, Copy)]
-struct ExactBlocks<'a> {
-    width: u8,
-    per: u16,
-    quanta: u8,
-    keys: &'a Bytes,
-    records: &'a Bytes,
-}
-
 /// A list of blocks with the same blocks.
 fn copied(alloc: Global, blocks: &Bytes) -> Result<Bytes, AllocError>
     ensures { IfOk result (λ same. same ≡ blocks.now) }
@@ -84,18 +74,27 @@ fn copied(alloc: Global, blocks: &Bytes) -> Result<Bytes, AllocError>
 }
 
 /// The shape of an exact part.
-fn exact_shape(alloc: Global, key: u16, held: u16, own: &ExactBlocks) -> Result<Shape, AllocError>
-    ensures { IfOk result (λ shape. shape ≡ exact_part key held own.now.width own.now.per own.now.quanta own.now.keys.now own.now.records.now) }
+fn exact_shape(
+    alloc: Global,
+    key: u16,
+    held: u16,
+    width: u8,
+    per: u16,
+    quanta: u8,
+    keys: &Bytes,
+    records: &Bytes,
+) -> Result<Shape, AllocError>
+    ensures { IfOk result (λ shape. shape ≡ exact_part key held width per quanta keys.now records.now) }
 {
     Ok(Shape {
         memory: EXACT,
         key,
-        width: own.width,
-        per: own.per,
-        quanta: own.quanta,
+        width,
+        per,
+        quanta,
         held,
-        keys: copied(alloc, own.keys)?,
-        records: copied(alloc, own.records)?,
+        keys: copied(alloc, keys)?,
+        records: copied(alloc, records)?,
     })
 }
 
@@ -327,24 +326,28 @@ fn write_exact_part(
     alloc: Global,
     sram: &mut Rows,
     part: &PartEntries,
-    own: &ExactBlocks,
+    width: u8,
+    per: u16,
+    quanta: u8,
+    keys: &Bytes,
+    records: &Bytes,
 ) -> Result<(), AllocError>
     requires program { IsProgram part.now.program.now }
     requires table { IsTable part.now.program.now part.now.table.now }
     requires kind { part.now.table.now.kind ≢ Kind.Keyless }
     requires entries { AreOf part.now.program.now part.now.table.now part.now.entries.now }
-    requires shape { IsShape (exact_part (bits_of_key part.now.program.now part.now.table.now) (bits_of_data part.now.program.now part.now.table.now) own.now.width own.now.per own.now.quanta own.now.keys.now own.now.records.now) }
-    requires stands { StandApart (length part.now.entries.now) (4096 * own.now.quanta * own.now.per) part.now.stands.now }
+    requires shape { IsShape (exact_part (bits_of_key part.now.program.now part.now.table.now) (bits_of_data part.now.program.now part.now.table.now) width per quanta keys.now records.now) }
+    requires stands { StandApart (length part.now.entries.now) (4096 * quanta * per) part.now.stands.now }
     requires few { part.now.first + length part.now.table.now.actions ≤ 32 }
-    requires zeros { (b r : ℕ) → Contains (own.now.keys.now ++ own.now.records.now) b → blocks_of sram.old b r ≡ 0 }
+    requires zeros { (b r : ℕ) → Contains (keys.now ++ records.now) b → blocks_of sram.old b r ≡ 0 }
     ensures holds { OnOk result (ExactSo part.now.program.now part.now.table.now part.now.entries.now part.now.first (blocks_of sram.new)
-        (exact_part (bits_of_key part.now.program.now part.now.table.now) (bits_of_data part.now.program.now part.now.table.now) own.now.width own.now.per own.now.quanta own.now.keys.now own.now.records.now) part.now.stands.now) }
-    ensures others { OnOk result ((b r : ℕ) → (Contains (own.now.keys.now ++ own.now.records.now) b → ⊥) → blocks_of sram.new b r ≡ blocks_of sram.old b r) }
+        (exact_part (bits_of_key part.now.program.now part.now.table.now) (bits_of_data part.now.program.now part.now.table.now) width per quanta keys.now records.now) part.now.stands.now) }
+    ensures others { OnOk result ((b r : ℕ) → (Contains (keys.now ++ records.now) b → ⊥) → blocks_of sram.new b r ≡ blocks_of sram.old b r) }
 {
     let widths = widths_of(alloc, part.program, part.table.key.as_slice())?;
     let key = key_bits(part.program, part.table) as u16;
     let held = data_bits(part.program, part.table) as u16;
-    let shape = exact_shape(alloc, key, held, own)?;
+    let shape = exact_shape(alloc, key, held, width, per, quanta, keys, records)?;
     let widths = widths.as_slice();
     write_cells(alloc, sram, part, &shape, widths)?;
     Ok(())
@@ -420,14 +423,7 @@ fn write_part(
             records,
             ..
         } => {
-            let own = ExactBlocks {
-                width: *width,
-                per: *per,
-                quanta: *quanta,
-                keys,
-                records,
-            };
-            write_exact_part(alloc, sram, part, &own)?;
+            write_exact_part(alloc, sram, part, *width, *per, *quanta, keys, records)?;
             Ok(())
         }
         Memory::Ternary {

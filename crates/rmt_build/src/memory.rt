@@ -7,7 +7,7 @@ ghost use Rattle.rmt_build.specs.Memories.{blocks_for, exact_from, ternary_from,
 use rmt_ast::program::Kind;
 use rmt_bits::answer::Bytes;
 use rmt_config::config::Memory;
-use rmt_config::form::shape::{Shape, exact_shape, ternary_shape};
+use rmt_config::form::block_counts::{BlockCounts, exact_block_counts, ternary_block_counts};
 use rmt_pack::format::Format;
 use std::alloc::{AllocError, Global};
 
@@ -22,7 +22,7 @@ pub struct Taken {
 
 /// What the memory of a part has to hold.
 #[derive(Clone, Copy)]
-pub struct Need {
+pub struct PartNeed {
     /// The table's format.
     pub format: Format,
     /// The quanta of the part, 1 to 106.
@@ -55,19 +55,19 @@ fn take(alloc: Global, taken: &mut u8, count: u64) -> Result<Bytes, AllocError>
 fn exact_memory(
     alloc: Global,
     taken: &mut Taken,
-    need: &Need,
-    shape: Shape,
+    need: &PartNeed,
+    counts: BlockCounts,
 ) -> Result<Memory, AllocError>
     requires before { need.now.before ≤ 63 }
     requires per { need.now.format.per ≤ 65535 }
-    requires room { taken.old.sram + (shape.keys + shape.records + shape.counters) ≤ 106 }
-    ensures memory { IfOk result (λ memory. memory ≡ exact_from need.now shape taken.old.sram) }
-    ensures sram { OnOk result (taken.new.sram ≡ taken.old.sram + (shape.keys + shape.records + shape.counters)) }
+    requires room { taken.old.sram + (counts.keys + counts.records + counts.counters) ≤ 106 }
+    ensures memory { IfOk result (λ memory. memory ≡ exact_from need.now counts taken.old.sram) }
+    ensures sram { OnOk result (taken.new.sram ≡ taken.old.sram + (counts.keys + counts.records + counts.counters)) }
     ensures tcam { taken.new.tcam ≡ taken.old.tcam }
 {
-    let keys = take(alloc, &mut taken.sram, shape.keys)?;
-    let records = take(alloc, &mut taken.sram, shape.records)?;
-    let counters = take(alloc, &mut taken.sram, shape.counters)?;
+    let keys = take(alloc, &mut taken.sram, counts.keys)?;
+    let records = take(alloc, &mut taken.sram, counts.records)?;
+    let counters = take(alloc, &mut taken.sram, counts.counters)?;
     Ok(Memory::Exact {
         width: need.format.width,
         per: need.format.per as u16,
@@ -83,18 +83,18 @@ fn exact_memory(
 fn ternary_memory(
     alloc: Global,
     taken: &mut Taken,
-    need: &Need,
-    shape: Shape,
+    need: &PartNeed,
+    counts: BlockCounts,
 ) -> Result<Memory, AllocError>
-    requires sram { taken.old.sram + (shape.records + shape.counters) ≤ 106 }
-    requires tcam { taken.old.tcam + shape.keys ≤ 16 }
-    ensures memory { IfOk result (λ memory. memory ≡ ternary_from need.now shape taken.old.sram taken.old.tcam) }
-    ensures sram { OnOk result (taken.new.sram ≡ taken.old.sram + (shape.records + shape.counters)) }
-    ensures tcam { OnOk result (taken.new.tcam ≡ taken.old.tcam + shape.keys) }
+    requires sram { taken.old.sram + (counts.records + counts.counters) ≤ 106 }
+    requires tcam { taken.old.tcam + counts.keys ≤ 16 }
+    ensures memory { IfOk result (λ memory. memory ≡ ternary_from need.now counts taken.old.sram taken.old.tcam) }
+    ensures sram { OnOk result (taken.new.sram ≡ taken.old.sram + (counts.records + counts.counters)) }
+    ensures tcam { OnOk result (taken.new.tcam ≡ taken.old.tcam + counts.keys) }
 {
-    let keys = take(alloc, &mut taken.tcam, shape.keys)?;
-    let records = take(alloc, &mut taken.sram, shape.records)?;
-    let counters = take(alloc, &mut taken.sram, shape.counters)?;
+    let keys = take(alloc, &mut taken.tcam, counts.keys)?;
+    let records = take(alloc, &mut taken.sram, counts.records)?;
+    let counters = take(alloc, &mut taken.sram, counts.counters)?;
     Ok(Memory::Ternary {
         quanta: need.quanta,
         keys,
@@ -108,7 +108,7 @@ pub fn memory_of(
     alloc: Global,
     taken: &mut Taken,
     kind: Kind,
-    need: &Need,
+    need: &PartNeed,
 ) -> Result<Memory, AllocError>
     requires { kind ≢ Kind.Keyless → HasRoom kind need.now taken.old }
     ensures memory { IfOk result (λ memory. memory ≡ memory_for kind need.now taken.old) }
@@ -118,12 +118,18 @@ pub fn memory_of(
         Kind::Keyless => Ok(Memory::Without),
         Kind::Exact => {
             let per = need.format.per as u16;
-            let shape = exact_shape(need.format.width, per, need.quanta, need.held, need.counted);
-            exact_memory(alloc, taken, need, shape)
+            let counts = exact_block_counts(
+                need.format.width,
+                per,
+                need.quanta,
+                need.held,
+                need.counted,
+            );
+            exact_memory(alloc, taken, need, counts)
         }
         Kind::Prefix | Kind::Ternary => {
-            let shape = ternary_shape(need.key, need.quanta, need.held, need.counted);
-            ternary_memory(alloc, taken, need, shape)
+            let counts = ternary_block_counts(need.key, need.quanta, need.held, need.counted);
+            ternary_memory(alloc, taken, need, counts)
         }
     }
 }

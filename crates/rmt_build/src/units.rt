@@ -16,7 +16,7 @@ ghost use Rattle.rmt_build.specs.Plans.{AreParts, IsPlan, formats_of, need_in, s
 
 use crate::cells::cells_of;
 use crate::lanes::{gate_tests, high_first};
-use crate::memory::{Need, Taken, memory_of};
+use crate::memory::{PartNeed, Taken, memory_of};
 use crate::numbers::numbers_of;
 use crate::parts::{last_stage, parts_before, quanta_before, quanta_in};
 use crate::plan::{Plan, PlannedStage};
@@ -68,7 +68,7 @@ fn gate_of(
 }
 
 /// What the memory of a table's part in a stage has to hold.
-fn need_of(planned: &PlannedStage, table: &Table, node: u32) -> Need
+fn need_of(planned: &PlannedStage, table: &Table, node: u32) -> PartNeed
     requires program { IsProgram planned.now.program.now }
     requires parts { AreParts planned.now.program.now planned.now.plan.now.placement.parts }
     requires formats { planned.now.plan.now.formats ≡ formats_of planned.now.program.now }
@@ -79,7 +79,7 @@ fn need_of(planned: &PlannedStage, table: &Table, node: u32) -> Need
 {
     let parts = planned.plan.placement.parts.as_slice();
     let held = data_bits(planned.program, table) as u16;
-    Need {
+    PartNeed {
         format: planned.plan.formats.as_slice()[node as usize],
         quanta: quanta_in(parts, node, planned.stage) as u8,
         before: parts_before(parts, node, planned.stage),

@@ -5,7 +5,7 @@ ghost use Rattle.std.specs.List.{AllZip};
 ghost use Rattle.rmt_ast.specs.WellFormed.{IsTest};
 ghost use Rattle.rmt_ast.specs.declared.program.Test.{Test};
 ghost use Rattle.rmt_config.specs.Cells.{blocks_at};
-ghost use Rattle.rmt_config.specs.Shapes.{divided_up};
+ghost use Rattle.rmt_config.specs.BlockCounts.{divided_up};
 ghost use Rattle.rmt_pack.specs.declared.tcam.TcamWord.{TcamWord};
 ghost use Rattle.rmt_config.specs.Rooms.{tests_as_one};
 ghost use Rattle.rmt_build.specs.Holding.{PutsRow};

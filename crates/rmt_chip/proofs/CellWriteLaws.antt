@@ -10,7 +10,7 @@ use Rattle.rmt_chip.specs.Types.{SlotUnit, Memory}
 use Rattle.rmt_config.specs.declared.cell_write.CellWrite.{CellWrite}
 use Rattle.rmt_config.specs.declared.config.Memory.TheVariants.{Without, Exact, Ternary}
 use Rattle.rmt_config.specs.LaneForm.{bits_of_lanes}
-use Rattle.rmt_config.specs.Shapes.{divided_up}
+use Rattle.rmt_config.specs.BlockCounts.{divided_up}
 use Rattle.rmt_config.specs.Cells.{Content, cells_in, is_occupied}
 use Rattle.rmt_config.specs.RunCells.{emptied, written_content, written_mask}
 use Rattle.rmt_config.proofs.CellLayouts.{up-enough}
@@ -193,7 +193,7 @@ stored-key bits Without stored n keys key inside fit are size = absurd (omega (a
 stored-key bits (Exact k p d w ks rs cs) stored n Nothing key inside fit are size = absurd (false≢true fit)
 stored-key bits (Exact k p d w ks rs cs) stored n (InVectors v) key inside fit are size = absurd (false≢true fit)
 stored-key bits (Exact k p d w ks rs cs) stored n (InCells ways) key inside fit are size =
-    let is : stored ≡ length key = eqb-true stored (divided_up bits 8) (and_parts (eqb ways.first_way w && eqb ways.rows (1024 * d) && eqb ways.per p) (eqb stored (divided_up bits 8)) fit).1 ∙ sym size in
+    let is : stored ≡ length key = eqb-true stored (divided_up bits 8) (and_parts (eqb ways.first w && eqb ways.rows (1024 * d) && eqb ways.per p) (eqb stored (divided_up bits 8)) fit).1 ∙ sym size in
     ap (λ k. take k key) is ∙ take_all (length key) key (omega arith) ∙ sym (bytes_of-number_of key are) ∙ ap (λ k. bytes_of k (number_of key)) (sym is)
 stored-key bits (Ternary d ks rs cs) stored n Nothing key inside fit are size = absurd (false≢true fit)
 stored-key bits (Ternary d ks rs cs) stored n (InCells ways) key inside fit are size = absurd (false≢true fit)

@@ -5,7 +5,7 @@ use Rattle.std.proofs.lemmas.List.{nil_from_length}
 use Rattle.rmt_chip.specs.Types.{Stage, SlotUnit, Memory}
 use Rattle.rmt_config.specs.declared.config.Memory.TheVariants.{Without, Exact, Ternary}
 use Rattle.rmt_config.specs.LaneForm.{bits_of_lanes}
-use Rattle.rmt_config.specs.Shapes.{divided_up}
+use Rattle.rmt_config.specs.BlockCounts.{divided_up}
 use Rattle.rmt_config.specs.Cells.{cells_in}
 use Rattle.rmt_config.specs.UnitForm.{slot_head_is_formed, memory_is_formed}
 use Rattle.rmt_config.specs.MemoryRules.{ExactFits, TernaryFits}

@@ -15,7 +15,7 @@ use Rattle.rmt_bits.proofs.ListLaws.{find-passes}
 use Rattle.rmt_chip.specs.Types.{SlotUnit, Memory}
 use Rattle.rmt_config.specs.declared.config.Memory.TheVariants.{Without, Exact, Ternary}
 use Rattle.rmt_config.specs.LaneForm.{bits_of_lanes}
-use Rattle.rmt_config.specs.Shapes.{divided_up}
+use Rattle.rmt_config.specs.BlockCounts.{divided_up}
 use Rattle.rmt_config.specs.Cells.{Content, candidates, cells_in, is_occupied}
 use Rattle.rmt_config.specs.RunCells.{sees, is_hit}
 use Rattle.rmt_config.proofs.CellLayouts.{up-enough}
@@ -23,8 +23,9 @@ use Rattle.rmt_chip.specs.declared.memory.SlotMemory.{SlotMemory}
 use Rattle.rmt_chip.specs.declared.memory.keys.Keys.{Keys}
 use Rattle.rmt_chip.specs.declared.memory.keys.Keys.TheVariants.{Nothing, InCells, InVectors}
 use Rattle.rmt_chip.specs.declared.memory.sliced.Sliced.{Sliced}
-use Rattle.rmt_chip.specs.declared.memory.ways.Ways.{Ways}
-use Rattle.rmt_chip.specs.Searching.{FirstIn, HasCell, run_of, row_among, FirstInWay, FirstByWays}
+use Rattle.rmt_config.specs.declared.part_ways.PartWays.{PartWays}
+use Rattle.rmt_config.specs.WayRows.{row_among}
+use Rattle.rmt_chip.specs.Searching.{FirstIn, HasCell, run_of, FirstInWay, FirstByWays}
 use Rattle.rmt_chip.specs.KeyWords.{Has, words_of, words_of_key, masked}
 use Rattle.rmt_chip.specs.Slicing.{HasRow}
 use Rattle.rmt_chip.specs.Sights.{seen_by, sight_of}
@@ -80,7 +81,7 @@ place-shown seed sight content s key i place = find-passes (λ n. is_shown sight
 
 -- ---- an exact part
 
-module _ (seed sight : ℕ) (content : ℕ → Content) (number : ℕ → ℕ) (s0 : SlotUnit) (k p d w : ℕ) (ks rs cs : List ℕ) (m : SlotMemory) (ways : Ways)
+module _ (seed sight : ℕ) (content : ℕ → Content) (number : ℕ → ℕ) (s0 : SlotUnit) (k p d w : ℕ) (ks rs cs : List ℕ) (m : SlotMemory) (ways : PartWays)
     (each : (n : ℕ) → n < cells_in (Exact k p d w ks rs cs) → HoldsCell (record s0 { memory = Exact k p d w ks rs cs }) (content n) (number n) n m)
     (fit : keys_fit (bits_of_lanes s0.keys) (Exact k p d w ks rs cs) m.stored (InCells ways) ≡ true) (some : 1 ≤ ways.rows)
     (key : List ℕ) (are : AreBytes key) (size : length key ≡ divided_up (bits_of_lanes s0.keys) 8) (small : number_of key < 2 ^ bits_of_lanes s0.keys) where
@@ -100,17 +101,17 @@ module _ (seed sight : ℕ) (content : ℕ → Content) (number : ℕ → ℕ) (
   test cell = is_shown sight (number_of key) (content cell)
 
   -- where the ways are
-  are-ways : (eqb ways.first_way w && eqb ways.rows (1024 * d) && eqb ways.per p ≡ true) × (eqb m.stored bytes ≡ true)
-  are-ways = and_parts (eqb ways.first_way w && eqb ways.rows (1024 * d) && eqb ways.per p) (eqb m.stored bytes) fit
+  are-ways : (eqb ways.first w && eqb ways.rows (1024 * d) && eqb ways.per p ≡ true) × (eqb m.stored bytes ≡ true)
+  are-ways = and_parts (eqb ways.first w && eqb ways.rows (1024 * d) && eqb ways.per p) (eqb m.stored bytes) fit
 
-  are-rows : (eqb ways.first_way w && eqb ways.rows (1024 * d) ≡ true) × (eqb ways.per p ≡ true)
-  are-rows = and_parts (eqb ways.first_way w && eqb ways.rows (1024 * d)) (eqb ways.per p) are-ways.0
+  are-rows : (eqb ways.first w && eqb ways.rows (1024 * d) ≡ true) × (eqb ways.per p ≡ true)
+  are-rows = and_parts (eqb ways.first w && eqb ways.rows (1024 * d)) (eqb ways.per p) are-ways.0
 
-  first_is : ways.first_way ≡ w
-  first_is = eqb-true ways.first_way w (and_parts (eqb ways.first_way w) (eqb ways.rows (1024 * d)) are-rows.0).0
+  first_is : ways.first ≡ w
+  first_is = eqb-true ways.first w (and_parts (eqb ways.first w) (eqb ways.rows (1024 * d)) are-rows.0).0
 
   rows_is : ways.rows ≡ 1024 * d
-  rows_is = eqb-true ways.rows (1024 * d) (and_parts (eqb ways.first_way w) (eqb ways.rows (1024 * d)) are-rows.0).1
+  rows_is = eqb-true ways.rows (1024 * d) (and_parts (eqb ways.first w) (eqb ways.rows (1024 * d)) are-rows.0).1
 
   per_is : ways.per ≡ p
   per_is = eqb-true ways.per p are-rows.1
@@ -167,7 +168,7 @@ module _ (seed sight : ℕ) (content : ℕ → Content) (number : ℕ → ℕ) (
 
   row-is : (way : ℕ) → row_among ways seed key way ≡ row way
   row-is way =
-      ap (λ r. way * r + hash_row seed (ways.first_way + way) key r) rows_is
+      ap (λ r. way * r + hash_row seed (ways.first + way) key r) rows_is
       ∙ ap (λ f. way * (1024 * d) + hash_row seed (f + way) key (1024 * d)) first_is
 
   -- the cells of the key's row in a way

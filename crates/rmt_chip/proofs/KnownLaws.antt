@@ -18,6 +18,7 @@ use Rattle.rmt_config.specs.declared.cell_write.CellWrite.{CellWrite}
 use Rattle.rmt_config.specs.Cells.{Content, Found, candidates, cells_in, content_of, is_occupied, number_of_cell}
 use Rattle.rmt_config.specs.Form.{Formed}
 use Rattle.rmt_config.specs.LaneForm.{bits_of_lanes}
+use Rattle.rmt_config.specs.Instructions.{first_code}
 use Rattle.rmt_config.specs.Life.{Look, Words, Life, Acts, Counted, has_memory, key_of, life_of, looked_up, runs, slot_acts, through, through_from, unit_acts}
 use Rattle.rmt_config.specs.Parser.{Parse, Short, Reject, Accept, parse, put}
 use Rattle.rmt_config.specs.ChipRun.{Outcome, counted_numbers, hits_before, outcome_from, outcome_of, unit_numbers}
@@ -155,10 +156,10 @@ counted-if Q true one xs q h = All-cons (λ (x : Counted). Q x.age x.number) one
 counted-if Q false one xs q h = h
 
 module _ (Q : ℕ → ℕ → Type 0) (look : Look) (k : ℕ) (stage : Stage) (may : MayCount Q look k stage) where
-  slot-counted : (slot : SlotUnit) (place key : ℕ) (o : Option Found) (a : Acts) → slice_get stage.units place ≡ Some (Slot slot) → ((f : Found) → o ≡ Some f → look k place key ≡ Some f)
-      → AllCounted Q a.counted → AllCounted Q (slot_acts stage slot o a).counted
-  slot-counted slot place key (Some f) a at found h = counted-if Q slot.counted (record { number = f.number; age = stage.start + 8 }) a.counted (λ yes. may place key slot f at yes (found f refl)) h
-  slot-counted slot place key None a at found h = either (λ (b : Acts). AllCounted Q b.counted) slot.last _ a h h
+  slot-counted : (first : ℕ) (slot : SlotUnit) (place key : ℕ) (o : Option Found) (a : Acts) → slice_get stage.units place ≡ Some (Slot slot) → ((f : Found) → o ≡ Some f → look k place key ≡ Some f)
+      → AllCounted Q a.counted → AllCounted Q (slot_acts stage first slot o a).counted
+  slot-counted first slot place key (Some f) a at found h = counted-if Q slot.counted (record { number = f.number; age = stage.start + 8 }) a.counted (λ yes. may place key slot f at yes (found f refl)) h
+  slot-counted first slot place key None a at found h = either (λ (b : Acts). AllCounted Q b.counted) slot.last _ a h h
 
   looked : (slot : SlotUnit) (place : ℕ) (words : Words) (f : Found) → looked_up look k place words slot ≡ Some f → look k place (key_of words slot.keys) ≡ Some f
   looked slot place words f e = by (has_memory slot.memory) e
@@ -170,8 +171,8 @@ module _ (Q : ℕ → ℕ → Type 0) (look : Look) (k : ℕ) (stage : Stage) (m
   unit-counted : (words : Words) (a : Acts) (u : ChipUnit) → slice_get stage.units a.place ≡ Some u → AllCounted Q a.counted → AllCounted Q (unit_acts look k stage words a u).counted
   unit-counted words a (Gate g) at h = either (λ (b : Acts). AllCounted Q b.counted) (runs g.node g.guard a.outcomes) _ a h h
   unit-counted words a (Slot slot) at h =
-      either (λ (b : Acts). AllCounted Q b.counted) (runs slot.node slot.guard a.outcomes) (slot_acts stage slot (looked_up look k a.place words slot) a) a
-      (slot-counted slot a.place (key_of words slot.keys) (looked_up look k a.place words slot) a at (looked slot a.place words) h) h
+      either (λ (b : Acts). AllCounted Q b.counted) (runs slot.node slot.guard a.outcomes) (slot_acts stage (first_code stage a.place) slot (looked_up look k a.place words slot) a) a
+      (slot-counted (first_code stage a.place) slot a.place (key_of words slot.keys) (looked_up look k a.place words slot) a at (looked slot a.place words) h) h
 
   next-place : (words : Words) (a : Acts) (u : ChipUnit) → (unit_acts look k stage words a u).place ≡ a.place + 1
   next-place words a (Gate g) = refl

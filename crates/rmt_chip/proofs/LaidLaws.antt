@@ -8,7 +8,7 @@ use Rattle.rmt_bits.specs.Grouping.{Compared}
 use Rattle.rmt_chip.specs.Types.{Stage, TcamRow, SlotUnit, Memory}
 use Rattle.rmt_config.specs.declared.config.Memory.TheVariants.{Without, Exact, Ternary}
 use Rattle.rmt_config.specs.LaneForm.{bits_of_lanes}
-use Rattle.rmt_config.specs.Shapes.{divided_up}
+use Rattle.rmt_config.specs.BlockCounts.{divided_up}
 use Rattle.rmt_config.specs.StageForm.{is_listed, trow_number}
 use Rattle.rmt_config.specs.Layouts.{ternary_keys}
 use Rattle.rmt_config.specs.Cells.{Content, content_of, cells_in, is_occupied, tcam_row, blocks_at, number_of_cell}

@@ -7,8 +7,8 @@ use Rattle.std.proofs.Math.Nat.{div-one, mod-eq_of_lt}
 use Rattle.rmt_bits.specs.Bits.{slice, bytes_of}
 use Rattle.rmt_bits.proofs.BitLaws.{slice-lt}
 use Rattle.rmt_chip.specs.Types.{SramRow, TcamRow, CellNumber}
-use Rattle.rmt_config.specs.declared.form.layout.Layout.{Layout}
-use Rattle.rmt_config.specs.Shapes.{divided_up}
+use Rattle.rmt_config.specs.declared.form.layout.CellLayout.{CellLayout}
+use Rattle.rmt_config.specs.BlockCounts.{divided_up}
 use Rattle.rmt_config.specs.Cells.{sram_row, tcam_row, blocks_at, cell_of, entry_at, unit_row, row_record, Content}
 use Rattle.rmt_config.specs.Layouts.{exact_keys, ternary_records, ternary_keys}
 use Rattle.rmt_config.specs.StageForm.{trow_number}
@@ -43,13 +43,13 @@ IfOk-then r P Q h f = IfOk-weaker r P Q f h
 
 -- ---- an exact part
 
-module _ (rows rows' : List SramRow) (numbers numbers' : List CellNumber) (l : Layout) (ks : List ℕ) (k p d bits bits' : ℕ) (layout : l ≡ exact_keys k p d bits') (same_bits : bits' ≡ bits)
+module _ (rows rows' : List SramRow) (numbers numbers' : List CellNumber) (l : CellLayout) (ks : List ℕ) (k p d bits bits' : ℕ) (layout : l ≡ exact_keys k p d bits') (same_bits : bits' ≡ bits)
     (same_rows : rows' ≡ rows) (same_numbers : numbers' ≡ numbers) (some_p : 0 < p) (some_d : 0 < d) where
   abbrev entry : ℕ → ℕ
   entry n = entry_at (sram_row rows) ks k bits (cell_of (1024 * d) p n)
 
   entry-same : (n : ℕ) → entry_of l (sram_row rows) ks n ≡ entry n
-  entry-same n = ap (λ (m : Layout). entry_of m (sram_row rows) ks n) (layout ∙ ap (exact_keys k p d) same_bits) ∙ sym (exact-entry (sram_row rows) ks k p d bits n some_p some_d)
+  entry-same n = ap (λ (m : CellLayout). entry_of m (sram_row rows) ks n) (layout ∙ ap (exact_keys k p d) same_bits) ∙ sym (exact-entry (sram_row rows) ks k p d bits n some_p some_d)
 
   read-same : (size from len : ℕ) → runs_of size (λ n. slice (entry_of l (sram_row rows') ks n) from len) numbers' ≡ runs_of size (λ n. slice (entry n) from len) numbers
   read-same size from len =
@@ -68,13 +68,13 @@ module _ (rows rows' : List SramRow) (numbers numbers' : List CellNumber) (l : L
 
 -- ---- a ternary part
 
-module _ (rows rows' : List SramRow) (numbers numbers' : List CellNumber) (l : Layout) (rs : List ℕ) (d held : ℕ) (layout : l ≡ ternary_records d (held + 8))
+module _ (rows rows' : List SramRow) (numbers numbers' : List CellNumber) (l : CellLayout) (rs : List ℕ) (d held : ℕ) (layout : l ≡ ternary_records d (held + 8))
     (same_rows : rows' ≡ rows) (same_numbers : numbers' ≡ numbers) (below : All (λ (c : CellNumber). c.cell < 2048 * d) numbers) where
   abbrev kept : ℕ → ℕ
   kept n = row_record (sram_row rows) rs held n
 
   kept-same : (n : ℕ) → n < 2048 * d → entry_of l (sram_row rows) rs n ≡ kept n
-  kept-same n lt = ap (λ (m : Layout). entry_of m (sram_row rows) rs n) layout ∙ sym (ternary-record (sram_row rows) rs d held n lt)
+  kept-same n lt = ap (λ (m : CellLayout). entry_of m (sram_row rows) rs n) layout ∙ sym (ternary-record (sram_row rows) rs d held n lt)
 
   row-same : (size from len : ℕ) → runs_of size (λ n. slice (entry_of l (sram_row rows') rs n) from len) numbers' ≡ runs_of size (λ n. slice (kept n) from len) numbers
   row-same size from len =

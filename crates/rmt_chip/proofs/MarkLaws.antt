@@ -6,7 +6,7 @@ use Rattle.std.proofs.Math.Seq.{take-append_seam}
 use Rattle.rmt_bits.specs.Hash.{fnv, hash_row}
 use Rattle.rmt_config.specs.Cells.{is_occupied}
 use Rattle.rmt_chip.specs.declared.memory.runs.Runs.{Runs}
-use Rattle.rmt_chip.specs.declared.memory.ways.Ways.{Ways}
+use Rattle.rmt_config.specs.declared.part_ways.PartWays.{PartWays}
 use Rattle.rmt_chip.specs.Marking.{IsMarked, AreMarked}
 use Rattle.rmt_chip.specs.RunWrites.{HeadCleared, RunSet}
 use Rattle.rmt_chip.specs.Searching.{FirstByWays, run_of}
@@ -22,10 +22,10 @@ row-below w rows per r count lw lr le =
     omega (arith, next, most, le)
 
 -- a key without a mark is in no cell
-pub unmarked : (ways : Ways) (cells : Runs) (stored seed sight : ℕ) (words key : List ℕ) → AreMarked cells stored cells.count words → stored ≡ length key → 4 * ways.rows * ways.per ≤ cells.count
+pub unmarked : (ways : PartWays) (cells : Runs) (stored seed sight : ℕ) (words key : List ℕ) → AreMarked cells stored cells.count words → stored ≡ length key → 4 * ways.rows * ways.per ≤ cells.count
     → (IsMarked words key → ⊥) → FirstByWays ways cells seed sight key None
 unmarked ways cells stored seed sight words key marked size within none = λ way lt j from to has.
-    let row = row-below way ways.rows ways.per (hash_row seed (ways.first_way + way) key ways.rows) cells.count lt (mod_below (fnv (seed ∷ (ways.first_way + way) ∷ key) / 2 ^ 32) ways.rows (let some = ways.some_rows in omega (arith, some))) within in
+    let row = row-below way ways.rows ways.per (hash_row seed (ways.first + way) key ways.rows) cells.count lt (mod_below (fnv (seed ∷ (ways.first + way) ∷ key) / 2 ^ 32) ways.rows (let some = ways.some_rows in omega (arith, some))) within in
     let occupied : is_occupied (get_or (run_of cells j) 0 0) ≡ true = (and_parts (is_occupied (get_or (run_of cells j) 0 0)) (eqb (get_or (run_of cells j) 0 0 / 2 ^ sight % 2) 1) has.0).0 in
     let is : take stored (drop 1 (run_of cells j)) ≡ key = ap (λ n. take n (drop 1 (run_of cells j))) size ∙ has.1 in
     none (subst (IsMarked words) is (marked j (omega (arith, to, row)) occupied))

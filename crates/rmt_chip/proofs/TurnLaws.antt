@@ -16,6 +16,7 @@ use Rattle.rmt_chip.specs.Types.{Config, Stage, Unit as ChipUnit, SlotUnit}
 use Rattle.rmt_config.specs.declared.config.Unit.TheVariants.{Gate, Slot}
 use Rattle.rmt_config.specs.Cells.{Found}
 use Rattle.rmt_config.specs.Parser.{Parse, Reached, Short, Reject, Accept, parse, put}
+use Rattle.rmt_config.specs.Instructions.{first_code}
 use Rattle.rmt_config.specs.Life.{Look, Words, Life, Acts, Counted, lane_of, life_of, unit_acts, slot_acts, looked_up, runs}
 use Rattle.rmt_config.specs.ChipRun.{Outcome, latency_of, outcome_of, outcome_from, hits_before}
 use Rattle.rmt_config.specs.RunInputs.{Input, hits_from, look_from, packet_of}
@@ -237,14 +238,14 @@ aged_either : (t : ℕ) (b : Bool) (x y : Acts) → Aged t x.counted → Aged t 
 aged_either t true x y a b = a
 aged_either t false x y a b = b
 
-slot_aged : (stage : Stage) (s : SlotUnit) (found : Option Found) (a : Acts) → Aged (stage.start + 8) a.counted → Aged (stage.start + 8) (slot_acts stage s found a).counted
-slot_aged stage s (Some f) a was = aged_if (stage.start + 8) s.counted (record { number = f.number; age = stage.start + 8 }) a.counted refl was
-slot_aged stage s None a was = aged_either (stage.start + 8) s.last _ a was was
+slot_aged : (stage : Stage) (first : ℕ) (s : SlotUnit) (found : Option Found) (a : Acts) → Aged (stage.start + 8) a.counted → Aged (stage.start + 8) (slot_acts stage first s found a).counted
+slot_aged stage first s (Some f) a was = aged_if (stage.start + 8) s.counted (record { number = f.number; age = stage.start + 8 }) a.counted refl was
+slot_aged stage first s None a was = aged_either (stage.start + 8) s.last _ a was was
 
 unit_aged : (look : Look) (k : ℕ) (stage : Stage) (words : Words) (a : Acts) (u : ChipUnit) → Aged (stage.start + 8) a.counted → Aged (stage.start + 8) (unit_acts look k stage words a u).counted
 unit_aged look k stage words a (Gate g) was = aged_either (stage.start + 8) (runs g.node g.guard a.outcomes) _ a was was
 unit_aged look k stage words a (Slot s) was =
-    aged_either (stage.start + 8) (runs s.node s.guard a.outcomes) (slot_acts stage s (looked_up look k a.place words s) a) a (slot_aged stage s (looked_up look k a.place words s) a was) was
+    aged_either (stage.start + 8) (runs s.node s.guard a.outcomes) (slot_acts stage (first_code stage a.place) s (looked_up look k a.place words s) a) a (slot_aged stage (first_code stage a.place) s (looked_up look k a.place words s) a was) was
 
 units_aged : (look : Look) (k : ℕ) (stage : Stage) (words : Words) (a : Acts) (us : List ChipUnit) → Aged (stage.start + 8) a.counted → Aged (stage.start + 8) (fold (unit_acts look k stage words) a us).counted
 units_aged look k stage words a [] was = was
@@ -253,7 +254,7 @@ units_aged look k stage words a (u ∷ us) was = units_aged look k stage words (
 acts_aged : (look : Look) (stages : List Stage) (vector : List ℕ) (k : ℕ) (stage : Stage) → Aged (stage.start + 8) (acts_at look stages vector k stage).counted
 unfolding acts_at
 acts_aged look stages vector k stage =
-    units_aged look k stage ((upto look stages vector k).word stage.start) (record { outcomes = (upto look stages vector k).outcomes; running = []; counted = []; base = 0; place = 0 }) stage.units tt
+    units_aged look k stage ((upto look stages vector k).word stage.start) (record { outcomes = (upto look stages vector k).outcomes; running = []; counted = []; place = 0 }) stage.units tt
 
 -- ---- a packet's hits at an age, stage by stage
 

@@ -3,7 +3,7 @@ use Rattle.std.specs.Prelude.{◌≡◌, ◌≢◌, ℕ, ◌<◌, ◌∷◌, ◌
 use Rattle.std.specs.List.{flat_map}
 use Rattle.rmt_bits.specs.Bits.{bytes_of}
 use Rattle.rmt_chip.specs.Types.{TcamRow, CellNumber}
-use Rattle.rmt_config.specs.declared.form.layout.Layout.{Layout}
+use Rattle.rmt_config.specs.declared.form.layout.CellLayout.{CellLayout}
 use Rattle.rmt_chip.specs.declared.memory.runs.Runs.{Runs}
 use Rattle.rmt_chip.specs.Searching.{run_of}
 use Rattle.rmt_config.specs.Order.{rises_from}
@@ -17,7 +17,7 @@ pub record TcamRows (rows : List TcamRow) : Type 0 where
   pub low : All (λ (r : TcamRow). r.row < 2048) rows
 
 -- the entry of a cell by its number in the memory
-abbrev pub entry_of : Layout → Blocks → List ℕ → ℕ → ℕ
+abbrev pub entry_of : CellLayout → Blocks → List ℕ → ℕ → ℕ
 entry_of l held blocks cell = entry_in l held blocks (quantum_of l cell) (local_of l cell)
 
 -- a value of each listed cell as that many bytes, the highest first

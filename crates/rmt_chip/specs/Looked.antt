@@ -4,7 +4,7 @@ use Rattle.rmt_bits.specs.Bits.{number_of}
 use Rattle.rmt_chip.specs.Types.{Stage, Unit}
 use Rattle.rmt_config.specs.declared.config.Unit.TheVariants.{Gate, Slot}
 use Rattle.rmt_config.specs.Cells.{Found}
-use Rattle.rmt_config.specs.Shapes.{divided_up}
+use Rattle.rmt_config.specs.BlockCounts.{divided_up}
 use Rattle.rmt_config.specs.Life.{Look, Words, gate_passes, looked_up}
 use Rattle.rmt_chip.specs.declared.looked.Looked.{Looked}
 

@@ -8,7 +8,7 @@ use Rattle.rmt_config.specs.declared.config.Unit.TheVariants.{Gate, Slot}
 use Rattle.rmt_config.specs.declared.config.Memory.TheVariants.{Without, Exact, Ternary}
 use Rattle.rmt_config.specs.LaneForm.{bits_of_lanes}
 use Rattle.rmt_config.specs.Order.{rises_from}
-use Rattle.rmt_config.specs.Shapes.{divided_up}
+use Rattle.rmt_config.specs.BlockCounts.{divided_up}
 use Rattle.rmt_config.specs.Cells.{Content, cells_in, is_occupied}
 use Rattle.rmt_config.specs.UnitForm.{slot_is_formed}
 use Rattle.rmt_config.specs.CellForm.{SlotHolds}
@@ -61,7 +61,7 @@ keys_fit bits Without stored (InCells ways) = false
 keys_fit bits Without stored (InVectors v) = false
 keys_fit bits (Exact k p d w ks rs cs) stored Nothing = false
 keys_fit bits (Exact k p d w ks rs cs) stored (InCells ways) =
-    (ways.first_way == w) && (ways.rows == 1024 * d) && (ways.per == p) && (stored == divided_up bits 8)
+    (ways.first == w) && (ways.rows == 1024 * d) && (ways.per == p) && (stored == divided_up bits 8)
 keys_fit bits (Exact k p d w ks rs cs) stored (InVectors v) = false
 keys_fit bits (Ternary d ks rs cs) stored Nothing = false
 keys_fit bits (Ternary d ks rs cs) stored (InCells ways) = false

@@ -3,8 +3,7 @@ use Rattle.std.specs.Prelude.{◌≡◌, ℕ, ◌+◌, ◌++◌, if◌then◌els
 use Rattle.rmt_bits.specs.Bits.{number_of}
 use Rattle.rmt_bits.specs.Counts.{Hit, counts}
 use Rattle.rmt_bits.specs.declared.answer.Count.{Count}
-use Rattle.rmt_chip.specs.Types.{Stage, Unit, Vliw}
-use Rattle.rmt_config.specs.declared.config.Unit.TheVariants.{Gate, Slot}
+use Rattle.rmt_chip.specs.Types.{Stage, Vliw}
 use Rattle.rmt_config.specs.Life.{Running, Acts}
 use Rattle.rmt_chip.specs.declared.looked.Looked.{Looked}
 use Rattle.rmt_chip.specs.declared.ran.Ran.{Ran}
@@ -34,8 +33,3 @@ pub record HaveDone (stage : Stage) (looked : List Looked) (bytes : ℕ) (first 
   pub outcomes_are : outcomes ≡ acts.outcomes
   pub running_are : all_running stage.code looked running ≡ acts.running
   pub counted : CountsAlso first counters (hits_made bytes acts.counted)
-
--- the number of the first instruction behind a unit whose own first one has this number
-abbrev pub base_after : ℕ → Unit → ℕ
-base_after base (Gate g) = base
-base_after base (Slot s) = base + s.actions + 1

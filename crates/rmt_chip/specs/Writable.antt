@@ -5,7 +5,7 @@ use Rattle.rmt_chip.specs.Types.{Stage, SlotUnit, Memory}
 use Rattle.rmt_config.specs.declared.cell_write.CellWrite.{CellWrite}
 use Rattle.rmt_config.specs.declared.config.Memory.TheVariants.{Without, Exact, Ternary}
 use Rattle.rmt_config.specs.LaneForm.{bits_of_lanes}
-use Rattle.rmt_config.specs.Shapes.{divided_up}
+use Rattle.rmt_config.specs.BlockCounts.{divided_up}
 use Rattle.rmt_config.specs.Cells.{Content, cells_in}
 use Rattle.rmt_config.specs.RunCells.{as_slot, written_content}
 

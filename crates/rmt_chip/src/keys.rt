@@ -4,7 +4,7 @@ ghost use Rattle.std.specs.Prelude.{◌≡◌, ◌+◌, ◌<◌, ◌≤◌, ◌=
 ghost use Rattle.rmt_config.specs.declared.config.Stage.{Stage};
 ghost use Rattle.rmt_config.specs.declared.config.GateTest.{GateTest};
 ghost use Rattle.rmt_config.specs.LaneForm.{bits_of_lanes};
-ghost use Rattle.rmt_config.specs.Shapes.{divided_up};
+ghost use Rattle.rmt_config.specs.BlockCounts.{divided_up};
 ghost use Rattle.rmt_config.specs.RunCells.{RunCells, found_in_slot};
 ghost use Rattle.rmt_config.specs.Life.{Look, lane_of, key_of, gate_passes, has_memory as memory_is_there};
 ghost use Rattle.rmt_chip.specs.declared.looked.Looked.{Looked};

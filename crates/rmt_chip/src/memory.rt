@@ -13,7 +13,6 @@ mod runs;
 pub mod sight;
 mod sliced;
 mod ternary;
-mod ways;
 
 ghost use Rattle.std.specs.Prelude.{◌≡◌, ◌≤◌, ◌+◌, IsTrue};
 ghost use Rattle.std.proofs.Props.{props};

@@ -5,13 +5,14 @@ ghost use Rattle.rmt_bits.specs.declared.answer.Count.{Count};
 ghost use Rattle.rmt_config.specs.declared.config.Stage.{Stage};
 ghost use Rattle.rmt_config.specs.declared.config.Unit.{Unit};
 ghost use Rattle.rmt_config.specs.Cells.{Found};
+ghost use Rattle.rmt_config.specs.Instructions.{first_code, unit_instructions};
 ghost use Rattle.rmt_config.specs.Life.{Look, Words, Acts, guarded, runs, slot_acts, unit_acts, acts_of};
 ghost use Rattle.rmt_chip.specs.declared.looked.Looked.{Looked};
 ghost use Rattle.rmt_chip.specs.Held.{DecidedBy};
 ghost use Rattle.rmt_chip.specs.Hits.{CountedBy};
 ghost use Rattle.rmt_chip.specs.Looked.{Finds, LookedFor, AllLooked};
 ghost use Rattle.rmt_chip.specs.Pending.{HaveRoomFor};
-ghost use Rattle.rmt_chip.specs.Ran.{HaveDone, CountsAlso, base_after};
+ghost use Rattle.rmt_chip.specs.Ran.{HaveDone, CountsAlso};
 ghost use Rattle.rmt_chip.specs.Runnable.{StageFits};
 
 use crate::accepted::is_accepted;
@@ -98,9 +99,9 @@ fn decide_slot(
     ensures spare { counters.new.room ≡ counters.old.room }
     ensures room { vec_capacity running.old ≤ vec_capacity running.new }
     ensures done { (stage : Stage) (found : Option Found) (d : Looked) (first : List Count) (acts : Acts) →
-        Finds slot.now.counted found (slice_index_or looked.now at.unit d) → at.base ≡ acts.base →
+        Finds slot.now.counted found (slice_index_or looked.now at.unit d) →
         HaveDone stage looked.now bytes first acts outcomes.old running.old.items counters.old.counts →
-        HaveDone stage looked.now bytes first (if runs slot.now.node slot.now.guard acts.outcomes then slot_acts stage slot.now found acts else acts)
+        HaveDone stage looked.now bytes first (if runs slot.now.node slot.now.guard acts.outcomes then slot_acts stage at.base slot.now found acts else acts)
         outcomes.new running.new.items counters.new.counts }
 {
     if !runs_now(slot.node, slot.guard, outcomes) {
@@ -145,10 +146,10 @@ fn decide_unit(
     ensures more { vec_len running.new ≤ vec_len running.old + 1 }
     ensures spare { counters.new.room ≡ counters.old.room }
     ensures room { vec_capacity running.old ≤ vec_capacity running.new }
-    ensures next { result ≡ base_after at.base what.now }
+    ensures next { result ≡ at.base + unit_instructions what.now }
     ensures near { result ≤ at.base + 256 }
     ensures done { (look : Look) (k : ℕ) (stage : Stage) (words : Words) (d : Looked) (first : List Count) (acts : Acts) →
-        LookedFor look k acts.place words what.now (slice_index_or looked.now at.unit d) → at.base ≡ acts.base →
+        LookedFor look k acts.place words what.now (slice_index_or looked.now at.unit d) → at.base ≡ first_code stage acts.place →
         HaveDone stage looked.now bytes first acts outcomes.old running.old.items counters.old.counts →
         HaveDone stage looked.now bytes first (unit_acts look k stage words acts what.now) outcomes.new running.new.items counters.new.counts }
 {

@@ -2,7 +2,7 @@
 use Rattle.std.proofs.Common.{◌≡◌, ℕ, ◌+◌, ◌-◌, ◌*◌, ◌/◌, ◌%◌, ◌^◌, ◌<◌, ◌≤◌, List, sym, ap, ◌∙◌, subst, arith}
 use Rattle.std.proofs.lemmas.Nat.{div-add-mod', mul-le, div-mul-add, mod-mul-add, mod_below, div_below, le-div}
 use Rattle.rmt_bits.specs.Bits.{slice}
-use Rattle.rmt_config.specs.Shapes.{divided_up, record_width, records_a_row, record_units}
+use Rattle.rmt_config.specs.BlockCounts.{divided_up, record_width, records_a_row, record_units}
 use Rattle.rmt_config.specs.Cells.{Blocks, unit_row, blocks_at, Cell, cell_of, local_index, entry_at, data_at, row_record, row_key}
 use Rattle.rmt_config.specs.Layouts.{quantum_of, local_of, entry_in, IsLayout, exact_keys, exact_records, ternary_keys, ternary_records}
 use Rattle.rmt_config.proofs.CellPlaces.{mod-rows, div-rows, mod-div_rows, mod-mod_rows, three-high, three-middle}

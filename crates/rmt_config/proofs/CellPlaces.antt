@@ -1,7 +1,7 @@
 -- The numbers of cells, of their quanta, units, rows and positions, and back.
 use Rattle.std.proofs.Common.{◌≡◌, ℕ, ◌+◌, ◌*◌, ◌/◌, ◌%◌, ◌<◌, ◌≤◌, sym, ap, ◌∙◌, arith}
 use Rattle.std.proofs.lemmas.Nat.{div-add-mod', mul-le, mul-lt, mul-add-lt, div-mul-add, mod-mul-add, mod_below, div_below}
-use Rattle.rmt_config.specs.declared.form.layout.Layout.{Layout}
+use Rattle.rmt_config.specs.declared.form.layout.CellLayout.{CellLayout}
 use Rattle.rmt_config.specs.Layouts.{number_in, quantum_of, local_of, unit_of, row_of, position_of, index_in, IsLayout}
 
 -- ---- rows of m, d of them at a time
@@ -59,22 +59,22 @@ three-of a d m some_d some_m =
 
 -- ---- units, rows and positions
 
-pub index_unit : (l : Layout) (unit row position : ℕ) → row < l.rows → position < l.per
+pub index_unit : (l : CellLayout) (unit row position : ℕ) → row < l.rows → position < l.per
     → index_in l unit row position / (l.rows * l.per) ≡ unit % l.units
 index_unit l unit row position lr lp = three-high (unit % l.units) row position l.rows l.per lr lp
 
-pub index_row : (l : Layout) (unit row position : ℕ) → row < l.rows → position < l.per → row_of l (index_in l unit row position) ≡ row
+pub index_row : (l : CellLayout) (unit row position : ℕ) → row < l.rows → position < l.per → row_of l (index_in l unit row position) ≡ row
 index_row l unit row position lr lp = three-middle (unit % l.units) row position l.rows l.per lr lp
 
-pub index_position : (l : Layout) (unit row position : ℕ) → position < l.per → position_of l (index_in l unit row position) ≡ position
+pub index_position : (l : CellLayout) (unit row position : ℕ) → position < l.per → position_of l (index_in l unit row position) ≡ position
 index_position l unit row position lp = mod-mul-add (unit % l.units * l.rows + row) l.per position lp
 
 -- the unit of what stands at an index in the quantum of a unit is that unit
-pub unit_back : (l : Layout) (unit row position : ℕ) → row < l.rows → position < l.per
+pub unit_back : (l : CellLayout) (unit row position : ℕ) → row < l.rows → position < l.per
     → unit_of l (unit / l.units) (index_in l unit row position) ≡ unit
 unit_back l unit row position lr lp = rw (index_unit l unit row position lr lp) (div-add-mod' unit l.units)
 
-pub index_below : (l : Layout) (unit row position : ℕ) → 0 < l.units → row < l.rows → position < l.per
+pub index_below : (l : CellLayout) (unit row position : ℕ) → 0 < l.units → row < l.rows → position < l.per
     → index_in l unit row position < l.units * (l.rows * l.per)
 index_below l unit row position some lr lp =
     let inner : row * l.per + position < l.per * l.rows = mul-add-lt row l.per position l.rows lr lp in
@@ -90,39 +90,39 @@ index_below l unit row position some lr lp =
     spread q r d m s = omega arith
 
 -- an index is that of its unit, row and position
-unit_mod : (l : Layout) (quantum i : ℕ) → i < l.units * (l.rows * l.per) → 0 < l.rows * l.per → unit_of l quantum i % l.units ≡ i / (l.rows * l.per)
+unit_mod : (l : CellLayout) (quantum i : ℕ) → i < l.units * (l.rows * l.per) → 0 < l.rows * l.per → unit_of l quantum i % l.units ≡ i / (l.rows * l.per)
 unit_mod l quantum i lt some = mod-mul-add quantum l.units (i / (l.rows * l.per)) (div_below i (l.rows * l.per) l.units some lt)
 
-pub unit_quantum : (l : Layout) (quantum i : ℕ) → i < l.units * (l.rows * l.per) → 0 < l.rows * l.per → unit_of l quantum i / l.units ≡ quantum
+pub unit_quantum : (l : CellLayout) (quantum i : ℕ) → i < l.units * (l.rows * l.per) → 0 < l.rows * l.per → unit_of l quantum i / l.units ≡ quantum
 unit_quantum l quantum i lt some = div-mul-add quantum l.units (i / (l.rows * l.per)) (div_below i (l.rows * l.per) l.units some lt)
 
-pub index_back : (l : Layout) (quantum i : ℕ) → 0 < l.rows → 0 < l.per → 0 < l.rows * l.per → i < l.units * (l.rows * l.per)
+pub index_back : (l : CellLayout) (quantum i : ℕ) → 0 < l.rows → 0 < l.per → 0 < l.rows * l.per → i < l.units * (l.rows * l.per)
     → index_in l (unit_of l quantum i) (row_of l i) (position_of l i) ≡ i
 index_back l quantum i some_rows some_per some lt =
     ap (λ u. (u * l.rows + row_of l i) * l.per + position_of l i) (unit_mod l quantum i lt some) ∙ three-of i l.rows l.per some_rows some_per
 
 -- ---- quanta
 
-pub number_quantum : (l : Layout) (quantum i : ℕ) → 0 < l.way → quantum < l.quanta → quantum_of l (number_in l quantum i) ≡ quantum
+pub number_quantum : (l : CellLayout) (quantum i : ℕ) → 0 < l.way → quantum < l.quanta → quantum_of l (number_in l quantum i) ≡ quantum
 number_quantum l quantum i some lt =
     ap (λ n. n % l.quanta) (div-mul-add (i / l.way * l.quanta + quantum) l.way (i % l.way) (mod_below i l.way some))
     ∙ mod-mul-add (i / l.way) l.quanta quantum lt
 
-pub number_local : (l : Layout) (quantum i : ℕ) → 0 < l.way → quantum < l.quanta → local_of l (number_in l quantum i) ≡ i
+pub number_local : (l : CellLayout) (quantum i : ℕ) → 0 < l.way → quantum < l.quanta → local_of l (number_in l quantum i) ≡ i
 number_local l quantum i some lt =
     let high = div-mul-add (i / l.way * l.quanta + quantum) l.way (i % l.way) (mod_below i l.way some) in
     let low = mod-mul-add (i / l.way * l.quanta + quantum) l.way (i % l.way) (mod_below i l.way some) in
     let top = div-mul-add (i / l.way) l.quanta quantum lt in
     rw (high, low, top) (div-add-mod' i l.way)
 
-pub number_back : (l : Layout) (n : ℕ) → 0 < l.way → number_in l (quantum_of l n) (local_of l n) ≡ n
+pub number_back : (l : CellLayout) (n : ℕ) → 0 < l.way → number_in l (quantum_of l n) (local_of l n) ≡ n
 number_back l n some =
     let high = div-mul-add (n / l.way / l.quanta) l.way (n % l.way) (mod_below n l.way some) in
     let low = mod-mul-add (n / l.way / l.quanta) l.way (n % l.way) (mod_below n l.way some) in
     let top : n / l.way / l.quanta * l.quanta + n / l.way % l.quanta ≡ n / l.way = div-add-mod' (n / l.way) l.quanta in
     rw (high, low, top) (div-add-mod' n l.way)
 
-pub local_below : (l : Layout) (n : ℕ) → 0 < l.way → 0 < l.quanta → n < l.ways * l.quanta * l.way → local_of l n < l.ways * l.way
+pub local_below : (l : CellLayout) (n : ℕ) → 0 < l.way → 0 < l.quanta → n < l.ways * l.quanta * l.way → local_of l n < l.ways * l.way
 local_below l n some some_quanta lt =
     let one : n / l.way < l.ways * l.quanta = div_below n l.way (l.ways * l.quanta) some lt in
     let two : n / l.way / l.quanta < l.ways = div_below (n / l.way) l.quanta l.ways some_quanta one in
@@ -130,7 +130,7 @@ local_below l n some some_quanta lt =
     let e : l.way * l.ways ≡ l.ways * l.way = omega arith in
     rw (← e) three
 
-pub number_below : (l : Layout) (quantum i : ℕ) → 0 < l.way → quantum < l.quanta → i < l.ways * l.way → number_in l quantum i < l.ways * l.quanta * l.way
+pub number_below : (l : CellLayout) (quantum i : ℕ) → 0 < l.way → quantum < l.quanta → i < l.ways * l.way → number_in l quantum i < l.ways * l.quanta * l.way
 number_below l quantum i some lq lt =
     let one : i / l.way < l.ways = div_below i l.way l.ways some lt in
     let two : i / l.way * l.quanta + quantum < l.quanta * l.ways = mul-add-lt (i / l.way) l.quanta quantum l.ways one lq in
@@ -139,11 +139,11 @@ number_below l quantum i some lq lt =
     let e : l.way * (l.quanta * l.ways) ≡ l.ways * l.quanta * l.way = omega arith in
     rw (← e) three
 
-pub quantum_below : (l : Layout) (n : ℕ) → 0 < l.quanta → quantum_of l n < l.quanta
+pub quantum_below : (l : CellLayout) (n : ℕ) → 0 < l.quanta → quantum_of l n < l.quanta
 quantum_below l n some = mod_below (n / l.way) l.quanta some
 
 -- a unit of a cell of the memory is a unit of it
-pub unit_below : (l : Layout) (n : ℕ) → IsLayout l → n < l.ways * l.quanta * l.way → unit_of l (quantum_of l n) (local_of l n) < l.quanta * l.units
+pub unit_below : (l : CellLayout) (n : ℕ) → IsLayout l → n < l.ways * l.quanta * l.way → unit_of l (quantum_of l n) (local_of l n) < l.quanta * l.units
 unit_below l n is lt =
     let some : 0 < l.rows * l.per = (let one = mul-lt 0 0 l.rows l.per is.some_rows is.some_per in omega (arith, one)) in
     let local = local_below l n is.some_way is.some_quanta lt in
@@ -153,13 +153,13 @@ unit_below l n is lt =
     rw (← e) below
 
 -- the blocks of a unit of the memory stand in a list of its blocks
-pub blocks_there : (l : Layout) (unit len : ℕ) → unit < l.quanta * l.units → len ≡ l.quanta * l.units * l.side → (unit + 1) * l.side ≤ len
+pub blocks_there : (l : CellLayout) (unit len : ℕ) → unit < l.quanta * l.units → len ≡ l.quanta * l.units * l.side → (unit + 1) * l.side ≤ len
 blocks_there l unit len lt e =
     let le = mul-le (unit + 1) l.side (l.quanta * l.units) l.side (omega (arith, lt)) (omega arith) in
     omega (arith, le, e)
 
 -- the head of an entry lies in the unit's row
-pub head_there : (l : Layout) (i : ℕ) → IsLayout l → 8 ≤ l.entry → position_of l i * l.entry + 8 ≤ l.bits * l.side
+pub head_there : (l : CellLayout) (i : ℕ) → IsLayout l → 8 ≤ l.entry → position_of l i * l.entry + 8 ≤ l.bits * l.side
 head_there l i is le =
     let low : position_of l i < l.per = mod_below i l.per is.some_per in
     let one = mul-le (position_of l i + 1) l.entry l.per l.entry (omega (arith, low)) (omega arith) in

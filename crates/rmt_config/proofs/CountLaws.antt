@@ -11,6 +11,7 @@ use Rattle.rmt_bits.specs.Counts.{Hit, counts}
 use Rattle.rmt_config.specs.Types.{Config, Stage, Unit, SlotUnit}
 use Rattle.rmt_config.specs.declared.config.Unit.TheVariants.{Gate, Slot}
 use Rattle.rmt_config.specs.Cells.{Found}
+use Rattle.rmt_config.specs.Instructions.{first_code}
 use Rattle.rmt_config.specs.Parser.{Parse, Short, Reject, Accept, parse, put}
 use Rattle.rmt_config.specs.Life.{Look, Words, Life, Acts, Counted, slot_acts, looked_up, unit_acts, through, through_from, life_of, runs}
 use Rattle.rmt_config.specs.ChipRun.{Outcome, outcome_from, outcome_of, own_look, latency_of, inputs_of, hits_before, hits_in, counted_numbers, chip_counts_of}
@@ -22,15 +23,15 @@ abbrev pub AreBelow : ℕ → List Counted → Type 0
 AreBelow age counted = All (λ (x : Counted). x.age < age) counted
 
 module _ (age : ℕ) (stage : Stage) (early : stage.start + 8 < age) where
-  slot_below : (slot : SlotUnit) (o : Option Found) (a : Acts) → AreBelow age a.counted → AreBelow age (slot_acts stage slot o a).counted
-  slot_below slot (Some f) a h = either (AreBelow age) slot.counted _ a.counted (All-cons (λ (x : Counted). x.age < age) _ a.counted early h) h
-  slot_below slot None a h = either (λ (b : Acts). AreBelow age b.counted) slot.last _ a h h
+  slot_below : (first : ℕ) (slot : SlotUnit) (o : Option Found) (a : Acts) → AreBelow age a.counted → AreBelow age (slot_acts stage first slot o a).counted
+  slot_below first slot (Some f) a h = either (AreBelow age) slot.counted _ a.counted (All-cons (λ (x : Counted). x.age < age) _ a.counted early h) h
+  slot_below first slot None a h = either (λ (b : Acts). AreBelow age b.counted) slot.last _ a h h
 
   unit_below : (look : Look) (k : ℕ) (words : Words) (a : Acts) (u : Unit) → AreBelow age a.counted → AreBelow age (unit_acts look k stage words a u).counted
   unit_below look k words a (Gate g) h = either (λ (b : Acts). AreBelow age b.counted) (runs g.node g.guard a.outcomes) _ a h h
   unit_below look k words a (Slot slot) h =
       either (λ (b : Acts). AreBelow age b.counted) (runs slot.node slot.guard a.outcomes) _ a
-      (slot_below slot (looked_up look k a.place words slot) a h) h
+      (slot_below (first_code stage a.place) slot (looked_up look k a.place words slot) a h) h
 
   units_below : (look : Look) (k : ℕ) (words : Words) (units : List Unit) (a : Acts) → AreBelow age a.counted → AreBelow age (fold (unit_acts look k stage words) a units).counted
   units_below look k words [] a h = h

@@ -9,6 +9,9 @@ use Rattle.rmt_config.specs.declared.config.Unit.TheVariants.{Slot}
 use Rattle.rmt_config.specs.declared.config.Memory.TheVariants.{Exact, Ternary}
 use Rattle.rmt_config.specs.declared.config.Source.TheVariants.{Held}
 use Rattle.rmt_config.specs.Cells.{content_of}
+use Rattle.rmt_config.specs.Instructions.{first_code}
+use Rattle.rmt_config.specs.WayRows.{row_among}
+use Rattle.rmt_config.specs.declared.part_ways.PartWays.{PartWays}
 use Rattle.rmt_config.specs.CellForm.{numbers_are_formed, SlotHolds, StageHolds, Coded, MemoryEnds, exact, ternary}
 use Rattle.rmt_config.specs.StageForm.{rows_are_formed, srow_number, trow_number}
 use Rattle.rmt_config.specs.Layouts.{exact_keys, exact_records, ternary_keys, ternary_records}
@@ -270,3 +273,25 @@ bit_past_key holds = at holds.ends
   where
     at : MemoryEnds (ternary_stage [] [] (record { block = 1; row = 0; value = 0; mask = 256 } ∷ [])) (ternary_slot []) (Ternary 2 (range_with_len 0 4) (range_with_len 0 2) []) → ⊥
     at (ternary _ _ _ _ ends records) = absurd (omega (arith, ends 0 0))
+
+-- ---- rows of ways, and instructions
+
+-- ways 4 to 7 of a table, of one row each
+pub ways_of_one_row : PartWays
+ways_of_one_row = record {
+  first = 4;
+  rows = 1;
+  per = 4;
+  some_rows = omega arith;
+  few_rows = omega arith;
+  low_ways = omega arith;
+  few_cells = omega arith;
+}
+
+pub row_of_the_third_way : row_among ways_of_one_row 7 (1 ∷ 2 ∷ []) 2 ≡ 2
+unfolding ways_of_one_row
+row_of_the_third_way = refl
+
+-- behind two actions stands the default's instruction, and then those of the next unit
+pub first_of_the_next_unit : first_code (exact_stage [] []) 1 ≡ 3
+first_of_the_next_unit = refl

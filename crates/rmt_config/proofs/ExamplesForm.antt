@@ -9,10 +9,10 @@ use Rattle.rmt_config.specs.declared.config.Memory.TheVariants.{Without, Exact, 
 use Rattle.rmt_config.specs.declared.config.OpKind.TheVariants as kind
 use Rattle.rmt_config.specs.declared.config.Source.TheVariants.{Word, Held, Constant}
 use Rattle.rmt_config.specs.declared.form.code.InstructionRole.{InstructionRole}
-use Rattle.rmt_config.specs.declared.form.shape.Shape.{Shape}
+use Rattle.rmt_config.specs.declared.form.block_counts.BlockCounts.{BlockCounts}
 use Rattle.rmt_config.specs.LaneForm.{lane_is_formed, ports_are_formed, header_is_formed, headers_are_formed}
 use Rattle.rmt_config.specs.ParserForm.{state_is_formed, states_are_formed, extract_is_formed, next_is_formed, match_is_formed, entry_is_formed, parser_is_formed}
-use Rattle.rmt_config.specs.Shapes.{exact_shape, ternary_shape}
+use Rattle.rmt_config.specs.BlockCounts.{exact_block_counts, ternary_block_counts}
 use Rattle.rmt_config.specs.UnitForm.{guard_is_formed, test_is_formed, gate_is_formed, number_is_formed, slot_is_formed}
 use Rattle.rmt_config.specs.CodeForm.{places_of, source_is_formed, operation_is_formed, vliw_is_formed, code_is_formed}
 use Rattle.rmt_config.specs.StageForm.{srow_fits, trow_fits, stage_is_formed, stages_are_formed, starts_are_formed}
@@ -312,46 +312,46 @@ bare_with_number = refl
 
 -- ---- how many blocks there are
 
-abbrev blocks : ℕ → ℕ → ℕ → Shape
+abbrev blocks : ℕ → ℕ → ℕ → BlockCounts
 blocks keys records counters = record { keys = keys; records = records; counters = counters }
 
 -- one quantum of units of one block and one cell a row, 4,096 cells: no record, 112, 2 and 1 in a row, and 1 in a row of two blocks
-pub exact_no_data : exact_shape 1 1 1 0 true ≡ blocks 4 0 4
+pub exact_no_data : exact_block_counts 1 1 1 0 true ≡ blocks 4 0 4
 exact_no_data = refl
 
-pub exact_1_bit : exact_shape 1 1 1 1 true ≡ blocks 4 1 4
+pub exact_1_bit : exact_block_counts 1 1 1 1 true ≡ blocks 4 1 4
 exact_1_bit = refl
 
-pub exact_40_bits : exact_shape 1 1 1 40 true ≡ blocks 4 2 4
+pub exact_40_bits : exact_block_counts 1 1 1 40 true ≡ blocks 4 2 4
 exact_40_bits = refl
 
-pub exact_112_bits : exact_shape 1 1 1 112 true ≡ blocks 4 4 4
+pub exact_112_bits : exact_block_counts 1 1 1 112 true ≡ blocks 4 4 4
 exact_112_bits = refl
 
-pub exact_113_bits : exact_shape 1 1 1 113 true ≡ blocks 4 8 4
+pub exact_113_bits : exact_block_counts 1 1 1 113 true ≡ blocks 4 8 4
 exact_113_bits = refl
 
 -- two quanta of units of three blocks and five cells a row: 20 records to 1,024 rows in each, 10 units
-pub exact_two_quanta : exact_shape 3 5 2 40 true ≡ blocks 24 20 40
+pub exact_two_quanta : exact_block_counts 3 5 2 40 true ≡ blocks 24 20 40
 exact_two_quanta = refl
 
-pub exact_not_counted : exact_shape 3 5 2 40 false ≡ blocks 24 20 0
+pub exact_not_counted : exact_block_counts 3 5 2 40 false ≡ blocks 24 20 0
 exact_not_counted = refl
 
 -- one quantum of 2,048 rows, whose records have 8 bits more: 14, 2 and 1 in a row, and 1 in a row of two blocks
-pub ternary_no_data : ternary_shape 40 1 0 true ≡ blocks 1 1 2
+pub ternary_no_data : ternary_block_counts 40 1 0 true ≡ blocks 1 1 2
 ternary_no_data = refl
 
-pub ternary_40_bits : ternary_shape 41 1 40 true ≡ blocks 2 1 2
+pub ternary_40_bits : ternary_block_counts 41 1 40 true ≡ blocks 2 1 2
 ternary_40_bits = refl
 
-pub ternary_104_bits : ternary_shape 80 1 104 true ≡ blocks 2 2 2
+pub ternary_104_bits : ternary_block_counts 80 1 104 true ≡ blocks 2 2 2
 ternary_104_bits = refl
 
-pub ternary_105_bits : ternary_shape 81 1 105 true ≡ blocks 3 4 2
+pub ternary_105_bits : ternary_block_counts 81 1 105 true ≡ blocks 3 4 2
 ternary_105_bits = refl
 
-pub ternary_two_quanta : ternary_shape 640 2 105 false ≡ blocks 32 8 0
+pub ternary_two_quanta : ternary_block_counts 640 2 105 false ≡ blocks 32 8 0
 ternary_two_quanta = refl
 
 -- ---- slots with memory

@@ -5,7 +5,7 @@ use Rattle.std.proofs.lemmas.Bool.{and_parts, and_from, eqb-true, eq-eqb, false_
 use Rattle.std.proofs.lemmas.Nat.{div-mul-add, mod-mul-add, pow_pos}
 use Rattle.std.proofs.lemmas.List.Folds.{find_at}
 use Rattle.std.proofs.lemmas.List.Sums.{position_or_len_is}
-use Rattle.rmt_config.specs.declared.form.layout.Layout.{Layout}
+use Rattle.rmt_config.specs.declared.form.layout.CellLayout.{CellLayout}
 use Rattle.rmt_config.specs.Order.{rises_from}
 use Rattle.rmt_config.specs.Cells.{Blocks, sram_row}
 use Rattle.rmt_config.specs.Types.{SramRow}
@@ -58,7 +58,7 @@ found-none fb fr val xs b r none =
     none k d lt (eqb-true (fb (get_or xs k d)) b parts.0) (eqb-true (fr (get_or xs k d)) r parts.1))))
 
 -- rows that rise, all of them within their blocks, stand for what the blocks hold
-pub rows-agree : {X : Type 0} (l : Layout) (fb fr val num : X → ℕ) (xs : List X) → ((x : X) → num x ≡ l.rows * fb x + fr x)
+pub rows-agree : {X : Type 0} (l : CellLayout) (fb fr val num : X → ℕ) (xs : List X) → ((x : X) → num x ≡ l.rows * fb x + fr x)
     → rises_from 0 (map num xs) ≡ true → All (λ x. fr x < l.rows) xs → All (λ x. val x < 2 ^ l.bits) xs
     → Agrees l (held_of fb fr val xs) (λ x. num x / l.rows) (λ x. num x % l.rows) val xs
 rows-agree {X} l fb fr val num xs is rise low small = record {

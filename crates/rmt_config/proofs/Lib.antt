@@ -12,6 +12,7 @@ pub mod ExamplesLimits
 pub mod RunLaws
 pub mod CountLaws
 pub mod CodeLaws
+pub mod InstructionLaws
 pub mod TableLaws
 pub mod NumberLaws
 pub mod LimitLemmas

@@ -2,9 +2,10 @@
 use Rattle.std.proofs.Common.{◌≡◌, ℕ, ◌+◌, ◌≤◌, List, [], ◌∷◌, length, Option, Some, None, refl, inl, inr}
 use Rattle.std.specs.List.{flat_map, count_by, sum_by, AllByRecursion}
 use Rattle.std.proofs.lemmas.Bool.{cases_lt, lt-ltb, le-ltb}
+use Rattle.rmt_config.specs.Instructions.{unit_instructions}
 use Rattle.rmt_config.specs.declared.limits.LimitHit.{LimitHit}
 use Rattle.rmt_config.specs.Types.{Config, ParserState, ParserEntry, Stage}
-use Rattle.rmt_config.specs.Resources.{is_slot, is_gate, unit_instructions, unit_data, unit_sram, unit_tcam, unit_width, greatest_by, most_listed_in, exact_words, ternary_words, crossbar_bits, node_count}
+use Rattle.rmt_config.specs.Resources.{is_slot, is_gate, unit_data, unit_sram, unit_tcam, unit_width, greatest_by, most_listed_in, exact_words, ternary_words, crossbar_bits, node_count}
 use Rattle.rmt_config.specs.Limits.{over, or_hit, first_passed, first_hit, stage_hit, stages_hit, entries_hit, states_hit, lookups_hit, entry_hit, sram_hit, tcam_hit, exact_words_hit, ternary_words_hit, slots_hit, code_hit, data_hit, gates_hit, width_hit, listed_hit, nodes_hit, crowded_stage, last_start_hit, parser_limit_hit, reading_limit_hit, unit_limit_hit, stage_limit_hit, IsWithinLimits}
 
 -- ---- single hits

@@ -2,23 +2,23 @@
 use Rattle.std.proofs.Common.{◌≡◌, ℕ, ◌*◌, ◌/◌, ◌%◌, List, length, Bool, false, ap, ◌∙◌, subst, arith}
 use Rattle.std.specs.Prelude.{◌↔◌, IsTrue}
 use Rattle.std.proofs.lemmas.Bool.{false≢true}
-use Rattle.rmt_config.specs.declared.form.layout.Layout.{Layout}
+use Rattle.rmt_config.specs.declared.form.layout.CellLayout.{CellLayout}
 use Rattle.rmt_config.specs.Types.{Stage, SramRow, SlotUnit, CellNumber}
-use Rattle.rmt_config.specs.Shapes.{record_width, record_units}
+use Rattle.rmt_config.specs.BlockCounts.{record_width, record_units}
 use Rattle.rmt_config.specs.Cells.{sram_row}
 use Rattle.rmt_config.specs.Layouts.{BlocksTold, listed_cells, cells_hold, exact_records, SramTold}
 
-abbrev pub RowsAnswer : {X : Type 0} → (X → ℕ) → (X → ℕ) → Bool → Layout → List X → List CellNumber → List ℕ → Type 0
+abbrev pub RowsAnswer : {X : Type 0} → (X → ℕ) → (X → ℕ) → Bool → CellLayout → List X → List CellNumber → List ℕ → Type 0
 RowsAnswer num bits b l rows numbers blocks =
     IsTrue b ↔ BlocksTold l (λ r. num r / l.rows) (λ r. num r % l.rows) bits (listed_cells numbers) rows blocks
 
-pub rows-same : {X : Type 0} (num bits : X → ℕ) (b : Bool) (l l' : Layout) (rows rows' : List X) (numbers numbers' : List CellNumber) (blocks : List ℕ) → l' ≡ l → rows' ≡ rows → numbers' ≡ numbers
+pub rows-same : {X : Type 0} (num bits : X → ℕ) (b : Bool) (l l' : CellLayout) (rows rows' : List X) (numbers numbers' : List CellNumber) (blocks : List ℕ) → l' ≡ l → rows' ≡ rows → numbers' ≡ numbers
     → RowsAnswer num bits b l' rows' numbers' blocks → RowsAnswer num bits b l rows numbers blocks
 rows-same num bits b l l' rows rows' numbers numbers' blocks el er en h =
     subst (λ x. RowsAnswer num bits b x rows numbers blocks) el
     (subst (λ x. RowsAnswer num bits b l' x numbers blocks) er (subst (λ x. RowsAnswer num bits b l' rows' x blocks) en h))
 
-pub cells-same : (l l' : Layout) (rows rows' : List SramRow) (numbers numbers' : List CellNumber) (blocks : List ℕ) (visible first actions : ℕ) → l' ≡ l → rows' ≡ rows → numbers' ≡ numbers
+pub cells-same : (l l' : CellLayout) (rows rows' : List SramRow) (numbers numbers' : List CellNumber) (blocks : List ℕ) (visible first actions : ℕ) → l' ≡ l → rows' ≡ rows → numbers' ≡ numbers
     → cells_hold l' (sram_row rows') blocks visible first actions numbers' ≡ cells_hold l (sram_row rows) blocks visible first actions numbers
 cells-same l l' rows rows' numbers numbers' blocks visible first actions el er en =
     ap (λ x. cells_hold l' (sram_row rows') blocks visible first actions x) en

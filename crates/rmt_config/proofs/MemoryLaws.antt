@@ -4,11 +4,11 @@ use Rattle.std.specs.Prelude.{◌↔◌, IsTrue, All, find, option_map, unwrap_o
 use Rattle.std.proofs.lemmas.Bool.{and_parts, and_from, eqb-true, eq-eqb, not-true, not_from_false}
 use Rattle.std.proofs.lemmas.Nat.{pow_pos}
 use Rattle.std.proofs.lemmas.List.Elements.{All-head, All-tail}
-use Rattle.rmt_config.specs.declared.form.layout.Layout.{Layout}
+use Rattle.rmt_config.specs.declared.form.layout.CellLayout.{CellLayout}
 use Rattle.rmt_config.specs.Types.{Stage, SramRow, TcamRow, SlotUnit}
 use Rattle.rmt_config.specs.declared.config.Memory.TheVariants.{Exact, Ternary}
 use Rattle.rmt_config.specs.LaneForm.{bits_of_lanes}
-use Rattle.rmt_config.specs.Shapes.{divided_up, record_width, record_units}
+use Rattle.rmt_config.specs.BlockCounts.{divided_up, record_width, record_units}
 use Rattle.rmt_config.specs.StageForm.{is_listed, srow_number, trow_number}
 use Rattle.rmt_config.specs.Cells.{Blocks, sram_row, tcam_row, unit_row, blocks_at, content_of, cells_in, cell_of, entry_at, data_at, row_record, row_key}
 use Rattle.rmt_config.specs.CellForm.{is_clear, cells_of, EndsAt, RecordsEnd, MemoryEnds, exact, ternary}
@@ -20,7 +20,7 @@ use Rattle.rmt_config.proofs.ToldBits.{Agrees, Kept, units_from_blocks, blocks_f
 use Rattle.rmt_config.proofs.CellLayouts.{exact_keys-is, exact_records-is, ternary_keys-is, ternary_records-is, exact-entry, exact-data, ternary-record, ternary-key}
 
 -- rows by places of blocks, and by cells
-pub kept-iff : {X : Type 0} (l : Layout) (held : Blocks) (block row bits : X → ℕ) (rows : List X) (cells blocks : List ℕ) → IsLayout l
+pub kept-iff : {X : Type 0} (l : CellLayout) (held : Blocks) (block row bits : X → ℕ) (rows : List X) (cells blocks : List ℕ) → IsLayout l
     → Agrees l held block row bits rows → length blocks ≤ l.quanta * l.units * l.side
     → BlocksTold l block row bits cells rows blocks ↔ Kept l held cells blocks
 kept-iff l held block row bits rows cells blocks is agrees short = (

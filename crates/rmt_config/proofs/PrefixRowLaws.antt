@@ -20,7 +20,7 @@ use Rattle.rmt_config.specs.PartStands.{PartStands}
 use Rattle.rmt_config.specs.PrefixRow.{PrefixRows}
 use Rattle.rmt_config.specs.Rooms.{PartAt}
 use Rattle.rmt_config.specs.RunCells.{own_content}
-use Rattle.rmt_config.specs.Shapes.{divided_up}
+use Rattle.rmt_config.specs.BlockCounts.{divided_up}
 use Rattle.rmt_config.proofs.RiseLaws.{one_off}
 use Rattle.rmt_config.proofs.SpelledParts.{held-is}
 use Rattle.rmt_config.proofs.TcamRowLaws.{trow-found as row-found, trow-none as row-none}

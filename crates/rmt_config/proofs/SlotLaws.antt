@@ -14,7 +14,7 @@ use Rattle.rmt_config.specs.declared.config.Memory.TheVariants.{Without, Exact, 
 use Rattle.rmt_config.specs.LaneForm.{bits_of_lanes, lane_is_formed}
 use Rattle.rmt_config.specs.Order.{rises_from}
 use Rattle.rmt_config.specs.Cells.{sram_row, content_of}
-use Rattle.rmt_config.specs.Shapes.{divided_up, record_width, record_units}
+use Rattle.rmt_config.specs.BlockCounts.{divided_up, record_width, record_units}
 use Rattle.rmt_config.specs.StageForm.{is_listed, sram_blocks, tcam_blocks, srow_fits, trow_fits, srow_is_formed, trow_is_formed, stage_is_formed, rows_are_formed}
 use Rattle.rmt_config.specs.UnitForm.{slot_is_formed, slot_head_is_formed, memory_is_formed, may_have_memory, unit_is_formed}
 use Rattle.rmt_config.specs.CellForm.{SlotHolds, numbers_are_formed, head_is_formed, none, coded_from}

@@ -7,10 +7,10 @@ use Rattle.std.proofs.lemmas.Nat.{div-add-mod', mod_below, pow_pos, pow-add, shr
 use Rattle.std.proofs.Math.Nat.{mod-eq_of_lt, mul-le-mul_left, div-one, pow-le-pow_right}
 use Rattle.rmt_bits.specs.Bits.{slice, bytes_of, number_of}
 use Rattle.rmt_bits.proofs.ByteLaws.{number_of-bytes_of}
-use Rattle.rmt_config.specs.declared.form.layout.Layout.{Layout}
+use Rattle.rmt_config.specs.declared.form.layout.CellLayout.{CellLayout}
 use Rattle.rmt_config.specs.Layouts.{IsLayout, position_of}
 use Rattle.rmt_bits.proofs.BitLaws.{mod-low, slice-lt}
-use Rattle.rmt_config.specs.Shapes.{divided_up}
+use Rattle.rmt_config.specs.BlockCounts.{divided_up}
 use Rattle.rmt_config.specs.Types.{SramRow}
 use Rattle.rmt_config.specs.Cells.{sram_row, unit_row}
 use Rattle.rmt_config.proofs.CellPlaces.{mod-div_rows}
@@ -122,7 +122,7 @@ bytes-piece old so_far new x done left more count piece is split e now =
     ∙ ap (λ (bs : List ℕ). old ++ bs) (sym (bytes_of-add done count y))
 
 -- an entry lies in the row of its unit
-pub entry_there : (l : Layout) (i : ℕ) → IsLayout l → position_of l i * l.entry + l.entry ≤ l.bits * l.side
+pub entry_there : (l : CellLayout) (i : ℕ) → IsLayout l → position_of l i * l.entry + l.entry ≤ l.bits * l.side
 entry_there l i is =
     let lt : i % l.per < l.per = mod_below i l.per is.some_per in
     let fit : (i % l.per + 1) * l.entry ≤ l.per * l.entry = mul-le (i % l.per + 1) l.entry l.per l.entry (omega (arith, lt)) (omega arith) in

@@ -15,7 +15,7 @@ use Rattle.rmt_ast.specs.Changes.{are_same}
 use Rattle.rmt_config.specs.Types.{CellNumber, Config, Memory, SramRow, Stage}
 use Rattle.rmt_config.specs.declared.config.Memory.TheVariants.{Without, Exact, Ternary}
 use Rattle.rmt_config.specs.LaneForm.{bits_of_lanes}
-use Rattle.rmt_config.specs.Shapes.{divided_up}
+use Rattle.rmt_config.specs.BlockCounts.{divided_up}
 use Rattle.rmt_config.specs.Cells.{candidates, cell_of, cells_in, content_of, entry_at, sram_row}
 use Rattle.rmt_config.specs.UnitForm.{slot_head_is_formed, memory_is_formed}
 use Rattle.rmt_config.specs.Form.{items_are_formed}

@@ -7,7 +7,7 @@ use Rattle.std.proofs.lemmas.Nat.Bits.{bit_at-zero, bit_at_above}
 use Rattle.std.proofs.lemmas.Bool.{cases_lt, and_parts, and_from, ltb-true, lt-ltb, both_ways, true_from_ne_false}
 use Rattle.std.proofs.lemmas.List.{length-take, length-drop, get_or-take, get_or-drop}
 use Rattle.rmt_bits.specs.Bits.{slice}
-use Rattle.rmt_config.specs.declared.form.layout.Layout.{Layout}
+use Rattle.rmt_config.specs.declared.form.layout.CellLayout.{CellLayout}
 use Rattle.rmt_config.specs.Cells.{Blocks, unit_row, blocks_at}
 use Rattle.rmt_config.specs.CellForm.{EndsAt}
 use Rattle.rmt_config.specs.StageForm.{is_listed}
@@ -18,14 +18,14 @@ use Rattle.rmt_config.proofs.CellPlaces.{index_row, index_position, unit_back, i
 -- ---- rows that stand for what blocks hold
 
 -- what blocks hold is what their rows say, and 0 where there is none
-pub record Agrees {X : Type 0} (l : Layout) (held : Blocks) (block : X → ℕ) (row : X → ℕ) (bits : X → ℕ) (rows : List X) : Type 0 where
+pub record Agrees {X : Type 0} (l : CellLayout) (held : Blocks) (block : X → ℕ) (row : X → ℕ) (bits : X → ℕ) (rows : List X) : Type 0 where
   pub within : Within l.bits held
   pub hit : All (λ x. held (block x) (row x) ≡ bits x) rows
   pub miss : (b r : ℕ) → All (λ x. block x ≡ b → row x ≡ r → ⊥) rows → held b r ≡ 0
   pub low : (b r : ℕ) → l.rows ≤ r → held b r ≡ 0
 
 -- the bits of units' rows that are set may be
-abbrev pub UnitsTold : Layout → Blocks → List ℕ → List ℕ → Type 0
+abbrev pub UnitsTold : CellLayout → Blocks → List ℕ → List ℕ → Type 0
 UnitsTold l held cells blocks =
     (unit row i : ℕ) → bit_at (unit_row l.bits held row (blocks_at blocks l.side unit)) i ≡ 1 → IsTrue (is_told l cells unit row (i / l.entry))
 
@@ -51,7 +51,7 @@ one_is_not_zero : (n : ℕ) → n ≡ 0 → n ≡ 1 → ⊥
 one_is_not_zero n a b = omega (arith, a, b)
 
 -- at equal places the same may be set
-told-same : (l : Layout) (cells : List ℕ) (unit row i unit' row' i' : ℕ) → unit' ≡ unit → row' ≡ row → i' ≡ i
+told-same : (l : CellLayout) (cells : List ℕ) (unit row i unit' row' i' : ℕ) → unit' ≡ unit → row' ≡ row → i' ≡ i
     → IsTrue (is_told l cells unit' row' (i' / l.entry)) → IsTrue (is_told l cells unit row (i / l.entry))
 told-same l cells unit row i unit' row' i' eu er ei h =
     ap (λ u. is_told l cells u row (i / l.entry)) (sym eu) ∙ ap (λ r. is_told l cells unit' r (i / l.entry)) (sym er)
@@ -59,7 +59,7 @@ told-same l cells unit row i unit' row' i' eu er ei h =
 
 -- ---- from the places of blocks to the rows of units
 
-pub units_from_blocks : {X : Type 0} (l : Layout) (held : Blocks) (block row bits : X → ℕ) (rows : List X) (cells blocks : List ℕ) → 0 < l.bits
+pub units_from_blocks : {X : Type 0} (l : CellLayout) (held : Blocks) (block row bits : X → ℕ) (rows : List X) (cells blocks : List ℕ) → 0 < l.bits
     → Agrees l held block row bits rows → BlocksTold l block row bits cells rows blocks → UnitsTold l held cells blocks
 units_from_blocks {X} l held block row bits rows cells blocks some agrees told unit r i one =
     elim (cases_lt o (length at)) as (λ _. Goal) [
@@ -122,7 +122,7 @@ units_from_blocks {X} l held block row bits rows cells blocks some agrees told u
         empty unset = ap (λ n. bit_at n t) (agrees.miss (get_or blocks j 0) r (none unset)) ∙ bit_at-zero t
 
 -- and back
-pub blocks_from_units : {X : Type 0} (l : Layout) (held : Blocks) (block row bits : X → ℕ) (rows : List X) (cells blocks : List ℕ) → (0 < length blocks → 0 < l.side)
+pub blocks_from_units : {X : Type 0} (l : CellLayout) (held : Blocks) (block row bits : X → ℕ) (rows : List X) (cells blocks : List ℕ) → (0 < length blocks → 0 < l.side)
     → Agrees l held block row bits rows → UnitsTold l held cells blocks → BlocksTold l block row bits cells rows blocks
 blocks_from_units {X} l held block row bits rows cells blocks some agrees told j lt k d ltk eb t small one =
     told (j / l.side) (row x) (j % l.side * l.bits + t) bit
@@ -157,12 +157,12 @@ blocks_from_units {X} l held block row bits rows cells blocks some agrees told j
 -- ---- from the rows of units to cells, and back
 
 -- no bit is set but in entries of listed cells
-pub record Kept (l : Layout) (held : Blocks) (cells blocks : List ℕ) : Type 0 where
+pub record Kept (l : CellLayout) (held : Blocks) (cells blocks : List ℕ) : Type 0 where
   pub ends : EndsAt l.bits held blocks l.side (l.per * l.entry)
   pub behind : (u i : ℕ) → u < l.quanta → l.ways * l.way ≤ i → i < l.units * (l.rows * l.per) → entry_in l held blocks u i ≡ 0
   pub others : (n : ℕ) → n < l.ways * l.quanta * l.way → is_listed n cells ≡ false → entry_in l held blocks (quantum_of l n) (local_of l n) ≡ 0
 
-told-parts : (l : Layout) (cells : List ℕ) (unit row position : ℕ) → IsTrue (is_told l cells unit row position)
+told-parts : (l : CellLayout) (cells : List ℕ) (unit row position : ℕ) → IsTrue (is_told l cells unit row position)
     → (position < l.per) × (index_in l unit row position < l.ways * l.way) × IsTrue (is_listed (number_in l (unit / l.units) (index_in l unit row position)) cells)
 told-parts l cells unit row position h =
     let a = ltb position l.per in
@@ -172,7 +172,7 @@ told-parts l cells unit row position h =
     let one = and_parts a b two.0 in
     (ltb-true position l.per one.0, ltb-true (index_in l unit row position) (l.ways * l.way) one.1, two.1)
 
-told-from : (l : Layout) (cells : List ℕ) (unit row position : ℕ) → position < l.per → index_in l unit row position < l.ways * l.way
+told-from : (l : CellLayout) (cells : List ℕ) (unit row position : ℕ) → position < l.per → index_in l unit row position < l.ways * l.way
     → IsTrue (is_listed (number_in l (unit / l.units) (index_in l unit row position)) cells) → IsTrue (is_told l cells unit row position)
 told-from l cells unit row position lp li h =
     let a = ltb position l.per in
@@ -180,12 +180,12 @@ told-from l cells unit row position lp li h =
     let c = is_listed (number_in l (unit / l.units) (index_in l unit row position)) cells in
     and_from (a && b) c (and_from a b (lt-ltb position l.per lp) (lt-ltb (index_in l unit row position) (l.ways * l.way) li)) h
 
-some_place : (l : Layout) → IsLayout l → 0 < l.rows * l.per
+some_place : (l : CellLayout) → IsLayout l → 0 < l.rows * l.per
 some_place l is =
     let lt = mul-lt 0 0 l.rows l.per is.some_rows is.some_per in omega (arith, lt)
 
 -- an entry is 0 where none of its bits may be set
-entry-zero : (l : Layout) (held : Blocks) (cells blocks : List ℕ) → UnitsTold l held cells blocks → (quantum i : ℕ)
+entry-zero : (l : CellLayout) (held : Blocks) (cells blocks : List ℕ) → UnitsTold l held cells blocks → (quantum i : ℕ)
     → (IsTrue (is_told l cells (unit_of l quantum i) (row_of l i) (position_of l i)) → ⊥) → entry_in l held blocks quantum i ≡ 0
 entry-zero l held cells blocks told quantum i unset =
     let x = unit_row l.bits held (row_of l i) (blocks_at blocks l.side (unit_of l quantum i)) in
@@ -195,7 +195,7 @@ entry-zero l held cells blocks told quantum i unset =
     unset (subst (λ p. IsTrue (is_told l cells (unit_of l quantum i) (row_of l i) p)) (div-mul-add s l.entry t lt)
     (told (unit_of l quantum i) (row_of l i) (s * l.entry + t) one))))
 
-pub kept_from_units : (l : Layout) (held : Blocks) (cells blocks : List ℕ) → IsLayout l → UnitsTold l held cells blocks → Kept l held cells blocks
+pub kept_from_units : (l : CellLayout) (held : Blocks) (cells blocks : List ℕ) → IsLayout l → UnitsTold l held cells blocks → Kept l held cells blocks
 kept_from_units l held cells blocks is told = record {
   ends = λ unit row. below-from_bits (unit_row l.bits held row (blocks_at blocks l.side unit)) (l.per * l.entry)
       (λ i past. bit-zero (unit_row l.bits held row (blocks_at blocks l.side unit)) i (λ one.
@@ -232,7 +232,7 @@ blocks_at-none blocks side unit le =
     let f = length-drop (unit * side) blocks in
     omega (arith, e, f, le)
 
-pub units_from_kept : (l : Layout) (held : Blocks) (cells blocks : List ℕ) → IsLayout l → Within l.bits held → ((b r : ℕ) → l.rows ≤ r → held b r ≡ 0)
+pub units_from_kept : (l : CellLayout) (held : Blocks) (cells blocks : List ℕ) → IsLayout l → Within l.bits held → ((b r : ℕ) → l.rows ≤ r → held b r ≡ 0)
     → length blocks ≤ l.quanta * l.units * l.side → Kept l held cells blocks → UnitsTold l held cells blocks
 units_from_kept l held cells blocks is within low short kept unit row i one =
     told-from l cells unit row s s_lt index_lt

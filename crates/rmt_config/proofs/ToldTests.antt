@@ -5,7 +5,7 @@ use Rattle.std.specs.List.{list_all}
 use Rattle.std.specs.Int.{bit_at}
 use Rattle.std.proofs.lemmas.Bool.{and_parts, or_cases, cases_eq, both_ways, not-true, eq-eqb, eqb-true}
 use Rattle.std.proofs.lemmas.List.Sums.{AllPass-from_list_all}
-use Rattle.rmt_config.specs.declared.form.layout.Layout.{Layout}
+use Rattle.rmt_config.specs.declared.form.layout.CellLayout.{CellLayout}
 use Rattle.rmt_config.specs.Layouts.{is_told, BlocksTold}
 
 -- what passes at each number below one
@@ -22,18 +22,18 @@ below-at p (suc n) k h lt =
       | inr other ↦ below-at p n k parts.1 (omega (arith, lt, other))
     ]
 
-abbrev pub row_test : Layout → List ℕ → ℕ → ℕ → ℕ → ℕ → Bool
+abbrev pub row_test : CellLayout → List ℕ → ℕ → ℕ → ℕ → ℕ → Bool
 row_test l cells unit place row bits =
     all_below (λ t. eqb (bit_at bits t) 0 || is_told l cells unit row ((place * l.bits + t) / l.entry)) l.bits
 
-abbrev pub blocks_test : {X : Type 0} → Layout → (X → ℕ) → (X → ℕ) → (X → ℕ) → List ℕ → List X → List ℕ → Bool
+abbrev pub blocks_test : {X : Type 0} → CellLayout → (X → ℕ) → (X → ℕ) → (X → ℕ) → List ℕ → List X → List ℕ → Bool
 blocks_test l block row bits cells rows blocks =
     all_below (λ j. list_all (λ x. not (eqb (block x) (get_or blocks j 0)) || row_test l cells (j / l.side) (j % l.side) (row x) (bits x)) rows) (length blocks)
 
 not_zero : (n : ℕ) → n ≡ 0 → n ≡ 1 → ⊥
 not_zero n a b = omega (arith, a, b)
 
-pub told-from_test : {X : Type 0} (l : Layout) (block row bits : X → ℕ) (cells : List ℕ) (rows : List X) (blocks : List ℕ)
+pub told-from_test : {X : Type 0} (l : CellLayout) (block row bits : X → ℕ) (cells : List ℕ) (rows : List X) (blocks : List ℕ)
     → blocks_test l block row bits cells rows blocks ≡ true → BlocksTold l block row bits cells rows blocks
 told-from_test {X} l block row bits cells rows blocks h j lt k d ltk e t small one =
     elim (or_cases (not (eqb (block x) (get_or blocks j 0))) (row_test l cells (j / l.side) (j % l.side) (row x) (bits x)) here) as (λ _. Told) [

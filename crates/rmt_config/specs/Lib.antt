@@ -1,13 +1,14 @@
 pub mod Types
 pub mod Parser
 pub mod Cells
+pub mod Instructions
 pub mod Life
 pub mod ChipRun
 pub mod Spelling
 pub mod Order
 pub mod LaneForm
 pub mod ParserForm
-pub mod Shapes
+pub mod BlockCounts
 pub mod UnitForm
 pub mod CodeForm
 pub mod StageForm
@@ -23,6 +24,7 @@ pub mod Limits
 pub mod LimitSteps
 pub mod Spells
 pub mod Layouts
+pub mod WayRows
 pub mod MemoryRules
 pub mod Agreement
 pub mod RunCells

@@ -9,6 +9,7 @@ use Rattle.rmt_config.specs.declared.config.OpKind.TheVariants as kind
 use Rattle.rmt_config.specs.declared.config.Source.TheVariants.{Word, Held, Constant}
 use Rattle.rmt_config.specs.declared.config.Memory.TheVariants.{Without, Exact, Ternary}
 use Rattle.rmt_config.specs.Cells.{Found}
+use Rattle.rmt_config.specs.Instructions.{first_code}
 
 -- the words of a vector by number, and those by age and number
 abbrev pub Words : Type 0
@@ -80,13 +81,12 @@ guarded (Some g) outcomes = g.mask / 2 ^ slice_index outcomes g.parent % 2 == 1
 abbrev pub runs : ℕ → Option UnitGuard → List ℕ → Bool
 runs node guard outcomes = guarded guard outcomes && (slice_index outcomes node == 0)
 
--- what the units so far of one stage have done: outcomes, then instructions and counts, the last one first;
--- and where the next unit stands: the number of its first instruction, and its place
+-- what the units so far of one stage have done: outcomes, then instructions and counts, the last one first; and the
+-- place of the next unit
 pub record Acts : Type 0 where
   pub outcomes : List ℕ
   pub running : List Running
   pub counted : List Counted
-  pub base : ℕ
   pub place : ℕ
 
 -- every test of a gate passes
@@ -97,18 +97,18 @@ gate_passes words tests = list_all (λ (t : GateTest). bit_and (lane_of words t.
 abbrev pub code_at : Stage → ℕ → List Operation
 code_at stage i = unwrap_or (option_map (λ (v : Vliw). v.ops) (slice_get stage.code i)) []
 
--- what a slot that runs does with what it found
-abbrev pub slot_acts : Stage → SlotUnit → Option Found → Acts → Acts
-slot_acts stage slot (Some f) a = record a {
-  outcomes = slice_set a.outcomes slot.node (2 + (f.code - a.base));
+-- what a slot that runs does with what it found; its first instruction has this number
+abbrev pub slot_acts : Stage → ℕ → SlotUnit → Option Found → Acts → Acts
+slot_acts stage first slot (Some f) a = record a {
+  outcomes = slice_set a.outcomes slot.node (2 + (f.code - first));
   running = record { ops = code_at stage f.code; held = f.held } ∷ a.running;
   counted = if slot.counted then record { number = f.number; age = stage.start + 8 } ∷ a.counted else a.counted;
 }
-slot_acts stage slot None a =
+slot_acts stage first slot None a =
     if slot.last
     then record a {
       outcomes = slice_set a.outcomes slot.node 1;
-      running = record { ops = code_at stage (a.base + slot.actions); held = 0 } ∷ a.running;
+      running = record { ops = code_at stage (first + slot.actions); held = 0 } ∷ a.running;
     }
     else a
 
@@ -130,13 +130,13 @@ unit_acts look k stage words a (Gate g) =
     else a) { place = a.place + 1 }
 unit_acts look k stage words a (Slot slot) =
     record (if runs slot.node slot.guard a.outcomes
-    then slot_acts stage slot (looked_up look k a.place words slot) a
-    else a) { place = a.place + 1; base = a.base + slot.actions + 1 }
+    then slot_acts stage (first_code stage a.place) slot (looked_up look k a.place words slot) a
+    else a) { place = a.place + 1 }
 
 -- all units of a stage in order, from the outcomes that earlier stages left
 abbrev pub acts_of : Look → ℕ → Stage → Words → List ℕ → Acts
 acts_of look k stage words outcomes =
-    fold (unit_acts look k stage words) (record { outcomes = outcomes; running = []; counted = []; base = 0; place = 0 }) stage.units
+    fold (unit_acts look k stage words) (record { outcomes = outcomes; running = []; counted = []; place = 0 }) stage.units
 
 -- the first of two that is there
 abbrev pub or_else : {A : Type 0} → Option A → Option A → Option A

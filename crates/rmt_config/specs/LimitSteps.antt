@@ -1,13 +1,14 @@
 -- What the code works with that looks at the limits: what a unit takes by name, tables over all bytes, and limits of a stage by name.
 use Rattle.std.specs.Prelude.{◌≡◌, ℕ, ◌+◌, ◌<◌, List, [], ◌∷◌, length, Bool, false, cond, slice_index, slice_index_or, nat_lt, IsTrue, Option}
 use Rattle.std.specs.List.{list_all, sum_by}
+use Rattle.rmt_config.specs.Instructions.{unit_instructions}
 use Rattle.rmt_config.specs.declared.limits.LimitHit.{LimitHit}
 use Rattle.rmt_config.specs.declared.limits.total.Resource.{Resource}
 use Rattle.rmt_config.specs.declared.limits.total.Resource.TheVariants as resource
 use Rattle.rmt_config.specs.declared.limits.stage.StageLimit.{StageLimit}
 use Rattle.rmt_config.specs.declared.limits.stage.StageLimit.TheVariants as limit
 use Rattle.rmt_config.specs.Types.{Stage, Unit}
-use Rattle.rmt_config.specs.Resources.{is_slot, is_gate, unit_instructions, unit_data, unit_sram, unit_tcam, is_in, distinct, times_in}
+use Rattle.rmt_config.specs.Resources.{is_slot, is_gate, unit_data, unit_sram, unit_tcam, is_in, distinct, times_in}
 use Rattle.rmt_config.specs.Limits.{told, sram_hit, tcam_hit, exact_words_hit, ternary_words_hit, slots_hit, code_hit, data_hit, gates_hit, width_hit, listed_hit}
 
 -- how much a unit takes

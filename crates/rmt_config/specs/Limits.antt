@@ -1,9 +1,10 @@
 -- The limits of the chip, by number, and the first that a configuration passes. That each word is one of the chip's, which is limit 2, is a rule of form.
 use Rattle.std.specs.Prelude.{◌≡◌, ℕ, ◌+◌, ◌-◌, List, [], ◌∷◌, length, take, ◌==◌, nat_lt, min, if◌then◌else◌, slice_get, Option, Some, None}
 use Rattle.std.specs.List.{flat_map, count_by, sum_by, range_with_len, position_or_len}
+use Rattle.rmt_config.specs.Instructions.{unit_instructions}
 use Rattle.rmt_config.specs.declared.limits.LimitHit.{LimitHit}
 use Rattle.rmt_config.specs.Types.{Config, ParserConfig, ParserState, ParserEntry, Stage}
-use Rattle.rmt_config.specs.Resources.{is_slot, is_gate, unit_instructions, unit_data, unit_sram, unit_tcam, unit_width, greatest_by, most_listed_in, exact_words, ternary_words, crossbar_bits, node_count}
+use Rattle.rmt_config.specs.Resources.{is_slot, is_gate, unit_data, unit_sram, unit_tcam, unit_width, greatest_by, most_listed_in, exact_words, ternary_words, crossbar_bits, node_count}
 
 -- ---- the limits
 

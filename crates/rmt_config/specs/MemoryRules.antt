@@ -8,7 +8,7 @@ use Rattle.rmt_config.specs.TableForm.{tables_are_formed}
 use Rattle.rmt_config.specs.Types.{Config, Stage, SramRow, TcamRow, SlotUnit}
 use Rattle.rmt_config.specs.LaneForm.{bits_of_lanes}
 use Rattle.rmt_config.specs.Order.{rises_from}
-use Rattle.rmt_config.specs.Shapes.{divided_up, record_width, record_units}
+use Rattle.rmt_config.specs.BlockCounts.{divided_up, record_width, record_units}
 use Rattle.rmt_config.specs.StageForm.{srow_number, trow_number}
 
 -- rows, tables and memory keep the rules of the whole

@@ -39,11 +39,6 @@ abbrev pub is_gate : Unit → Bool
 is_gate (Gate g) = true
 is_gate (Slot s) = false
 
--- the instructions of a unit: a slot has one for each action, and its default's
-abbrev pub unit_instructions : Unit → ℕ
-unit_instructions (Gate g) = 0
-unit_instructions (Slot s) = s.actions + 1
-
 -- the data bits of a unit: those that a slot's entries carry
 abbrev pub unit_data : Unit → ℕ
 unit_data (Gate g) = 0

@@ -5,8 +5,8 @@ use Rattle.rmt_config.specs.Types.{Unit, GateUnit, GateTest, UnitGuard, SlotUnit
 use Rattle.rmt_config.specs.declared.config.Unit.TheVariants.{Gate, Slot}
 use Rattle.rmt_config.specs.declared.config.Memory.TheVariants.{Without, Exact, Ternary}
 use Rattle.rmt_config.specs.LaneForm.{lane_is_formed, bits_of_lanes}
-use Rattle.rmt_config.specs.Shapes.{exact_shape, ternary_shape}
-use Rattle.rmt_config.specs.declared.form.shape.Shape.{Shape}
+use Rattle.rmt_config.specs.BlockCounts.{exact_block_counts, ternary_block_counts}
+use Rattle.rmt_config.specs.declared.form.block_counts.BlockCounts.{BlockCounts}
 
 -- outcome 0, that a node has not run, lets nothing run
 abbrev pub guard_is_formed : Option UnitGuard → Bool
@@ -40,9 +40,9 @@ abbrev pub are_tcam_blocks : List ℕ → Bool
 are_tcam_blocks blocks = list_all (λ block. nat_lt block 16) blocks
 
 -- lists of blocks of these lengths
-abbrev pub has_shape : Shape → List ℕ → List ℕ → List ℕ → Bool
-has_shape shape keys records counters =
-    (length keys == shape.keys) && (length records == shape.records) && (length counters == shape.counters)
+abbrev pub has_block_counts : BlockCounts → List ℕ → List ℕ → List ℕ → Bool
+has_block_counts counts keys records counters =
+    (length keys == counts.keys) && (length records == counts.records) && (length counters == counts.counters)
 
 -- what a slot with memory has: a key of at most 640 bits, and an action
 abbrev pub takes_memory : SlotUnit → Bool
@@ -64,11 +64,11 @@ memory_is_formed s Without =
     not s.counted && (s.actions == 0) && s.last && (s.held == 0) && (length s.keys == 0) && (length s.numbers == 0)
 memory_is_formed s (Exact width per quanta first_way keys records counters) =
     format_is_formed s width per quanta first_way
-    && has_shape (exact_shape width per quanta s.held s.counted) keys records counters
+    && has_block_counts (exact_block_counts width per quanta s.held s.counted) keys records counters
     && are_sram_blocks keys && are_sram_blocks records && are_sram_blocks counters
 memory_is_formed s (Ternary quanta keys records counters) =
     may_have_memory s quanta
-    && has_shape (ternary_shape (bits_of_lanes s.keys) quanta s.held s.counted) keys records counters
+    && has_block_counts (ternary_block_counts (bits_of_lanes s.keys) quanta s.held s.counted) keys records counters
     && are_tcam_blocks keys && are_sram_blocks records && are_sram_blocks counters
 
 abbrev pub slot_is_formed : SlotUnit → Bool

@@ -8,6 +8,7 @@ ghost use Rattle.rmt_config.specs.Form.{items_are_formed, visible_with, WholeIsF
 ghost use Rattle.rmt_config.specs.MemoryRules.{MemoryIsFormed};
 ghost use Rattle.rmt_config.specs.TailForm.{has_names_with_tails};
 
+pub mod block_counts;
 mod cells;
 pub mod code;
 mod header;
@@ -23,7 +24,6 @@ pub mod parts;
 mod row_rules;
 pub mod search;
 mod set_bits;
-pub mod shape;
 pub mod sram;
 mod stage;
 mod tables;

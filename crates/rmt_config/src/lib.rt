@@ -6,5 +6,7 @@ pub mod config;
 pub mod form;
 pub mod latency;
 pub mod limits;
+pub mod part_ways;
 pub mod tails;
 pub mod vector;
+pub mod way_rows;

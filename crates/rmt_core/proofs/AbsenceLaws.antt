@@ -38,7 +38,7 @@ use Rattle.rmt_core.specs.PlainText.{plain_text}
 use Rattle.rmt_core.specs.Runs.{RunsBy, Way, run_status}
 use Rattle.rmt_core.specs.Sampling.{sample_line}
 use Rattle.rmt_core.specs.Simulating.{GivesRun, OfAnswer, Spelled}
-use Rattle.rmt_core.specs.Switching.{HasCapture, HasGroups, OfCapture, OfGroups, Switches}
+use Rattle.rmt_core.specs.Switching.{OfCapture, OfGroups, Switches}
 use Rattle.rmt_core.specs.Texts.{OfEntries, OfMeaning, Understands}
 use Rattle.rmt_core.specs.Verifying.{Checks, HasMap}
 

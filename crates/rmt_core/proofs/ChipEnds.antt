@@ -12,9 +12,9 @@ use Rattle.rmt_chip.specs.declared.chip.Chip.{Chip}
 use Rattle.rmt_chip.specs.Stands.{Stands}
 use Rattle.rmt_chip.proofs.StandsLaws.{no_limit}
 use Rattle.rmt_packets.specs.PacketText.{BadLine}
-use Rattle.rmt_core.specs.declared.run_end.Bad.{Bad}
-use Rattle.rmt_core.specs.declared.run_end.RunFault.{RunFault}
-use Rattle.rmt_core.specs.declared.run_end.RunFault.TheVariants as fault
+use Rattle.rmt_runs.specs.declared.fault.Bad.{Bad}
+use Rattle.rmt_runs.specs.declared.fault.RunFault.{RunFault}
+use Rattle.rmt_runs.specs.declared.fault.RunFault.TheVariants as fault
 use Rattle.rmt_core.specs.declared.running.commits.Commits.{Commits}
 use Rattle.rmt_core.specs.declared.running.state.Run.{Run}
 use Rattle.rmt_core.specs.declared.status.Status.{Status}
@@ -28,7 +28,7 @@ use Rattle.rmt_core.specs.CommitsOf.{AreCommitsOf}
 use Rattle.rmt_core.specs.Ends.{Answered, AreSame, Outside, PrintsAll}
 use Rattle.rmt_core.specs.EventText.{EventReading}
 use Rattle.rmt_core.specs.Given.{Given, told}
-use Rattle.rmt_core.specs.Printing.{GainedFront}
+use Rattle.rmt_runs.specs.Printing.{GainedFront}
 use Rattle.rmt_core.specs.RunEnd.{ReadsAllBy, bad_line, status_of_end, status_of_fault}
 use Rattle.rmt_core.specs.Running.{AreCommitsAt, BreaksRun, Follows, Goes, IsFew}
 use Rattle.rmt_core.specs.Runs.{run_status}
@@ -36,7 +36,7 @@ use Rattle.rmt_core.proofs.ChipExtends.{ran_so}
 use Rattle.rmt_core.proofs.ComesLaws.{comes_to_end}
 use Rattle.rmt_core.proofs.DrainLaws.{ran_whole}
 use Rattle.rmt_core.proofs.EndLaws.{IsEnding, run_answered}
-use Rattle.rmt_core.proofs.ReaderLaws.{read_short}
+use Rattle.rmt_runs.proofs.ReaderLaws.{within_short}
 use Rattle.rmt_core.proofs.RunsLaws.{is_ending, not_written, status_all}
 
 -- ---- before the first line
@@ -81,7 +81,7 @@ module _ (c : Config) (limit : ℕ) (text : List ℕ) (full : Option ℕ) (said 
   read_whole good = by full reads ends
     where
       by : (f : Option ℕ) → ReadsAllBy (by_chip c f) limit text said → EndsFull c r said f → read_by c None (numbered_lines 1 text) ≡ said
-      by None reads ends = sym (read_short (by_chip c None) limit text (reads.ends good)) ∙ reads.says
+      by None reads ends = sym (ap (read_by c None) (within_short limit text (reads.ends good))) ∙ reads.says
       by (Some before) reads ends = absurd (none-some _ (sym good ∙ ends.1))
 
   pub ran_all : (w : Watch) (chip : Chip) (before now : SinkState) → said.bad ≡ None → Stands c (made ++ replicate (empty_cycles r) Idle) chip → Gained before now (run_text w c made (empty_cycles r) None)

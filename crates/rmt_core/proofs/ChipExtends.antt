@@ -1,8 +1,8 @@
 -- Where a run over a text has come so far, there is a run over the whole text that begins with its inputs, and so prints at first what it printed.
-use Rattle.std.proofs.Common.{◌≡◌, ⊎_elim, ℕ, ◌+◌, ◌-◌, ◌<◌, ◌≤◌, Bool, true, false, cond, ltb, List, [], ◌∷◌, ◌++◌, length, take, drop, Option, Some, None, refl, sym, ap, ◌∙◌, subst, arith, append_assoc, append-nil}
-use Rattle.std.specs.Prelude.{is_some, replicate}
-use Rattle.std.proofs.lemmas.Bool.{cases_lt, lt-ltb, le-ltb}
-use Rattle.std.proofs.lemmas.List.{replicate-append-replicate, take-append-drop}
+use Rattle.std.proofs.Common.{◌≡◌, ℕ, ◌+◌, ◌-◌, ◌≤◌, Bool, true, ltb, List, [], ◌∷◌, ◌++◌, length, Option, Some, None, refl, sym, ap, ◌∙◌, subst, arith, append_assoc, append-nil}
+use Rattle.std.specs.Prelude.{fold, is_some, replicate}
+use Rattle.std.proofs.lemmas.Bool.{lt-ltb}
+use Rattle.std.proofs.lemmas.List.{replicate-append-replicate}
 use Rattle.std.proofs.lemmas.Option.{none-some}
 use Rattle.rmt_bits.specs.Lines.{numbered_lines}
 use Rattle.rmt_core.specs.Types.{Config}
@@ -19,71 +19,35 @@ use Rattle.rmt_packets.specs.declared.line_kind.LineKind.{LineKind}
 use Rattle.rmt_packets.specs.declared.line_kind.LineKind.TheVariants as line
 use Rattle.rmt_packets.specs.LineKinds.{kind_of}
 use Rattle.rmt_packets.specs.PacketText.{BadLine}
-use Rattle.rmt_packets.specs.Pieces.{ended_lines, feeds, open_line}
-use Rattle.rmt_packets.proofs.Cuts.{lines_go_on}
+use Rattle.rmt_runs.specs.TextLines.{ReadPast, ReadWhole, WereRead, lines_within}
+use Rattle.rmt_runs.proofs.LineLaws.{whole_more}
 use Rattle.rmt_core.specs.declared.status.Status.TheVariants.{TooLong}
 use Rattle.rmt_core.specs.declared.watch.Watch.{Watch}
 use Rattle.rmt_core.specs.declared.watch.Watch.TheVariants.{Answers, Vectors}
 use Rattle.rmt_core.specs.ChipEvents.{Comes, begins, commit_cycles, empty_cycles, turned}
-use Rattle.rmt_core.specs.ChipReading.{by_chip, commits_in, lists_in, names_in, read_by, with_chip_line}
+use Rattle.rmt_core.specs.ChipReading.{by_chip, lists_in, names_in, read_by, with_chip_line}
 use Rattle.rmt_core.specs.ChipRuns.{EndsFull, RunsChip, RunsSo, bad_within, told_of}
 use Rattle.rmt_core.specs.ChipText.{all_cycles, end_of, lines_of, run_text}
 use Rattle.rmt_core.specs.EventText.{EventReading, with_bad, with_commit}
 use Rattle.rmt_core.specs.Files.{Files}
 use Rattle.rmt_core.specs.Given.{Given, told}
-use Rattle.rmt_core.specs.Pieces.{PassesLimit}
-use Rattle.rmt_core.specs.ReadsOn.{AtLine, ReaderState, ReadsLines}
 use Rattle.rmt_core.specs.RunEnd.{ReadsAllBy}
-use Rattle.rmt_core.specs.Runs.{Way, run_status, said_within, told_within}
+use Rattle.rmt_core.specs.Runs.{run_status, told_within}
 use Rattle.rmt_core.proofs.ChipExtendsLines.{Extension, HasCome, IsBehind, behind_less, behind_same, extend}
-use Rattle.rmt_core.proofs.ChipReadLaws.{chip_end, chip_front, full_line}
+use Rattle.rmt_core.proofs.ChipReadLaws.{chip_append, chip_line, chip_more, chip_stays, said_so}
 use Rattle.rmt_core.proofs.ChipTextLaws.{lines_begin, start_within}
-use Rattle.rmt_core.proofs.ReaderLaws.{line_given, read_all, read_at_line, read_passed, within_more}
 use Rattle.rmt_core.proofs.RunLaws.{Begins, begins_then}
 use Rattle.rmt_core.proofs.RunsLaws.{told_all}
 
--- ---- the lines within the limit, and all of them
-
-abbrev lines_alone : Way (List (ℕ × List ℕ))
-lines_alone = record { read = λ (ls : List (ℕ × List ℕ)). ls; bad = λ (ls : List (ℕ × List ℕ)). None }
-
-abbrev pub lines_within : ℕ → List ℕ → List (ℕ × List ℕ)
-lines_within limit text = said_within lines_alone limit text
-
--- those within the limit are a front of all
-whole_more : (limit : ℕ) (text : List ℕ) → (rest : List (ℕ × List ℕ)) × (numbered_lines 1 text ≡ lines_within limit text ++ rest)
-whole_more limit text = ⊎_elim long short (cases_lt limit (length text))
-  where
-    long : limit < length text → (rest : List (ℕ × List ℕ)) × (numbered_lines 1 text ≡ lines_within limit text ++ rest)
-    long lt =
-        let front = take limit text in
-        let behind = numbered_lines (feeds front + 1) (open_line front ++ drop limit text) in
-        let cut : text ≡ front ++ drop limit text = sym (take-append-drop limit text) in
-        let is : lines_within limit text ≡ ended_lines front = ap (λ (b : Bool). cond b (ended_lines front) (numbered_lines 1 text)) (lt-ltb limit (length text) lt) in
-        (behind, ap (numbered_lines 1) cut ∙ lines_go_on front (drop limit text) ∙ ap (λ (ls : List (ℕ × List ℕ)). ls ++ behind) (sym is))
-
-    short : length text ≤ limit → (rest : List (ℕ × List ℕ)) × (numbered_lines 1 text ≡ lines_within limit text ++ rest)
-    short le =
-        let is : lines_within limit text ≡ numbered_lines 1 text = ap (λ (b : Bool). cond b (ended_lines (take limit text)) (numbered_lines 1 text)) (le-ltb limit (length text) le) in
-        ([], sym is ∙ sym (append-nil (lines_within limit text)))
+-- ---- what is told of a text
 
 module _ (c : Config) (full : Option ℕ) (limit : ℕ) (text : List ℕ) where
-  within_is : said_within (by_chip c full) limit text ≡ read_by c full (lines_within limit text)
-  within_is = by (ltb limit (length text))
-    where
-      by : (b : Bool) → cond b (read_by c full (ended_lines (take limit text))) (read_by c full (numbered_lines 1 text)) ≡ read_by c full (cond b (ended_lines (take limit text)) (numbered_lines 1 text))
-      by true = refl
-      by false = refl
-
-  bad_is : bad_within c full limit text ≡ (read_by c full (lines_within limit text)).bad
-  bad_is = ap (λ (x : EventReading). x.bad) within_is
-
   -- where a line within the limit is bad, the lines within it are told, and else all
   told_bad : (b : BadLine) → (read_by c full (lines_within limit text)).bad ≡ Some b → told_of c full limit text ≡ read_by c full (lines_within limit text)
-  told_bad b e = ap (λ (o : Option BadLine). told_within (by_chip c full) limit text o) (bad_is ∙ e) ∙ within_is
+  told_bad b e = ap (λ (o : Option BadLine). told_within (by_chip c full) limit text o) e
 
   told_good : (read_by c full (lines_within limit text)).bad ≡ None → told_of c full limit text ≡ read_by c full (numbered_lines 1 text)
-  told_good e = ap (λ (o : Option BadLine). told_within (by_chip c full) limit text o) (bad_is ∙ e)
+  told_good e = ap (λ (o : Option BadLine). told_within (by_chip c full) limit text o) e
 
 -- a run that ends with no bad line has no commit that finds no room
 not_full : (c : Config) (r : RunState) (said : EventReading) (full : Option ℕ) → EndsFull c r said full → said.bad ≡ None → full ≡ None
@@ -204,41 +168,33 @@ module _ (c : Config) (formed : Formed c) (small : IsWithinLimits c) (watch : Wa
 
   -- ---- by how far its reader has come
 
-  gave_more : (gave : List (ℕ × List ℕ)) (reader : ReaderState) (rest : List ℕ) → ReadsLines limit text gave reader rest → (more : List (ℕ × List ℕ)) × (lines_within limit text ≡ gave ++ more)
-  gave_more gave reader rest h =
-      let w = within_more lines_alone limit text reader rest h.taken h.took in (w.0, w.1 ∙ ap (λ (ls : List (ℕ × List ℕ)). ls ++ w.0) h.lines)
-
-  going : (gave : List (ℕ × List ℕ)) (reader : ReaderState) (rest : List ℕ) → ReadsLines limit text gave reader rest → (said : EventReading) → read_by c None gave ≡ said → said.bad ≡ None
-      → (made : List Input) (r : RunState) → HasCome c said.events made r → RunsBehind watch files c limit text made gave
-  going gave reader rest reads said same good made r comes =
-      let w = gave_more gave reader rest reads in
-      extended gave w.0 made r w.1 (ap (λ (x : EventReading). x.bad) same ∙ good) (subst (λ (x : EventReading). HasCome c x.events made r) (sym same) comes)
-
   -- at a line's end
-  pub goes_on : (gave : List (ℕ × List ℕ)) (reader : ReaderState) (rest : List ℕ) → ReadsLines limit text gave reader rest → (said : EventReading) → read_by c None gave ≡ said → said.bad ≡ None
-      → (made : List Input) (r : RunState) → Comes c (names_in c) (lists_in c) said.events made r → RunsOn watch files c limit text made
-  goes_on gave reader rest reads said same good made r comes = (going gave reader rest reads said same good made r comes).on
+  pub goes_on : (lines : List (ℕ × List ℕ)) → WereRead limit text lines → (read_by c None lines).bad ≡ None
+      → (made : List Input) (r : RunState) → Comes c (names_in c) (lists_in c) (read_by c None lines).events made r → RunsOn watch files c limit text made
+  goes_on lines w good made r comes =
+      let same = said_so c None w.gave lines w.fronts in
+      (extended w.gave w.more made r w.first (ap (λ (x : EventReading). x.bad) same ∙ good) (subst (λ (x : EventReading). HasCome c x.events made r) (sym same) comes)).on
 
   -- at the last one within the limit, where the text goes on
-  pub goes_on_long : (gave : List (ℕ × List ℕ)) (said : EventReading) → PassesLimit limit text gave → read_by c None gave ≡ said → said.bad ≡ None
-      → (made : List Input) (r : RunState) → Comes c (names_in c) (lists_in c) said.events made r → (x : RunsOn watch files c limit text made) × (x.given.status ≡ TooLong)
-  goes_on_long gave said far same good made r comes =
-      let all : lines_within limit text ≡ gave = read_passed lines_alone limit text gave far in
-      let fine : (read_by c None gave).bad ≡ None = ap (λ (x : EventReading). x.bad) same ∙ good in
-      let x = extended gave [] made r (all ∙ sym (append-nil gave)) fine (subst (λ (y : EventReading). HasCome c y.events made r) (sym same) comes) in
-      let read : bad_within c x.on.full limit text ≡ None =
-      bad_is c x.on.full limit text ∙ ap (λ (ls : List (ℕ × List ℕ)). (read_by c x.on.full ls).bad) all ∙ ap (λ (y : EventReading). y.bad) (behind_same c x.on.full gave x.behind) ∙ fine in (
+  pub goes_on_long : (lines : List (ℕ × List ℕ)) → ReadPast limit text lines → (read_by c None lines).bad ≡ None
+      → (made : List Input) (r : RunState) → Comes c (names_in c) (lists_in c) (read_by c None lines).events made r → (x : RunsOn watch files c limit text made) × (x.given.status ≡ TooLong)
+  goes_on_long lines far good made r comes =
+      let all = lines_within limit text in
+      let same = said_so c None all lines far.fronts in
+      let fine : (read_by c None all).bad ≡ None = ap (λ (x : EventReading). x.bad) same ∙ good in
+      let x = extended all [] made r (sym (append-nil all)) fine (subst (λ (y : EventReading). HasCome c y.events made r) (sym same) comes) in
+      let read : bad_within c x.on.full limit text ≡ None = ap (λ (y : EventReading). y.bad) (behind_same c x.on.full all x.behind) ∙ fine in (
         x.on,
         ap (λ (g : Given). g.status) x.on.runs.given_is ∙ ap (λ (b : Bool). run_status b (bad_within c x.on.full limit text)) (lt-ltb limit (length text) far.long) ∙ ap (run_status true) read,
       )
 
   -- with a line at hand that is taken already
-  pub goes_on_at : (gave : List (ℕ × List ℕ)) (reader : ReaderState) (rest : List ℕ) (at : AtLine limit text gave reader rest) (said : EventReading) → read_by c None gave ≡ said → said.bad ≡ None
-      → (front : List ℕ) → front ≡ reader.lines.front → (next : EventReading) → with_chip_line (is_some c.names) None reader.lines.number front (kind_of front) said ≡ next → next.bad ≡ None
+  pub goes_on_at : (lines : List (ℕ × List ℕ)) (n : ℕ) (line : List ℕ) → WereRead limit text (lines ++ (n, line) ∷ []) → (read_by c None lines).bad ≡ None
+      → (next : EventReading) → with_chip_line (is_some c.names) None n line (kind_of line) (read_by c None lines) ≡ next → next.bad ≡ None
       → (made : List Input) (r : RunState) → Comes c (names_in c) (lists_in c) next.events made r → RunsOn watch files c limit text made
-  goes_on_at gave reader rest at said same good front is next next_is fine made r comes =
-      goes_on (gave ++ (reader.lines.number, at.line) ∷ []) reader rest (line_given limit text rest gave reader reader at refl refl refl refl) next
-      (chip_front c None gave reader.lines.number at.line front said same good (is ∙ at.front) ∙ next_is) fine made r comes
+  goes_on_at lines n line w good next next_is fine made r comes =
+      let is : read_by c None (lines ++ (n, line) ∷ []) ≡ next = chip_line c None lines n line good ∙ next_is in
+      goes_on (lines ++ (n, line) ∷ []) w (ap (λ (x : EventReading). x.bad) is ∙ fine) made r (subst (λ (x : EventReading). Comes c (names_in c) (lists_in c) x.events made r) (sym is) comes)
 
   -- where fewer inputs were made
   pub runs_on_less : (made part : List Input) → RunsOn watch files c limit text (made ++ part) → RunsOn watch files c limit text made
@@ -252,49 +208,37 @@ module _ (c : Config) (formed : Formed c) (small : IsWithinLimits c) (watch : Wa
   }
 
   -- amid the cycles of the commit at hand
-  pub goes_on_amid : (gave : List (ℕ × List ℕ)) (reader : ReaderState) (rest : List ℕ) (at : AtLine limit text gave reader rest) (said : EventReading) → read_by c None gave ≡ said → said.bad ≡ None
-      → (front : List ℕ) → front ≡ reader.lines.front → is_some c.names ≡ true → kind_of front ≡ line.Commit
-      → (made : List Input) (r : RunState) → Comes c (names_in c) (lists_in c) said.events made r
+  pub goes_on_amid : (lines : List (ℕ × List ℕ)) (n : ℕ) (text_line : List ℕ) → WereRead limit text (lines ++ (n, text_line) ∷ []) → (read_by c None lines).bad ≡ None
+      → is_some c.names ≡ true → kind_of text_line ≡ line.Commit
+      → (made : List Input) (r : RunState) → Comes c (names_in c) (lists_in c) (read_by c None lines).events made r
       → (moved : Bool) (seed : ℕ) (next : RunCells) (writes : List CellWrite)
-      → Makes c (names_in c) r.cells r.entries.lists (committed r.entries said.changes).lists moved seed next → AreWrites c r.cells next writes
+      → Makes c (names_in c) r.cells r.entries.lists (committed r.entries (read_by c None lines).changes).lists moved seed next → AreWrites c r.cells next writes
       → (part others : List Input) → commit_cycles r moved seed writes ≡ part ++ others → RunsOn watch files c limit text (made ++ part)
-  goes_on_amid gave reader rest at said same good front is named kind made r comes moved seed next writes makes are part others cut =
-      let commit : with_chip_line (is_some c.names) None reader.lines.number front (kind_of front) said ≡ with_commit said =
-      ap (λ (k : LineKind). with_chip_line (is_some c.names) None reader.lines.number front k said) kind
-      ∙ ap (λ (b : Bool). with_chip_line b None reader.lines.number front line.Commit said) named in
+  goes_on_amid lines n text_line w good named kind made r comes moved seed next writes makes are part others cut =
+      let said = read_by c None lines in
+      let commit : with_chip_line (is_some c.names) None n text_line (kind_of text_line) said ≡ with_commit said =
+      ap (λ (k : LineKind). with_chip_line (is_some c.names) None n text_line k said) kind
+      ∙ ap (λ (b : Bool). with_chip_line b None n text_line line.Commit said) named in
       let all : made ++ commit_cycles r moved seed writes ≡ (made ++ part) ++ others = ap (λ (is : List Input). made ++ is) cut ∙ sym (append_assoc made part others) in
       runs_on_less (made ++ part) others
-      (goes_on_at gave reader rest at said same good front is (with_commit said) commit good ((made ++ part) ++ others) (behind_commit r said.changes moved seed writes next)
+      (goes_on_at lines n text_line w good (with_commit said) commit good ((made ++ part) ++ others) (behind_commit r said.changes moved seed writes next)
       (subst (λ (is : List Input). HasCome c (with_commit said).events is (behind_commit r said.changes moved seed writes next)) all (turned said.events made r said.changes moved seed next writes comes makes are)))
 
 -- ---- a text that was read to its end or to a bad line
 
 module _ (c : Config) (limit : ℕ) (text : List ℕ) where
-  pub chip_whole : (gave : List (ℕ × List ℕ)) (said : EventReading) → (length text ≤ limit) × (numbered_lines 1 text ≡ gave) → read_by c None gave ≡ said → ReadsAllBy (by_chip c None) limit text said
-  chip_whole gave said all same = record { says = read_all (by_chip c None) limit text gave all.0 all.1 ∙ same; ends = λ e. all.0 }
+  pub chip_whole : (lines : List (ℕ × List ℕ)) → ReadWhole limit text lines → ReadsAllBy (by_chip c None) limit text (read_by c None lines)
+  chip_whole lines all = record { says = said_so c None (lines_within limit text) lines all.fronts; ends = λ e. all.whole }
 
-  at_bad : (full : Option ℕ) (gave : List (ℕ × List ℕ)) (reader : ReaderState) (rest : List ℕ) (at : AtLine limit text gave reader rest) (code : ℕ) (said : EventReading)
-      → read_by c full (gave ++ (reader.lines.number, at.line) ∷ []) ≡ with_bad reader.lines.number code said → ReadsAllBy (by_chip c full) limit text (with_bad reader.lines.number code said)
-  at_bad full gave reader rest at code said is =
-      let w = read_at_line (by_chip c full) limit text rest gave reader at in
+  pub chip_bad : (full : Option ℕ) (lines : List (ℕ × List ℕ)) (n : ℕ) (line : List ℕ) (code : ℕ) (said : EventReading) → WereRead limit text (lines ++ (n, line) ∷ [])
+      → read_by c full (lines ++ (n, line) ∷ []) ≡ with_bad n code said → ReadsAllBy (by_chip c full) limit text (with_bad n code said)
+  chip_bad full lines n line code said w is =
       record {
-        says = w.1 ∙ chip_end c full gave reader.lines.number at.line w.0 said code is;
-        ends = λ e. absurd (none-some (record { code = code; line = reader.lines.number }) (sym e));
+        says = ap (read_by c full) w.first ∙ chip_append c full w.gave w.more
+            ∙ ap (λ (x : EventReading). fold (chip_more c full) x w.more) (said_so c full w.gave (lines ++ (n, line) ∷ []) w.fronts ∙ is)
+            ∙ chip_stays c full (with_bad n code said) (record { code = code; line = n }) w.more refl;
+        ends = λ e. absurd (none-some (record { code = code; line = n }) (sym e));
       }
-
-  pub chip_bad : (gave : List (ℕ × List ℕ)) (reader : ReaderState) (rest : List ℕ) (at : AtLine limit text gave reader rest) (said : EventReading) → read_by c None gave ≡ said → said.bad ≡ None
-      → (front : List ℕ) → front ≡ reader.lines.front → (code : ℕ)
-      → with_chip_line (is_some c.names) None reader.lines.number front (kind_of front) said ≡ with_bad reader.lines.number code said
-      → ReadsAllBy (by_chip c None) limit text (with_bad reader.lines.number code said)
-  chip_bad gave reader rest at said same good front is code bad =
-      at_bad None gave reader rest at code said (chip_front c None gave reader.lines.number at.line front said same good (is ∙ at.front) ∙ bad)
-
-  -- a commit that finds no room
-  pub chip_full : (gave : List (ℕ × List ℕ)) (reader : ReaderState) (rest : List ℕ) (at : AtLine limit text gave reader rest) (said : EventReading) → read_by c None gave ≡ said → said.bad ≡ None
-      → (front : List ℕ) → front ≡ reader.lines.front → is_some c.names ≡ true → kind_of front ≡ line.Commit
-      → ReadsAllBy (by_chip c (Some (commits_in said.events))) limit text (with_bad reader.lines.number 10 said)
-  chip_full gave reader rest at said same good front is named kind =
-      at_bad (Some (commits_in said.events)) gave reader rest at 10 said (full_line c gave reader.lines.number at.line front said named same good (is ∙ at.front) kind)
 
   -- what is told then, and what is given
   chip_told : (full : Option ℕ) (said : EventReading) → ReadsAllBy (by_chip c full) limit text said → told_of c full limit text ≡ said

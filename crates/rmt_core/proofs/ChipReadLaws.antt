@@ -14,6 +14,7 @@ use Rattle.rmt_packets.specs.Pieces.{front_of}
 use Rattle.rmt_packets.proofs.Fronts.{packet_of_front}
 use Rattle.rmt_packets.proofs.KindLaws.{kind_of_front}
 use Rattle.rmt_update.specs.Running.{Running, line_change}
+use Rattle.rmt_runs.specs.TextLines.{fronts_of}
 use Rattle.rmt_core.specs.ChipReading.{chip_reads_on, commits_in, read_by, unread_by, with_chip_commit, with_chip_line}
 use Rattle.rmt_core.specs.EventText.{EventReading, with_bad, with_change, with_commit, with_packet}
 use Rattle.rmt_core.proofs.EventTextLaws.{change_of_front}
@@ -23,7 +24,7 @@ abbrev pub chip_more : Config → Option ℕ → EventReading → ℕ × List �
 chip_more c full r l = chip_reads_on (is_some c.names) full r r.bad l
 
 -- a line says what its front says
-pub chip_line_of_front : (named : Bool) (full : Option ℕ) (n : ℕ) (text : List ℕ) (r : EventReading)
+chip_line_of_front : (named : Bool) (full : Option ℕ) (n : ℕ) (text : List ℕ) (r : EventReading)
     → with_chip_line named full n (front_of text) (kind_of (front_of text)) r ≡ with_chip_line named full n text (kind_of text) r
 chip_line_of_front named full n text r = ap (λ (k : LineKind). with_chip_line named full n (front_of text) k r) (kind_of_front text) ∙ by named (kind_of text)
   where
@@ -56,12 +57,17 @@ module _ (c : Config) (full : Option ℕ) where
       → read_by c full (ls ++ (n, text) ∷ []) ≡ with_chip_line (is_some c.names) full n text (kind_of text) (read_by c full ls)
   chip_line ls n text good = chip_append ls ((n, text) ∷ []) ∙ chip_good (read_by c full ls) (n, text) good
 
-  -- a line that its reader gives by its front
-  pub chip_front : (ls : List (ℕ × List ℕ)) (n : ℕ) (text front : List ℕ) (said : EventReading) → read_by c full ls ≡ said → said.bad ≡ None → front ≡ front_of text
-      → read_by c full (ls ++ (n, text) ∷ []) ≡ with_chip_line (is_some c.names) full n front (kind_of front) said
-  chip_front ls n text front said same good is =
-      chip_append ls ((n, text) ∷ []) ∙ ap (λ (x : EventReading). chip_more c full x (n, text)) same ∙ chip_good said (n, text) good
-      ∙ sym (chip_line_of_front (is_some c.names) full n text said) ∙ ap (λ (t : List ℕ). with_chip_line (is_some c.names) full n t (kind_of t) said) (sym is)
+  -- lines say what their fronts say
+  front_read : (r : EventReading) (b : Option BadLine) (n : ℕ) (text : List ℕ) → chip_reads_on (is_some c.names) full r b (n, front_of text) ≡ chip_reads_on (is_some c.names) full r b (n, text)
+  front_read r (Some b) n text = refl
+  front_read r None n text = chip_line_of_front (is_some c.names) full n text r
+
+  fronts_read : (r : EventReading) (ls : List (ℕ × List ℕ)) → fold (chip_more c full) r (fronts_of ls) ≡ fold (chip_more c full) r ls
+  fronts_read r [] = refl
+  fronts_read r (l ∷ ls) = ap (λ (x : EventReading). fold (chip_more c full) x (fronts_of ls)) (front_read r r.bad l.0 l.1) ∙ fronts_read (chip_more c full r l) ls
+
+  pub said_so : (ls lines : List (ℕ × List ℕ)) → fronts_of ls ≡ lines → read_by c full ls ≡ read_by c full lines
+  said_so ls lines is = sym (fronts_read (unread_by c) ls) ∙ ap (read_by c full) is
 
   -- a bad line ends it
   pub chip_end : (ls : List (ℕ × List ℕ)) (n : ℕ) (text : List ℕ) (more : List (ℕ × List ℕ)) (said : EventReading) (code : ℕ) → read_by c full (ls ++ (n, text) ∷ []) ≡ with_bad n code said
@@ -191,11 +197,3 @@ module _ (c : Config) where
     where
       itself : (a : ℕ) → eqb a a ≡ true
       itself a = grind arith
-
-  -- also where its reader gives its front
-  pub full_line : (ls : List (ℕ × List ℕ)) (n : ℕ) (text front : List ℕ) (said : EventReading) → is_some c.names ≡ true → read_by c None ls ≡ said → said.bad ≡ None → front ≡ front_of text
-      → kind_of front ≡ line.Commit → read_by c (Some (commits_in said.events)) (ls ++ (n, text) ∷ []) ≡ with_bad n 10 said
-  full_line ls n text front said named same good is kind =
-      ap (λ (x : EventReading). read_by c (Some (commits_in x.events)) (ls ++ (n, text) ∷ [])) (sym same)
-      ∙ full_text ls n text named (ap (λ (x : EventReading). x.bad) same ∙ good) (sym (kind_of_front text) ∙ ap kind_of (sym is) ∙ kind)
-      ∙ ap (with_bad n 10) same

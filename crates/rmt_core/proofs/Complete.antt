@@ -1,8 +1,7 @@
 -- Where the files are as they must be, each command gives Done.
-use Rattle.std.proofs.Common.{◌≡◌, ℕ, false, cond, ltb, List, length, take, Option, Some, None, inl, inr, sym, ap, refl, ◌∙◌, subst}
+use Rattle.std.proofs.Common.{◌≡◌, ℕ, false, ltb, List, length, Option, Some, None, inl, inr, sym, ap, refl, ◌∙◌, subst}
 use Rattle.std.proofs.lemmas.Bool.{le-ltb}
-use Rattle.rmt_bits.specs.Lines.{numbered_lines}
-use Rattle.rmt_packets.specs.Pieces.{ended_lines}
+use Rattle.rmt_runs.proofs.ReaderLaws.{within_short}
 use Rattle.rmt_core.specs.Types.{Program, Config}
 use Rattle.rmt_ast.specs.declared.entry.Entry.{Entry}
 use Rattle.rmt_bounds.specs.declared.bound.Bound.{Bound}
@@ -84,7 +83,7 @@ run_good w files image packets i g h = by h.0 h.3
     few = le-ltb packets_limit (length i.text) i.has_text.is_short
 
     none : bad_within c None packets_limit i.text ≡ None
-    none = ap (λ b. (cond b (read_by c None (ended_lines (take packets_limit i.text))) (read_by c None (numbered_lines 1 i.text))).bad) few ∙ i.is_good
+    none = ap (λ (ls : List (ℕ × List ℕ)). (read_by c None ls).bad) (within_short packets_limit i.text i.has_text.is_short) ∙ i.is_good
 
     by : (full : Option ℕ) → RunsSo w files c packets_limit i.text full h.1 h.2 g → g.status ≡ Done
     by None so = ap (λ (k : Given). k.status) so.given_is ∙ ap (λ b. run_status b (bad_within c None packets_limit i.text)) few ∙ ap (run_status false) none

@@ -13,7 +13,7 @@ use Rattle.rmt_config.specs.Cells.{Blocks, blocks_at, cells_in, content_of, reco
 use Rattle.rmt_config.specs.Form.{Formed, WholeIsFormed, items_are_formed, names_are_fit, visible_with}
 use Rattle.rmt_config.proofs.HeldRows.{held_of}
 use Rattle.rmt_config.specs.LaneForm.{bits_of_lanes}
-use Rattle.rmt_config.specs.Shapes.{divided_up, record_units, record_width, records_a_row}
+use Rattle.rmt_config.specs.BlockCounts.{divided_up, record_units, record_width, records_a_row}
 use Rattle.rmt_config.specs.StageForm.{rows_are_formed}
 use Rattle.rmt_config.specs.TableForm.{tables_are_formed}
 use Rattle.rmt_config.specs.TailForm.{has_names_with_tails}

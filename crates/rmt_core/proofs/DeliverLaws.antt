@@ -11,9 +11,10 @@ use Rattle.rmt_core.specs.declared.status.Status.TheVariants.{Done, ReadFault, W
 use Rattle.rmt_core.specs.Files.{Files, Write, all_written}
 use Rattle.rmt_core.specs.Given.{Given, Stores, stored}
 use Rattle.rmt_core.specs.Ends.{Answered, AreSame, BrokenOff, Outside, StoppedBetween, WritesAndPrints, outside}
-use Rattle.rmt_core.specs.Printing.{GainedFront}
+use Rattle.rmt_runs.specs.Printing.{GainedFront}
 use Rattle.rmt_core.specs.Writing.{StoodUpTo}
-use Rattle.rmt_core.proofs.EndLaws.{answered_where, ends_by, gained_none}
+use Rattle.rmt_runs.proofs.FrontLaws.{gained_none}
+use Rattle.rmt_core.proofs.EndLaws.{answered_where, ends_by}
 use Rattle.rmt_core.proofs.WritingLaws.{others_stand}
 
 -- ---- a call, by what befell it

@@ -9,9 +9,9 @@ use Rattle.rmt_config.specs.Commits.{RunState, waits}
 use Rattle.rmt_config.specs.RunInputs.{Idle, Input}
 use Rattle.rmt_chip.specs.declared.chip.Chip.{Chip}
 use Rattle.rmt_packets.specs.PacketText.{BadLine}
-use Rattle.rmt_core.specs.declared.run_end.Bad.{Bad}
-use Rattle.rmt_core.specs.declared.run_end.RunFault.{RunFault}
-use Rattle.rmt_core.specs.declared.run_end.RunFault.TheVariants as fault
+use Rattle.rmt_runs.specs.declared.fault.Bad.{Bad}
+use Rattle.rmt_runs.specs.declared.fault.RunFault.{RunFault}
+use Rattle.rmt_runs.specs.declared.fault.RunFault.TheVariants as fault
 use Rattle.rmt_core.specs.declared.status.Status.{Status}
 use Rattle.rmt_core.specs.declared.status.Status.TheVariants as status
 use Rattle.rmt_core.specs.declared.running.state.Run.{Run}
@@ -23,12 +23,12 @@ use Rattle.rmt_core.specs.ChipText.{all_cycles, end_of, lines_of, run_text}
 use Rattle.rmt_core.specs.RunEnd.{bad_line, status_of_end, status_of_fault}
 use Rattle.rmt_core.specs.Running.{Goes}
 use Rattle.rmt_core.specs.SimText.{cycles_line, flight_line}
-use Rattle.rmt_core.specs.Waiting.{Written}
+use Rattle.rmt_runs.specs.Waiting.{Written}
 use Rattle.rmt_core.proofs.ChipTextLaws.{lines_begin, starts}
 use Rattle.rmt_core.proofs.FlyingLaws.{is_there}
 use Rattle.rmt_core.proofs.RunLaws.{Begins}
 use Rattle.rmt_core.proofs.WaitLaws.{idle_front}
-use Rattle.rmt_core.proofs.WaitingLaws.{written_more}
+use Rattle.rmt_runs.proofs.WaitingLaws.{written_more}
 
 -- two lines in one text
 pub cycle_text : (n f : ℕ) → codes "cycles " ++ (decimal n ++ (codes "\nflight " ++ (decimal f ++ codes "\n"))) ≡ cycles_line n ++ flight_line f

@@ -18,7 +18,8 @@ use Rattle.rmt_packets.proofs.Fronts.{packet_of_front}
 use Rattle.rmt_packets.proofs.KindLaws.{kind_of_front}
 use Rattle.rmt_packets.proofs.StandsLaws.{front_size_is}
 use Rattle.rmt_update.specs.Running.{Running, begins, is_change, line_change}
-use Rattle.rmt_core.specs.EventText.{EventReading, events_of, read_on, unread, with_bad, with_change, with_line, with_packet}
+use Rattle.rmt_runs.specs.TextLines.{fronts_of}
+use Rattle.rmt_core.specs.EventText.{EventReading, events_of, read_on, unread, with_change, with_line, with_packet}
 
 -- ---- one line more
 
@@ -49,7 +50,7 @@ change_of_front n text r =
           ∙ sym (ap (λ (o : Result Running ℕ). with_change n text o r) (long_change r.run text (omega (arith, ge, front_size_is))))
     ]
 
-pub line_of_front : (n : ℕ) (text : List ℕ) (r : EventReading) → with_line n (front_of text) (kind_of (front_of text)) r ≡ with_line n text (kind_of text) r
+line_of_front : (n : ℕ) (text : List ℕ) (r : EventReading) → with_line n (front_of text) (kind_of (front_of text)) r ≡ with_line n text (kind_of text) r
 line_of_front n text r = ap (λ (k : LineKind). with_line n (front_of text) k r) (kind_of_front text) ∙ by (kind_of text)
   where
     by : (k : LineKind) → with_line n (front_of text) k r ≡ with_line n text k r
@@ -57,6 +58,14 @@ line_of_front n text r = ap (λ (k : LineKind). with_line n (front_of text) k r)
     by line.Addition = change_of_front n text r
     by line.Removal = change_of_front n text r
     by line.Commit = refl
+
+front_read : (r : EventReading) (b : Option BadLine) (n : ℕ) (text : List ℕ) → read_on r b (n, front_of text) ≡ read_on r b (n, text)
+front_read r (Some b) n text = refl
+front_read r None n text = line_of_front n text r
+
+fronts_read : (r : EventReading) (ls : List (ℕ × List ℕ)) → fold read_more r (fronts_of ls) ≡ fold read_more r ls
+fronts_read r [] = refl
+fronts_read r (l ∷ ls) = ap (λ (x : EventReading). fold read_more x (fronts_of ls)) (front_read r r.bad l.0 l.1) ∙ fronts_read (read_more r l) ls
 
 -- ---- changes by their kind
 
@@ -128,18 +137,6 @@ module _ (p : Program) (lists : List (List Entry)) where
   pub events_more : (ls : List (ℕ × List ℕ)) (n : ℕ) (text : List ℕ) → (events_of p lists ls).bad ≡ None → events_of p lists (ls ++ (n, text) ∷ []) ≡ with_line n text (kind_of text) (events_of p lists ls)
   events_more ls n text good = events_append ls ((n, text) ∷ []) ∙ read_good (events_of p lists ls) (n, text) good
 
-  -- a line that its reader gives by its front
-  pub events_front : (ls fronts : List (ℕ × List ℕ)) (n : ℕ) (text front : List ℕ) → events_of p lists ls ≡ events_of p lists fronts → (events_of p lists fronts).bad ≡ None → front ≡ front_of text
-      → events_of p lists (ls ++ (n, text) ∷ []) ≡ events_of p lists (fronts ++ (n, front) ∷ [])
-  events_front ls fronts n text front same good is =
-      let r = events_of p lists fronts in
-      events_append ls ((n, text) ∷ []) ∙ ap (λ (x : EventReading). read_more x (n, text)) same ∙ read_good r (n, text) good
-      ∙ sym (line_of_front n text r) ∙ ap (λ (t : List ℕ). with_line n t (kind_of t) r) (sym is) ∙ sym (events_more fronts n front good)
-
-  -- a bad line ends it
-  pub events_end : (ls : List (ℕ × List ℕ)) (n : ℕ) (text : List ℕ) (more : List (ℕ × List ℕ)) (said : EventReading) (code : ℕ) → events_of p lists (ls ++ (n, text) ∷ []) ≡ with_bad n code said
-      → events_of p lists (ls ++ (n, text) ∷ more) ≡ with_bad n code said
-  events_end ls n text more said code is =
-      let bad : BadLine = record { code = code; line = n } in
-      ap (events_of p lists) (sym (append_assoc ls ((n, text) ∷ []) more)) ∙ events_append (ls ++ (n, text) ∷ []) more
-      ∙ ap (λ (x : EventReading). fold read_more x more) is ∙ bad_stays (with_bad n code said) bad more refl
+  -- lines say what their fronts say
+  pub said_so : (ls lines : List (ℕ × List ℕ)) → fronts_of ls ≡ lines → events_of p lists ls ≡ events_of p lists lines
+  said_so ls lines is = sym (fronts_read (unread p lists) ls) ∙ ap (events_of p lists) is

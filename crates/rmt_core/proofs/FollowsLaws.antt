@@ -17,8 +17,8 @@ use Rattle.rmt_packets.specs.PacketText.{packet_of}
 use Rattle.rmt_update.specs.Running.{Running, line_change}
 use Rattle.rmt_update.specs.Stands.{StandsFor}
 use Rattle.rmt_update.specs.declared.book.plan.Plan.{Plan}
-use Rattle.rmt_core.specs.declared.run_end.RunFault.{RunFault}
-use Rattle.rmt_core.specs.declared.run_end.RunFault.TheVariants as fault
+use Rattle.rmt_runs.specs.declared.fault.RunFault.{RunFault}
+use Rattle.rmt_runs.specs.declared.fault.RunFault.TheVariants as fault
 use Rattle.rmt_core.specs.declared.running.commits.Commits.{Commits}
 use Rattle.rmt_core.specs.declared.running.state.Run.{Run}
 use Rattle.rmt_core.specs.declared.watch.Watch.{Watch}
@@ -26,12 +26,12 @@ use Rattle.rmt_core.specs.ChipEvents.{Comes, IsRefused, arrived, commit_cycles, 
 use Rattle.rmt_core.specs.ChipReading.{lists_in, names_in, read_by, with_chip_line}
 use Rattle.rmt_core.specs.ChipText.{lines_of}
 use Rattle.rmt_core.specs.EventText.{EventReading, with_bad, with_change, with_commit, with_packet}
-use Rattle.rmt_core.specs.RunEnd.{Cut}
+use Rattle.rmt_runs.specs.Cuts.{Cut}
 use Rattle.rmt_core.specs.Running.{AreCommitsAt, Follows, Goes, HasCome, IsFew, IsPlannedAt, LeftOff, Stopped, ahead, amid, behind, with_text}
 use Rattle.rmt_core.proofs.ChipReadLaws.{chip_line}
 use Rattle.rmt_core.proofs.FlyingLaws.{no_versions, none_written, version_is, versions-append, versions_in}
 use Rattle.rmt_core.proofs.WaitLaws.{no_packets, none_in_writes, packets-append}
-use Rattle.rmt_core.proofs.WaitingLaws.{written_front}
+use Rattle.rmt_runs.proofs.WaitingLaws.{written_front}
 
 -- ---- what a line of a kind does
 

@@ -1,6 +1,7 @@
 -- What commands give with Done, and when they give it.
 use Rattle.std.proofs.Common.{◌≡◌, inl, inr, ℕ, ◌≤◌, Bool, true, false, cond, ltb, List, length, Option, Some, None, Result, Ok, Err, sym, refl, ap, ◌∙◌, subst}
 use Rattle.std.proofs.lemmas.Bool.{le-ltb, ltb-false}
+use Rattle.rmt_runs.proofs.ReaderLaws.{within_short}
 use Rattle.rmt_core.specs.Types.{Program, Config}
 use Rattle.rmt_ast.specs.declared.entry.Entry.{Entry}
 use Rattle.rmt_check.specs.Means.{Means, Outcome}
@@ -83,15 +84,12 @@ module _ {X : Type 0} (way : Way X) where
   abbrev pub whole : List ℕ → X
   whole text = way.read (numbered_lines 1 text)
 
-  within_is : (limit : ℕ) (text : List ℕ) → ltb limit (length text) ≡ false → said_within way limit text ≡ whole text
-  within_is limit text few = rw few refl
-
   -- a text that is short and good runs to its end
   pub run_done : (files : Files) (printed : X → List ℕ) (limit : ℕ) (text : List ℕ) (g : Given) → length text ≤ limit → way.bad (whole text) ≡ None → RunsBy way files printed limit text g
       → g ≡ told files Done (printed (whole text))
   run_done files printed limit text g short good h =
       let few : ltb limit (length text) ≡ false = le-ltb limit (length text) short in
-      let bad : way.bad (said_within way limit text) ≡ None = ap way.bad (within_is limit text few) ∙ good in
+      let bad : way.bad (said_within way limit text) ≡ None = ap (λ (ls : List (ℕ × List ℕ)). way.bad (way.read ls)) (within_short limit text short) ∙ good in
       subst (λ (b : Option BadLine). g ≡ told files (run_status false b) (printed (told_within way limit text b))) bad
       (subst (λ (l : Bool). g ≡ told files (run_status l (way.bad (said_within way limit text))) (printed (told_within way limit text (way.bad (said_within way limit text))))) few h)
 

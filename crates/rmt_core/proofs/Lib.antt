@@ -46,7 +46,6 @@ pub mod PlacerLaws
 pub mod PlainRunLaws
 pub mod PlanLaws
 pub mod ReadOnce
-pub mod ReaderLaws
 pub mod RefusedLaws
 pub mod RunExamples
 pub mod RunLaws
@@ -67,7 +66,6 @@ pub mod VectorTexts
 pub mod Verified
 pub mod VerifyLaws
 pub mod WaitLaws
-pub mod WaitingLaws
 pub mod WritesOnce
 pub mod WritingLaws
 pub mod size

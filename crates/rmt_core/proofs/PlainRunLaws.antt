@@ -1,10 +1,9 @@
 -- The lines of a plain run, one line of a packet text after another.
-use Rattle.std.proofs.Common.{◌≡◌, ◌≢◌, ℕ, ◌+◌, ◌≤◌, List, [], ◌∷◌, ◌++◌, length, Option, Some, None, Result, Ok, Err, sym, refl, ap, ◌∙◌, subst, arith, append_assoc, append-nil, length-append}
-use Rattle.std.specs.Prelude.{fold, map}
+use Rattle.std.proofs.Common.{◌≡◌, ◌≢◌, ℕ, ◌+◌, List, [], ◌∷◌, ◌++◌, length, Option, Some, None, Result, Ok, Err, sym, refl, ap, ◌∙◌, subst, arith, append_assoc, append-nil, length-append}
+use Rattle.std.specs.Prelude.{IsTrue, fold, map}
 use Rattle.rmt_bits.specs.Packet.{Packet}
 use Rattle.rmt_bits.specs.declared.answer.Answer.{Answer}
-use Rattle.rmt_bits.specs.Lines.{numbered_lines}
-use Rattle.rmt_io.specs.Outside.{SinkState}
+use Rattle.rmt_io.specs.Outside.{ShelfState, SinkState}
 use Rattle.rmt_core.specs.Types.{Program}
 use Rattle.rmt_ast.specs.declared.entry.Entry.{Entry}
 use Rattle.rmt_ast.specs.Answers.{answer_of}
@@ -12,7 +11,6 @@ use Rattle.rmt_ast.specs.Changes.{at_first, committed}
 use Rattle.rmt_ast.specs.EntryLists.{AreEntries}
 use Rattle.rmt_ast.specs.Events.{Arrives, Commits, Event, Met, answers_of_events, lists_from, met_from}
 use Rattle.rmt_packets.specs.AnswerLine.{answer_line}
-use Rattle.rmt_packets.specs.LineKinds.{kind_of}
 use Rattle.rmt_packets.specs.PacketText.{BadLine}
 use Rattle.rmt_plain.specs.declared.plain.Plain.{Plain}
 use Rattle.rmt_plain.specs.Stands.{FollowOn, HasMet, HasTaken, entries_after, meets}
@@ -21,24 +19,24 @@ use Rattle.rmt_update.specs.declared.lists.Lists.{Lists}
 use Rattle.rmt_update.specs.Running.{Running, line_change}
 use Rattle.rmt_update.specs.Stands.{Stands, StandsFor}
 use Rattle.rmt_core.specs.declared.plain_run.PlainRun.{PlainRun}
-use Rattle.rmt_core.specs.declared.run_end.RunFault.{RunFault}
-use Rattle.rmt_core.specs.declared.run_end.RunFault.TheVariants.{TooLong, Write}
-use Rattle.rmt_core.specs.declared.waiting.Waiting.{Waiting}
-use Rattle.rmt_core.specs.EventText.{EventReading, events_of, with_bad, with_change, with_changes, with_commit, with_line, with_packet}
-use Rattle.rmt_core.specs.Pieces.{PassesLimit}
-use Rattle.rmt_core.specs.PlainRunning.{Goes, Leaves, committed_by, ended_at, event_lines}
+use Rattle.rmt_runs.specs.declared.fault.Bad.{Bad}
+use Rattle.rmt_runs.specs.declared.fault.RunFault.{RunFault}
+use Rattle.rmt_runs.specs.declared.fault.RunFault.TheVariants.{TooLong, Write}
+use Rattle.rmt_runs.specs.declared.waiting.Waiting.{Waiting}
+use Rattle.rmt_core.specs.EventText.{EventReading, events_of, with_bad, with_change, with_changes, with_commit, with_packet}
+use Rattle.rmt_core.specs.PlainRunning.{BreaksOver, Goes, Leaves, StandsOver, StopsOver, committed_by, ended_at, event_lines}
 use Rattle.rmt_core.specs.PlainText.{plain_end, plain_lines, plain_text}
-use Rattle.rmt_core.specs.Printing.{GainsFront}
-use Rattle.rmt_core.specs.ReadsOn.{AtLine, ReaderState, ReadsLines}
-use Rattle.rmt_core.specs.RunEnd.{BreaksBy, Cut, ReadsAllBy}
+use Rattle.rmt_runs.specs.Printing.{GainsFront}
+use Rattle.rmt_runs.specs.TextLines.{BreaksOff, EndsBy, ReadPast, WereRead, amid, between, lines_within}
+use Rattle.rmt_runs.specs.Cuts.{Cut}
+use Rattle.rmt_core.specs.RunEnd.{BreaksBy, ReadsAllBy}
 use Rattle.rmt_core.specs.Runs.{Way, said_within}
-use Rattle.rmt_core.specs.Waiting.{Written}
+use Rattle.rmt_runs.specs.Waiting.{Written}
 use Rattle.rmt_core.proofs.EditedLaws.{edited_change, edited_commit, edited_packet, entries_committed}
-use Rattle.rmt_core.proofs.EndLaws.{gains_more}
-use Rattle.rmt_core.proofs.EventTextLaws.{events_append, events_end, events_front, events_more, lines_grow, read_more}
-use Rattle.rmt_core.proofs.ReaderLaws.{gave_is_front, line_given, read_all, read_at_line, read_passed}
-use Rattle.rmt_core.proofs.RunsLaws.{told_by}
-use Rattle.rmt_core.proofs.WaitingLaws.{some_more, written_front, written_more, written_on}
+use Rattle.rmt_runs.proofs.FrontLaws.{gains_more}
+use Rattle.rmt_core.proofs.EventTextLaws.{bad_stays, events_append, lines_grow, read_more, said_so}
+use Rattle.rmt_core.proofs.RunsLaws.{told_by, told_first}
+use Rattle.rmt_runs.proofs.WaitingLaws.{some_more, written_front, written_more, written_on}
 
 plain_lines-append : (n : ℕ) (xs ys : List Answer) → plain_lines n (xs ++ ys) ≡ plain_lines n xs ++ plain_lines (n + length xs) ys
 plain_lines-append n [] ys = let same : n + 0 ≡ n = omega arith in rw same refl
@@ -193,49 +191,38 @@ module _ (p : Program) (lists : List (List Entry)) where
   abbrev way : Way EventReading
   way = with_changes p lists
 
-  pub breaks : (limit : ℕ) (text : List ℕ) (gave fronts : List (ℕ × List ℕ)) (reader : ReaderState) (rest : List ℕ) (before now : SinkState) (fault : RunFault) → ReadsLines limit text gave reader rest
-      → events_of p lists gave ≡ events_of p lists fronts → (events_of p lists fronts).bad ≡ None
-      → Cut (event_lines p lists (events_of p lists fronts).events) before now fault → (fault ≡ TooLong → PassesLimit limit text gave) → BreaksBy way (plain_text p lists) limit text before now fault
-  breaks limit text gave fronts reader rest before now fault reads same good cut far =
-      let said = events_of p lists fronts in
-      let front = gave_is_front way (way.bad (said_within way limit text)) limit text gave reader rest reads in
+  breaks : (limit : ℕ) (text : List ℕ) (lines : List (ℕ × List ℕ)) (before now : SinkState) (fault : RunFault) → WereRead limit text lines → Cut (event_lines p lists (events_of p lists lines).events) before now fault
+      → (fault ≡ TooLong → ReadPast limit text lines × ((events_of p lists lines).bad ≡ None)) → BreaksBy way (plain_text p lists) limit text before now fault
+  breaks limit text lines before now fault w cut far =
+      let said = events_of p lists lines in
+      let front = told_first way limit text w.gave w.more w.first (way.bad (said_within way limit text)) in
       let grows = lines_grow said front.0 in
       let told : (told_by way limit text).events ≡ said.events ++ grows.0 =
-      ap (λ (x : EventReading). x.events) (front.1 ∙ events_append p lists gave front.0 ∙ ap (λ (x : EventReading). fold read_more x front.0) same) ∙ grows.1 in
+      ap (λ (x : EventReading). x.events) (front.1 ∙ events_append p lists w.gave front.0 ∙ ap (λ (x : EventReading). fold read_more x front.0) (said_so p lists w.gave lines w.fronts)) ∙ grows.1 in
       let more = text_more said.events grows.0 (told_by way limit text) told in
       record {
         front = λ t. subst (λ (l : List ℕ). GainsFront before.bytes now.bytes l) (sym more.1) (gains_more _ _ _ more.0 (cut.front t));
         some = λ e. subst (λ (l : List ℕ). l ≢ []) (sym more.1) (some_more _ more.0 (cut.some e));
-        long = λ e. (far e).long;
-        within = λ e. ap (λ (x : EventReading). x.bad) (read_passed way limit text gave (far e) ∙ same) ∙ good;
+        long = λ e. (far e).0.long;
+        within = λ e. ap (λ (x : EventReading). x.bad) (said_so p lists (lines_within limit text) lines (far e).0.fronts) ∙ (far e).1;
       }
 
-  -- the same while a line is at hand that its reader gives by its front
-  pub breaks_at : (limit : ℕ) (text : List ℕ) (gave fronts : List (ℕ × List ℕ)) (reader : ReaderState) (rest front : List ℕ) (before now : SinkState) (fault : RunFault) → (at : AtLine limit text gave reader rest)
-      → events_of p lists gave ≡ events_of p lists fronts → (events_of p lists fronts).bad ≡ None → front ≡ reader.lines.front → (fault ≡ TooLong → ⊥)
-      → Cut (event_lines p lists (with_line reader.lines.number front (kind_of front) (events_of p lists fronts)).events) before now fault → BreaksBy way (plain_text p lists) limit text before now fault
-  breaks_at limit text gave fronts reader rest front before now fault at same good is other cut =
-      let n = reader.lines.number in
-      let line : events_of p lists (gave ++ (n, at.line) ∷ []) ≡ with_line n front (kind_of front) (events_of p lists fronts) =
-      events_front p lists gave fronts n at.line front same good (is ∙ at.front) ∙ events_more p lists fronts n front good in
-      let w = gave_is_front way (way.bad (said_within way limit text)) limit text (gave ++ (n, at.line) ∷ []) reader rest (line_given limit text rest gave reader reader at refl refl refl refl) in
-      let said = with_line n front (kind_of front) (events_of p lists fronts) in
-      let grows = lines_grow said w.0 in
-      let told : (told_by way limit text).events ≡ said.events ++ grows.0 =
-      ap (λ (x : EventReading). x.events) (w.1 ∙ events_append p lists (gave ++ (n, at.line) ∷ []) w.0 ∙ ap (λ (x : EventReading). fold read_more x w.0) line) ∙ grows.1 in
-      let more = text_more said.events grows.0 (told_by way limit text) told in
-      record {
-        front = λ t. subst (λ (l : List ℕ). GainsFront before.bytes now.bytes l) (sym more.1) (gains_more _ _ _ more.0 (cut.front t));
-        some = λ e. subst (λ (l : List ℕ). l ≢ []) (sym more.1) (some_more _ more.0 (cut.some e));
-        long = λ e. absurd (other e);
-        within = λ e. absurd (other e);
-      }
+  -- between two lines, or at one
+  pub broke : (shelf : ShelfState) (limit : ℕ) (run : PlainRun) (before now : SinkState) (fault : RunFault) → IsTrue shelf.tells
+      → BreaksOff shelf limit (λ lines. StandsOver (p, lists) lines run before now) (λ lines line. BreaksOver (p, lists) lines line before now fault) fault
+      → BreaksBy way (plain_text p lists) limit shelf.rest before now fault
+  broke shelf limit run before now fault t (between lines goes other read) =
+      breaks limit shelf.rest lines before now fault (read t).0 (record { front = written_front goes.written; some = λ e. absurd (other e) }) (λ e. ((read t).1 e, goes.good))
+  broke shelf limit run before now fault t (amid lines line cut other read) = breaks limit shelf.rest (lines ++ line ∷ []) before now fault (read t).1 cut (λ e. absurd (other e))
 
   -- ---- a run that came to an end
 
   -- a line that was good, and one that was bad
   pub leaves_good : (n : ℕ) (said next : EventReading) (run : PlainRun) (before now : SinkState) (code : Option ℕ) → code ≡ None → Leaves p lists n said next run before now code → Goes p lists next run before now
   leaves_good n said next run before now code is h = subst (λ (o : Option ℕ). Leaves p lists n said next run before now o) is h
+
+  pub goes_as : (next same : EventReading) (run : PlainRun) (before now : SinkState) → same ≡ next → Goes p lists next run before now → Goes p lists same run before now
+  goes_as next same run before now is h = subst (λ (r : EventReading). Goes p lists r run before now) (sym is) h
 
   pub leaves_bad : (n : ℕ) (said next : EventReading) (run : PlainRun) (before now : SinkState) (code : Option ℕ) (found : ℕ) → code ≡ Some found → Leaves p lists n said next run before now code
       → (next ≡ with_bad n found said) × Goes p lists said run before now
@@ -245,16 +232,18 @@ module _ (p : Program) (lists : List (List Entry)) where
   pub good_end : (said : EventReading) → said.bad ≡ None → said ≡ ended_at None said
   good_end said good = ap (λ (b : Option BadLine). record said { bad = b }) good
 
-  pub ends_whole : (limit : ℕ) (text : List ℕ) (gave : List (ℕ × List ℕ)) (said : EventReading) → events_of p lists gave ≡ said → (length text ≤ limit) × (numbered_lines 1 text ≡ gave) → ReadsAllBy way limit text said
-  ends_whole limit text gave said same all = record { says = read_all way limit text gave all.0 all.1 ∙ same; ends = λ e. all.0 }
-
-  pub ends_bad : (limit : ℕ) (text : List ℕ) (gave fronts : List (ℕ × List ℕ)) (reader : ReaderState) (rest front : List ℕ) (code : ℕ) → (at : AtLine limit text gave reader rest)
-      → events_of p lists gave ≡ events_of p lists fronts → (events_of p lists fronts).bad ≡ None → front ≡ reader.lines.front
-      → with_line reader.lines.number front (kind_of front) (events_of p lists fronts) ≡ with_bad reader.lines.number code (events_of p lists fronts)
-      → ReadsAllBy way limit text (with_bad reader.lines.number code (events_of p lists fronts))
-  ends_bad limit text gave fronts reader rest front code at same good is bad =
-      let n = reader.lines.number in
-      let line : events_of p lists (gave ++ (n, at.line) ∷ []) ≡ with_bad n code (events_of p lists fronts) =
-      events_front p lists gave fronts n at.line front same good (is ∙ at.front) ∙ events_more p lists fronts n front good ∙ bad in
-      let w = read_at_line way limit text rest gave reader at in
-      record { says = w.1 ∙ events_end p lists gave n at.line w.0 (events_of p lists fronts) code line; ends = λ e. absurd (cc) }
+  -- at its last line, or at a bad one
+  pub ended : (shelf : ShelfState) (limit : ℕ) (run : PlainRun) (before now : SinkState) (bad : Option Bad) → IsTrue shelf.tells
+      → EndsBy shelf limit (λ lines. StandsOver (p, lists) lines run before now) (λ lines line code. StopsOver (p, lists) lines line code run before now) bad
+      → (said : EventReading) × ReadsAllBy way limit shelf.rest (ended_at bad said) × Goes p lists said run before now
+  ended shelf limit run before now None t h =
+      let said = events_of p lists h.lines in
+      (said, record { says = said_so p lists (lines_within limit shelf.rest) h.lines (h.read t).fronts ∙ good_end said h.stands.good; ends = λ e. (h.read t).whole }, h.stands)
+  ended shelf limit run before now (Some bad) t h =
+      let said = events_of p lists h.lines in
+      let w = h.read t in
+      let at : events_of p lists w.gave ≡ with_bad bad.line bad.code said = said_so p lists w.gave (h.lines ++ (bad.line, h.text) ∷ []) w.fronts ∙ h.stops.0 in
+      let says : said_within way limit shelf.rest ≡ with_bad bad.line bad.code said =
+      ap (events_of p lists) w.first ∙ events_append p lists w.gave w.more ∙ ap (λ (x : EventReading). fold read_more x w.more) at
+      ∙ bad_stays (with_bad bad.line bad.code said) (record { code = bad.code; line = bad.line }) w.more refl in
+      (said, record { says = says; ends = λ e. absurd (cc) }, h.stops.1)

@@ -1,8 +1,7 @@
 -- Two readings of one text, each with the commit that finds no room in it, are the same, or one goes on behind the commit that the other refuses.
-use Rattle.std.proofs.Common.{◌≡◌, ◌⊎◌, inl, inr, ℕ, ◌+◌, ◌≤◌, Bool, true, false, cond, eqb, ltb, List, [], ◌∷◌, ◌++◌, length, take, drop, Option, Some, None, Result, Ok, Err, refl, sym, ap, subst, ◌∙◌, arith, append_assoc, append-nil}
+use Rattle.std.proofs.Common.{◌≡◌, ◌⊎◌, inl, inr, ℕ, ◌≤◌, Bool, true, false, cond, eqb, List, [], ◌∷◌, ◌++◌, Option, Some, None, Result, Ok, Err, refl, sym, ap, subst, ◌∙◌, arith, append_assoc, append-nil}
 use Rattle.std.specs.Prelude.{fold, is_some}
 use Rattle.std.proofs.lemmas.Bool.{eqb-false}
-use Rattle.std.proofs.lemmas.List.{take-append-drop}
 use Rattle.rmt_bits.specs.Lines.{numbered_lines}
 use Rattle.rmt_bits.specs.Packet.{Packet}
 use Rattle.rmt_core.specs.Types.{Config}
@@ -11,13 +10,13 @@ use Rattle.rmt_packets.specs.declared.line_kind.LineKind.{LineKind}
 use Rattle.rmt_packets.specs.declared.line_kind.LineKind.TheVariants as line
 use Rattle.rmt_packets.specs.LineKinds.{kind_of}
 use Rattle.rmt_packets.specs.PacketText.{BadLine, packet_of}
-use Rattle.rmt_packets.specs.Pieces.{ended_lines, feeds, open_line}
-use Rattle.rmt_packets.proofs.Cuts.{lines_go_on}
+use Rattle.rmt_runs.specs.TextLines.{lines_within}
+use Rattle.rmt_runs.proofs.LineLaws.{whole_more}
 use Rattle.rmt_update.specs.Running.{Running, line_change}
 use Rattle.rmt_core.specs.ChipReading.{by_chip, chip_reads_on, commits_in, finds_none, read_by, unread_by, with_chip_commit, with_chip_line}
 use Rattle.rmt_core.specs.ChipRuns.{bad_within, told_of}
 use Rattle.rmt_core.specs.EventText.{EventReading, with_bad, with_change, with_commit, with_packet}
-use Rattle.rmt_core.specs.Runs.{said_within, told_within}
+use Rattle.rmt_core.specs.Runs.{told_within}
 use Rattle.rmt_core.proofs.ChipReadLaws.{chip_append, chip_more, chip_stays, commits_append}
 use Rattle.rmt_core.proofs.EventTextLaws.{packet_grows}
 
@@ -155,45 +154,16 @@ module _ (c : Config) (k : ℕ) (other : Option ℕ) where
 -- ---- what is told of a text
 
 module _ (c : Config) (limit : ℕ) (text : List ℕ) where
-  -- the lines that end within the limit, and those behind them
-  record Within : Type 0 where
-    front : List (ℕ × List ℕ)
-    more : List (ℕ × List ℕ)
-    whole : numbered_lines 1 text ≡ front ++ more
-    says : (full : Option ℕ) → said_within (by_chip c full) limit text ≡ read_by c full front
-
-  within : Within
-  within = by (ltb limit (length text)) refl
-    where
-      by : (b : Bool) → ltb limit (length text) ≡ b → Within
-      by true e =
-          let t = take limit text in
-          let d = drop limit text in
-          record {
-            front = ended_lines t;
-            more = numbered_lines (feeds t + 1) (open_line t ++ d);
-            whole = ap (numbered_lines 1) (sym (take-append-drop limit text)) ∙ lines_go_on t d;
-            says = λ full. ap (λ b. cond b (read_by c full (ended_lines t)) (read_by c full (numbered_lines 1 text))) e;
-          }
-      by false e = record {
-        front = numbered_lines 1 text;
-        more = [];
-        whole = sym (append-nil (numbered_lines 1 text));
-        says = λ full. ap (λ b. cond b (read_by c full (ended_lines (take limit text))) (read_by c full (numbered_lines 1 text))) e;
-      }
-
   -- it is what is read of all of its lines
   pub told_is : (full : Option ℕ) → told_of c full limit text ≡ read_by c full (numbered_lines 1 text)
   told_is full = by (bad_within c full limit text) refl
     where
-      w : Within
-      w = within
-
       by : (bad : Option BadLine) → bad_within c full limit text ≡ bad → told_within (by_chip c full) limit text bad ≡ read_by c full (numbered_lines 1 text)
       by None e = refl
       by (Some b) e =
-          let bad : (read_by c full w.front).bad ≡ Some b = ap (λ (x : EventReading). x.bad) (sym (w.says full)) ∙ e in
-          w.says full ∙ sym (chip_stays c full (read_by c full w.front) b w.more bad) ∙ sym (chip_append c full w.front w.more) ∙ sym (ap (read_by c full) w.whole)
+          let front = lines_within limit text in
+          let w = whole_more limit text in
+          sym (chip_stays c full (read_by c full front) b w.0 e) ∙ sym (chip_append c full front w.0) ∙ sym (ap (read_by c full) w.1)
 
   -- two readings tell the same with the same bad line within the limit, or they part
   pub record TellSame (full other : Option ℕ) : Type 0 where
@@ -203,14 +173,15 @@ module _ (c : Config) (limit : ℕ) (text : List ℕ) where
   pub tell_or_part : (k : ℕ) (other : Option ℕ) → ((es : List Event) → commits_in es ≤ k → finds_none other es ≡ false)
       → TellSame (Some k) other ⊎ Parts c k other (told_of c (Some k) limit text) (told_of c other limit text)
   tell_or_part k other never =
-      let w = within in
-      let whole : (full : Option ℕ) → told_of c full limit text ≡ read_by c full (w.front ++ w.more) = λ full. told_is full ∙ ap (read_by c full) w.whole in
-      elim (text_parts c k other never w.front w.more) [
+      let front = lines_within limit text in
+      let w = whole_more limit text in
+      let whole : (full : Option ℕ) → told_of c full limit text ≡ read_by c full (front ++ w.0) = λ full. told_is full ∙ ap (read_by c full) w.1 in
+      elim (text_parts c k other never front w.0) [
         | inl same ↦ inl (record {
-          bad = ap (λ (x : EventReading). x.bad) (w.says (Some k) ∙ same.0 ∙ sym (w.says other));
+          bad = ap (λ (x : EventReading). x.bad) same.0;
           told = whole (Some k) ∙ same.1 ∙ sym (whole other);
         })
         | inr parts ↦
             inr (subst (λ (x : EventReading). Parts c k other x (told_of c other limit text)) (sym (whole (Some k)))
-            (subst (λ (x : EventReading). Parts c k other (read_by c (Some k) (w.front ++ w.more)) x) (sym (whole other)) parts))
+            (subst (λ (x : EventReading). Parts c k other (read_by c (Some k) (front ++ w.0)) x) (sym (whole other)) parts))
       ]

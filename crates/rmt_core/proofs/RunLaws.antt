@@ -1,10 +1,10 @@
 -- Texts that begin with the lines of a run so far.
 use Rattle.std.proofs.Common.{◌≡◌, ℕ, List, ◌++◌, sym, ap, ◌∙◌, append_assoc}
 use Rattle.rmt_io.specs.Outside.{SinkState}
-use Rattle.rmt_core.specs.Printing.{GainedFront}
-use Rattle.rmt_core.specs.declared.run_end.RunFault.{RunFault}
-use Rattle.rmt_core.specs.RunEnd.{Cut}
-use Rattle.rmt_core.proofs.WaitingLaws.{some_more}
+use Rattle.rmt_runs.specs.Printing.{GainedFront}
+use Rattle.rmt_runs.specs.declared.fault.RunFault.{RunFault}
+use Rattle.rmt_runs.specs.Cuts.{Cut}
+use Rattle.rmt_runs.proofs.WaitingLaws.{some_more}
 
 -- a text begins with these lines
 pub record Begins (lines text : List ℕ) : Type 0 where

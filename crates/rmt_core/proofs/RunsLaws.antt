@@ -1,17 +1,18 @@
 -- How a run over a packet text ends.
-use Rattle.std.proofs.Common.{◌≡◌, ◌≢◌, ◌⊎◌, ⊎_elim, inl, inr, ◌≤◌, ◌<◌, ℕ, Bool, true, false, cond, IsTrue, List, [], length, take, Option, Some, None, sym, refl, ap, ◌∙◌, subst, arith, ltb}
-use Rattle.rmt_bits.specs.Lines.{numbered_lines}
+use Rattle.std.proofs.Common.{◌≡◌, ◌≢◌, ◌⊎◌, ⊎_elim, inl, inr, ◌≤◌, ◌<◌, ℕ, Bool, true, false, IsTrue, List, [], ◌++◌, length, Option, Some, None, sym, refl, ap, ◌∙◌, subst, append_assoc, arith, ltb}
 use Rattle.rmt_io.specs.Outside.{Gained, PrintingFailed}
 use Rattle.rmt_packets.specs.PacketText.{BadLine}
-use Rattle.rmt_packets.specs.Pieces.{ended_lines}
-use Rattle.rmt_core.specs.declared.run_end.Bad.{Bad}
-use Rattle.rmt_core.specs.declared.run_end.RunFault.{RunFault}
-use Rattle.rmt_core.specs.declared.run_end.RunFault.TheVariants.{NoMemory, Write, Read, TooLong}
+use Rattle.rmt_runs.specs.declared.fault.Bad.{Bad}
+use Rattle.rmt_runs.specs.declared.fault.RunFault.{RunFault}
+use Rattle.rmt_runs.specs.declared.fault.RunFault.TheVariants.{NoMemory, Write, Read, TooLong}
 use Rattle.rmt_core.specs.declared.status.Status.{Status}
 use Rattle.rmt_core.specs.declared.status.Status.TheVariants as status
+use Rattle.rmt_runs.specs.TextLines.{lines_within}
+use Rattle.rmt_runs.proofs.LineLaws.{whole_more}
+use Rattle.rmt_runs.proofs.ReaderLaws.{within_short}
 use Rattle.rmt_core.specs.Ends.{Answered, AreSame, Outside, PrintsAll}
 use Rattle.rmt_core.specs.Given.{Given, told}
-use Rattle.rmt_core.specs.Printing.{GainedFront}
+use Rattle.rmt_runs.specs.Printing.{GainedFront}
 use Rattle.rmt_core.specs.RunEnd.{BreaksBy, ReadsAllBy, bad_line, status_of_end, status_of_fault}
 use Rattle.rmt_core.specs.Runs.{RunsBy, Way, said_within, run_status, told_within}
 use Rattle.rmt_core.proofs.EndLaws.{IsEnding, run_answered, stops}
@@ -20,10 +21,12 @@ use Rattle.rmt_core.proofs.EndLaws.{IsEnding, run_answered, stops}
 abbrev pub told_by : {X : Type 0} → Way X → ℕ → List ℕ → X
 told_by way limit text = told_within way limit text (way.bad (said_within way limit text))
 
--- a cycle, or the answer to a packet, is never cut off by a text that is too long
-pub not_too_long : (fault : RunFault) → (fault ≡ NoMemory) ⊎ (fault ≡ Write) → fault ≡ TooLong → ⊥
-not_too_long fault (inl h) e = cc
-not_too_long fault (inr h) e = cc
+-- where these lines come first among those that may be read, they do among those that are told
+pub told_first : {X : Type 0} (way : Way X) (limit : ℕ) (text : List ℕ) (gave more : List (ℕ × List ℕ)) → lines_within limit text ≡ gave ++ more → (bad : Option BadLine)
+    → (rest : List (ℕ × List ℕ)) × (told_within way limit text bad ≡ way.read (gave ++ rest))
+told_first way limit text gave more is (Some bad) = (more, ap way.read is)
+told_first way limit text gave more is None =
+    let w = whole_more limit text in (more ++ w.0, ap way.read (w.1 ∙ ap (λ (ls : List (ℕ × List ℕ)). ls ++ w.0) is ∙ append_assoc gave more w.0))
 
 pub not_longer : (limit n : ℕ) → n ≤ limit → ltb limit n ≡ false
 not_longer limit n le = grind (arith, le)
@@ -38,7 +41,7 @@ module _ {X : Type 0} (way : Way X) (limit : ℕ) (text : List ℕ) (said : X) (
     where
       of : (bad : Option BadLine) → way.bad said ≡ bad → told_within way limit text bad ≡ said
       of (Some b) e = r.says
-      of None e = sym (ap (λ b. cond b (way.read (ended_lines (take limit text))) (way.read (numbered_lines 1 text))) (not_longer limit (length text) (r.ends e))) ∙ r.says
+      of None e = sym (ap way.read (within_short limit text (r.ends e))) ∙ r.says
 
   -- its status
   pub status_all : (bad : Option Bad) → way.bad said ≡ bad_line bad → run_status (ltb limit (length text)) (way.bad (said_within way limit text)) ≡ status_of_end bad

@@ -1,5 +1,5 @@
 -- What `sim` prints of an image that `compile` or `improve` made is what `plain` prints of the program, and then the cycles and the flight.
-use Rattle.std.proofs.Common.{◌≡◌, ◌≢◌, ℕ, ◌≤◌, false, cond, ltb, List, ◌++◌, Option, Some, None, Ok, length, take, sym, inl, inr, ap, ◌∙◌, subst}
+use Rattle.std.proofs.Common.{◌≡◌, ◌≢◌, ℕ, ◌≤◌, false, ltb, List, ◌++◌, Option, Some, None, Ok, length, sym, inl, inr, ap, ◌∙◌, subst}
 use Rattle.std.specs.List.{flat_map}
 use Rattle.std.proofs.lemmas.Bool.{ltb-false}
 use Rattle.std.proofs.lemmas.Option.{none-some}
@@ -21,7 +21,7 @@ use Rattle.rmt_refine.specs.EventRuns.{EventsAreAnswered}
 use Rattle.rmt_build.specs.declared.fault.NoFit.{NoFit}
 use Rattle.rmt_verify.specs.Spelling.{spelled_map}
 use Rattle.rmt_packets.specs.PacketText.{BadLine}
-use Rattle.rmt_packets.specs.Pieces.{ended_lines}
+use Rattle.rmt_runs.proofs.ReaderLaws.{within_short}
 use Rattle.rmt_core.specs.declared.placer.Placer.{Placer}
 use Rattle.rmt_core.specs.declared.placer.Placer.TheVariants.{ByRule, ByTries}
 use Rattle.rmt_core.specs.declared.status.Status.TheVariants.{Done}
@@ -145,7 +145,7 @@ chip_ran files packets text c g is_there done h = by h.0 h.3
     told_bad : (full : Option ℕ) → (ltb packets_limit (length text) ≡ false) × (bad_within c full packets_limit text ≡ None) → (told_of c full packets_limit text).bad ≡ None
     told_bad full parts =
         ap (λ (x : EventReading). x.bad) (told_is c packets_limit text full)
-        ∙ sym (ap (λ b. (cond b (read_by c full (ended_lines (take packets_limit text))) (read_by c full (numbered_lines 1 text))).bad) parts.0) ∙ parts.1
+        ∙ sym (ap (λ (ls : List (ℕ × List ℕ)). (read_by c full ls).bad) (within_short packets_limit text (ltb-false packets_limit (length text) parts.0))) ∙ parts.1
 
     by : (full : Option ℕ) → RunsSo watch.Answers files c packets_limit text full h.1 h.2 g → Simulated files packets c g
     by full so = of full so (status_done (ltb packets_limit (length text)) (bad_within c full packets_limit text) (sym (ap (λ (x : Given). x.status) so.given_is) ∙ done))

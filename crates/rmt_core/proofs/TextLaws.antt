@@ -15,7 +15,7 @@ use Rattle.rmt_core.specs.declared.texts.TextFault.{TextFault}
 use Rattle.rmt_core.specs.declared.texts.TextFault.TheVariants.{NoMemory, BadProgram, BadEntries}
 use Rattle.rmt_core.specs.Given.{Given, told}
 use Rattle.rmt_core.specs.Ends.{Answered, AreSame, Outside, PrintsAll}
-use Rattle.rmt_core.specs.Printing.{GainedFront}
+use Rattle.rmt_runs.specs.Printing.{GainedFront}
 use Rattle.rmt_core.specs.Telling.{Tells}
 use Rattle.rmt_core.specs.Texts.{OfEntries, Understands, bad_entries_line, bad_program_line}
 use Rattle.rmt_core.specs.TextFaults.{text_fault_line, text_fault_status}

@@ -21,11 +21,11 @@ use Rattle.rmt_core.specs.declared.watch.Watch.TheVariants as watch
 use Rattle.rmt_core.specs.ChipText.{flying_below, lines_of}
 use Rattle.rmt_core.specs.Running.{Goes, line_if}
 use Rattle.rmt_core.specs.SimText.{answer_lines}
-use Rattle.rmt_core.specs.Waiting.{Written}
+use Rattle.rmt_runs.specs.Waiting.{Written}
 use Rattle.rmt_core.proofs.AnswerLaws.{given_more}
 use Rattle.rmt_core.proofs.ChipTextLaws.{added, lines_more, starts}
 use Rattle.rmt_core.proofs.FlightLaws.{enters, flight_more, left_few}
-use Rattle.rmt_core.proofs.WaitingLaws.{written_more, written_none, written_on}
+use Rattle.rmt_runs.proofs.WaitingLaws.{written_more, written_none, written_on}
 
 line_left : (n : ℕ) (o : Option Outcome) (left : Option Verdict) (bytes : List ℕ) → AnswersIf o left bytes → line_if n left bytes ≡ answer_lines n (option_to_list o)
 line_left n None None bytes h = refl

@@ -6,7 +6,7 @@ use Rattle.rmt_core.specs.declared.status.Status.{Status}
 use Rattle.rmt_core.specs.declared.status.Status.TheVariants.{Done, Usage, ReadFault, WriteFault, BadProgram, BadEntries, NoFit, BadImage, BadPackets, TooLong, NoMemory}
 use Rattle.rmt_core.specs.Files.{Files, Write, all_written}
 use Rattle.rmt_core.specs.Given.{Given}
-use Rattle.rmt_core.specs.Printing.{GainedFront}
+use Rattle.rmt_runs.specs.Printing.{GainedFront}
 
 -- what is seen of the outside at once: a shelf and a sink
 pub record Outside : Type 0 where

@@ -5,7 +5,6 @@ pub mod Files
 pub mod Given
 pub mod Ends
 pub mod Writing
-pub mod Printing
 pub mod Texts
 pub mod Placers
 pub mod MapFiles
@@ -15,7 +14,6 @@ pub mod NoFitText
 pub mod Runs
 pub mod EventText
 pub mod RunEnd
-pub mod Waiting
 pub mod SimText
 pub mod ProbeText
 pub mod Watching
@@ -37,8 +35,6 @@ pub mod Gives
 pub mod FilesRead
 pub mod Headline
 pub mod Running
-pub mod Pieces
-pub mod ReadsOn
 pub mod Loading
 pub mod Telling
 pub mod TextFaults

@@ -1,5 +1,5 @@
 -- A plain run over a packet text that may change entries.
-use Rattle.std.specs.Prelude.{◌≡◌, ◌<◌, ℕ, List, Option, None, Some, All, length}
+use Rattle.std.specs.Prelude.{◌≡◌, ◌<◌, ℕ, List, [], ◌∷◌, ◌++◌, Option, None, Some, All, length}
 use Rattle.rmt_io.specs.Outside.{SinkState}
 use Rattle.rmt_core.specs.Types.{Program}
 use Rattle.rmt_ast.specs.declared.entry.Entry.{Entry}
@@ -10,15 +10,17 @@ use Rattle.rmt_ast.specs.Naming.{names_of}
 use Rattle.rmt_plain.specs.Stands.{HasTaken, entries_after, entries_in}
 use Rattle.rmt_refine.specs.Fit.{AreFitChanges}
 use Rattle.rmt_update.specs.Stands.{Stands}
+use Rattle.rmt_runs.specs.Cuts.{Cut}
+use Rattle.rmt_runs.specs.declared.fault.RunFault.{RunFault}
 use Rattle.rmt_core.specs.declared.plain_run.PlainRun.{PlainRun}
-use Rattle.rmt_core.specs.declared.run_end.Bad.{Bad}
-use Rattle.rmt_core.specs.EventText.{EventReading, with_bad}
+use Rattle.rmt_runs.specs.declared.fault.Bad.{Bad}
+use Rattle.rmt_core.specs.EventText.{EventReading, events_of, with_bad}
 use Rattle.rmt_core.specs.Files.{Files}
 use Rattle.rmt_core.specs.Given.{Given, Opens}
 use Rattle.rmt_core.specs.PlainText.{RunsPlain, plain_lines}
 use Rattle.rmt_core.specs.RunEnd.{bad_line}
 use Rattle.rmt_core.specs.Texts.{Understands}
-use Rattle.rmt_core.specs.Waiting.{Written}
+use Rattle.rmt_runs.specs.Waiting.{Written}
 
 -- the entries as the commits of a text leave them
 abbrev pub committed_by : List (List Entry) → EventReading → Installed
@@ -51,6 +53,16 @@ pub record Goes (p : Program) (lists : List (List Entry)) (said : EventReading) 
 abbrev pub Leaves : Program → List (List Entry) → ℕ → EventReading → EventReading → PlainRun → SinkState → SinkState → Option ℕ → Type 0
 Leaves p lists number said next run before now None = Goes p lists next run before now
 Leaves p lists number said next run before now (Some code) = (next ≡ with_bad number code said) × Goes p lists said run before now
+
+-- A run of a program with its entries over these lines, of which none is bad; one whose next line is bad by this code; and one that was cut off at its next line.
+abbrev pub StandsOver : Program × List (List Entry) → List (ℕ × List ℕ) → PlainRun → SinkState → SinkState → Type 0
+StandsOver x lines run before now = Goes x.0 x.1 (events_of x.0 x.1 lines) run before now
+
+abbrev pub StopsOver : Program × List (List Entry) → List (ℕ × List ℕ) → ℕ × List ℕ → ℕ → PlainRun → SinkState → SinkState → Type 0
+StopsOver x lines line code run before now = (events_of x.0 x.1 (lines ++ line ∷ []) ≡ with_bad line.0 code (events_of x.0 x.1 lines)) × StandsOver x lines run before now
+
+abbrev pub BreaksOver : Program × List (List Entry) → List (ℕ × List ℕ) → ℕ × List ℕ → SinkState → SinkState → RunFault → Type 0
+BreaksOver x lines line before now fault = Cut (event_lines x.0 x.1 (events_of x.0 x.1 (lines ++ line ∷ [])).events) before now fault
 
 -- what was read of a text, and the bad line that ended it, if one did
 abbrev pub ended_at : Option Bad → EventReading → EventReading

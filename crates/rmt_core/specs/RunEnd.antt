@@ -2,12 +2,12 @@
 use Rattle.std.specs.Prelude.{◌≡◌, ◌≢◌, ◌≤◌, ◌<◌, ℕ, List, [], Option, Some, None, option_map, length}
 use Rattle.rmt_io.specs.Outside.{SinkState}
 use Rattle.rmt_packets.specs.PacketText.{BadLine}
-use Rattle.rmt_core.specs.declared.run_end.Bad.{Bad}
-use Rattle.rmt_core.specs.declared.run_end.RunFault.{RunFault}
-use Rattle.rmt_core.specs.declared.run_end.RunFault.TheVariants.{NoMemory, Write, Read, TooLong}
+use Rattle.rmt_runs.specs.declared.fault.Bad.{Bad}
+use Rattle.rmt_runs.specs.declared.fault.RunFault.{RunFault}
+use Rattle.rmt_runs.specs.declared.fault.RunFault.TheVariants.{NoMemory, Write, Read, TooLong}
 use Rattle.rmt_core.specs.declared.status.Status.{Status}
 use Rattle.rmt_core.specs.declared.status.Status.TheVariants as status
-use Rattle.rmt_core.specs.Printing.{GainedFront}
+use Rattle.rmt_runs.specs.Printing.{GainedFront}
 use Rattle.rmt_core.specs.Runs.{Way, said_within, told_within}
 
 -- a bad line, as the definition of packet texts has it
@@ -28,11 +28,6 @@ status_of_end (Some bad) = status.BadPackets
 pub record ReadsAllBy {X : Type 0} (way : Way X) (limit : ℕ) (text : List ℕ) (said : X) : Type 0 where
   pub says : said_within way limit text ≡ said
   pub ends : way.bad said ≡ None → length text ≤ limit
-
--- A run was cut off: a front of these lines was printed, and a fault of the sink comes only where there are lines.
-pub record Cut (lines : List ℕ) (before now : SinkState) (fault : RunFault) : Type 0 where
-  pub front : GainedFront before now lines
-  pub some : fault ≡ Write → lines ≢ []
 
 -- A run over a text ended early: a front of what the text gives was printed, a fault of the sink comes only where that is something, and TooLong only of a text that goes
 -- on behind its limit and has no bad line within it.

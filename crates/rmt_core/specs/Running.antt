@@ -25,8 +25,8 @@ use Rattle.rmt_update.specs.Stands.{Stands as ListsStand}
 use Rattle.rmt_update.specs.declared.book.plan.Plan.{Plan}
 use Rattle.rmt_update.specs.declared.fault.UpdateFault.{UpdateFault}
 use Rattle.rmt_update.specs.declared.fault.UpdateFault.TheVariants.{NoMemory, LoadFull}
-use Rattle.rmt_core.specs.declared.run_end.RunFault.{RunFault}
-use Rattle.rmt_core.specs.declared.run_end.RunFault.TheVariants as fault
+use Rattle.rmt_runs.specs.declared.fault.RunFault.{RunFault}
+use Rattle.rmt_runs.specs.declared.fault.RunFault.TheVariants as fault
 use Rattle.rmt_core.specs.declared.running.commits.Commits.{Commits}
 use Rattle.rmt_core.specs.declared.running.state.Run.{Run}
 use Rattle.rmt_core.specs.declared.running.turn.Cycle.{Cycle}
@@ -40,10 +40,11 @@ use Rattle.rmt_core.specs.ChipText.{lines_of}
 use Rattle.rmt_core.specs.EventText.{EventReading, with_bad, with_commit}
 use Rattle.rmt_core.specs.Files.{Files, packets_limit}
 use Rattle.rmt_core.specs.Given.{Given, Opens}
-use Rattle.rmt_core.specs.Printing.{GainedFront}
-use Rattle.rmt_core.specs.RunEnd.{Cut, ReadsAllBy}
+use Rattle.rmt_runs.specs.Printing.{GainedFront}
+use Rattle.rmt_runs.specs.Cuts.{Cut}
+use Rattle.rmt_core.specs.RunEnd.{ReadsAllBy}
 use Rattle.rmt_core.specs.Simulating.{Spelled}
-use Rattle.rmt_core.specs.Waiting.{Written}
+use Rattle.rmt_runs.specs.Waiting.{Written}
 
 -- ---- cycle by cycle
 
@@ -182,6 +183,16 @@ pub record BreaksRun (watch : Watch) (files : Files) (c : Config) (limit : ℕ) 
   pub front : GainedFront before now given.text
   pub some : f ≡ fault.Write → given.text ≡ [] → ⊥
   pub long : f ≡ fault.TooLong → given.status ≡ TooLong
+
+-- A run with its chip over these lines, of which none is bad; one whose next line is bad by this code; and one that was cut off at its next line.
+abbrev pub StandsOver : Watch × Config → List (ℕ × List ℕ) → Run → Chip → Option Commits → SinkState → SinkState → Type 0
+StandsOver x lines run chip commits before now = Follows x.0 x.1 (read_by x.1 None lines) run chip commits before now
+
+abbrev pub StopsOver : Watch × Config → List (ℕ × List ℕ) → ℕ × List ℕ → ℕ → Run → Chip → SinkState → SinkState → Type 0
+StopsOver x lines line code run chip before now = ((read_by x.1 None lines).bad ≡ None) × Stopped x.0 x.1 line.0 line.1 (read_by x.1 None lines) code run chip before now
+
+abbrev pub BreaksOver : Watch × Config → List (ℕ × List ℕ) → ℕ × List ℕ → SinkState → SinkState → RunFault → Type 0
+BreaksOver x lines line before now f = ((read_by x.1 None lines).bad ≡ None) × LeftOff x.0 x.1 line.0 line.1 (read_by x.1 None lines) before now f
 
 -- the lines of the open file taken, up to its end or its first bad line; what they are is known where the shelf tells its files
 pub record Taken (watch : Watch) (c : Config) (limit : ℕ) (shelf : ShelfState) (bad : Option BadLine) (run : Run) (chip : Chip) (before now : SinkState) : Type 0 where

@@ -1,9 +1,9 @@
 -- What a packet text of which so many bytes may be read gives, and how a run over it ends.
-use Rattle.std.specs.Prelude.{◌≡◌, ℕ, Bool, List, ◌++◌, codes, Option, Some, None, if◌then◌else◌, length, nat_lt, take}
+use Rattle.std.specs.Prelude.{◌≡◌, ℕ, Bool, List, ◌++◌, codes, Option, Some, None, if◌then◌else◌, length, nat_lt}
 use Rattle.std.specs.Fmt.{decimal}
 use Rattle.rmt_bits.specs.Lines.{numbered_lines}
 use Rattle.rmt_packets.specs.PacketText.{BadLine}
-use Rattle.rmt_packets.specs.Pieces.{ended_lines}
+use Rattle.rmt_runs.specs.TextLines.{lines_within}
 use Rattle.rmt_core.specs.declared.status.Status.{Status}
 use Rattle.rmt_core.specs.declared.status.Status.TheVariants.{Done, BadPackets, TooLong}
 use Rattle.rmt_core.specs.Files.{Files}
@@ -20,7 +20,7 @@ pub record Way (X : Type 0) : Type 0 where
 
 -- what is read of a text: all of it, or the lines that end within the limit
 abbrev pub said_within : {X : Type 0} → Way X → ℕ → List ℕ → X
-said_within way limit text = if nat_lt limit (length text) then way.read (ended_lines (take limit text)) else way.read (numbered_lines 1 text)
+said_within way limit text = way.read (lines_within limit text)
 
 -- a bad line that is read ends a run with BadPackets; else a text that is too long with TooLong
 abbrev pub run_status : Bool → Option BadLine → Status

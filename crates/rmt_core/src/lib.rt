@@ -17,7 +17,6 @@ mod placing;
 mod plain;
 mod plain_run;
 mod printing;
-mod reader;
 mod reporting;
 mod run_end;
 pub mod running;
@@ -31,7 +30,6 @@ mod texts;
 pub mod top;
 mod vectors;
 mod verifying;
-mod waiting;
 mod watch;
 mod writing;
 

@@ -1,6 +1,6 @@
 //! Running a program table by table over a packet text, whose lines may change its entries.
 
-ghost use Rattle.std.specs.Prelude.{◌≡◌, ◌≢◌, ◌≤◌, ◌⊎◌, List, [], IsTrue, IfOk, IfErr, IsErrOf};
+ghost use Rattle.std.specs.Prelude.{◌≡◌, ◌≢◌, ◌≤◌, ◌⊎◌, List, [], IsTrue, IfOk};
 ghost use Rattle.rmt_ast.specs.declared.program.Program.{Program};
 ghost use Rattle.rmt_ast.specs.declared.entry.Entry.{Entry};
 ghost use Rattle.rmt_ast.specs.Events.{Event};
@@ -11,22 +11,22 @@ ghost use Rattle.rmt_core.specs.Ends.{Answered, outside};
 ghost use Rattle.rmt_core.specs.EventText.{EventReading, unread, with_changes};
 ghost use Rattle.rmt_core.specs.PlainRunning.{Goes, ended_at};
 ghost use Rattle.rmt_core.specs.PlainText.{plain_end, plain_text};
-ghost use Rattle.rmt_core.specs.Printing.{GainedFront};
-ghost use Rattle.rmt_core.specs.RunEnd.{BreaksBy, ReadsAllBy, bad_line, status_of_end};
+ghost use Rattle.rmt_runs.specs.Printing.{GainedFront};
+ghost use Rattle.rmt_core.specs.RunEnd.{bad_line, status_of_end};
 ghost use Rattle.rmt_core.specs.Runs.{RunsBy};
 
 pub mod begin;
 mod line;
 
 use crate::count_lines::count_lines;
-use crate::plain_run::line::take_line;
-use crate::reader::PacketReader;
-use crate::run_end::{Bad, RunFault, bad_text, end_status, fault_of_step, fault_status};
+use crate::run_end::{bad_text, end_run, fault_status};
 use crate::status::Status;
-use crate::waiting::Waiting;
 use rmt_io::shelf::Shelf;
 use rmt_io::sink::Sink;
 use rmt_plain::plain::Plain;
+use rmt_runs::fault::Bad;
+use rmt_runs::lines::take_all;
+use rmt_runs::waiting::Waiting;
 use rmt_update::lists::Lists;
 use std::alloc::{AllocError, Global};
 
@@ -38,55 +38,6 @@ pub struct PlainRun {
     pub lists: Lists,
     pub answered: u64,
     pub waiting: Waiting,
-}
-
-/// Takes the lines of the shelf's open file, up to its end or its first bad line.
-fn take_all<F: Shelf, O: Sink>(
-    alloc: Global,
-    shelf: &mut F,
-    limit: u64,
-    run: &mut PlainRun,
-    out: &mut O,
-) -> Result<Option<Bad>, RunFault>
-    requires limit { limit ≤ 1099511627776 }
-    requires starts { (p : Program) × (lists : List (List Entry))
-        × Goes p lists (unread p lists) run.old (O.state out.old) (O.state out.old) }
-    ensures ok { IfOk result
-        (λ bad. IsTrue (F.state shelf.old).tells → (p : Program) (lists : List (List Entry)) →
-        Goes p lists (unread p lists) run.old (O.state out.old) (O.state out.old) →
-        (said : EventReading)
-        × ReadsAllBy (with_changes p lists) limit (F.state shelf.old).rest (ended_at bad said)
-        × Goes p lists said run.new (O.state out.old) (O.state out.new)) }
-    ensures broken { IfErr result
-        (λ fault. IsTrue (F.state shelf.old).tells → (p : Program) (lists : List (List Entry)) →
-        Goes p lists (unread p lists) run.old (O.state out.old) (O.state out.old) →
-        BreaksBy (with_changes p lists) (plain_text p lists) limit (F.state shelf.old).rest
-        (O.state out.old) (O.state out.new) fault) }
-    ensures write_fault { IsErrOf result RunFault.Write →
-        PrintingFailed (O.state out.old) (O.state out.new) }
-    ensures read_fault { IsErrOf result RunFault.Read →
-        ReadingFailed (F.state shelf.old) (F.state shelf.new) }
-    ensures never_fails { IsErrOf result RunFault.Read → IsTrue (F.state shelf.old).steady → ⊥ }
-    ensures only_read { OnlyRead (F.state shelf.old) (F.state shelf.new) }
-    ensures only_printed { OnlyPrinted (O.state out.old) (O.state out.new) }
-{
-    let Ok(mut reader) = PacketReader::new(alloc, limit) else {
-        return Err(RunFault::NoMemory);
-    };
-    let mut frame = Vec::new(alloc);
-    loop {
-        match reader.next_line(shelf) {
-            Ok(true) => {}
-            Ok(false) => return Ok(None),
-            Err(fault) => return Err(fault_of_step(fault)),
-        }
-        let line = reader.number();
-        match take_line(alloc, run, reader.line(), &mut frame, out) {
-            Ok(None) => {}
-            Ok(Some(code)) => return Ok(Some(Bad { code, line })),
-            Err(fault) => return Err(fault),
-        }
-    }
 }
 
 /// What stands behind the answers: the counters, or the last line for a bad line.
@@ -125,7 +76,7 @@ fn finish<O: Sink>(alloc: Global, run: &PlainRun, bad: Option<Bad>, out: &mut O)
     ensures only_printed { OnlyPrinted (O.state out.old) (O.state out.new) }
 {
     match last_text(alloc, &run.plain, bad) {
-        Ok(last) => run.waiting.end(last.as_slice(), end_status(bad), out),
+        Ok(last) => end_run(&run.waiting, last.as_slice(), bad, out),
         Err(_) => Status::NoMemory,
     }
 }

@@ -1,47 +1,16 @@
 //! How a run over a packet text ends.
 
-ghost use Rattle.std.specs.Prelude.{◌≡◌, ◌≢◌, ◌↔◌, IfOk, string_bytes};
+ghost use Rattle.std.specs.Prelude.{◌≡◌, ◌≢◌, ◌⊎◌, ◌++◌, [], IfOk, string_bytes};
+ghost use Rattle.rmt_io.specs.Outside.{Gained, PrintingFailed, OnlyPrinted};
+ghost use Rattle.rmt_runs.specs.Printing.{GainedFront};
 ghost use Rattle.rmt_core.specs.Runs.{bad_packets_line};
 ghost use Rattle.rmt_core.specs.RunEnd.{status_of_fault, status_of_end};
 
-use crate::reader::StepFault;
 use crate::status::Status;
+use rmt_io::sink::Sink;
+use rmt_runs::fault::{Bad, RunFault};
+use rmt_runs::waiting::Waiting;
 use std::alloc::{AllocError, Global};
-
-/// Why a run ended before the end of its text and before a bad line.
-#[derive(Clone, Copy, Debug, PartialEq, Eq)]
-pub enum RunFault {
-    NoMemory,
-    /// The sink failed.
-    Write,
-    /// The shelf failed.
-    Read,
-    /// The text has more bytes than may be read.
-    TooLong,
-}
-
-/// A bad line of a packet text.
-#[derive(Clone, Copy, Debug, PartialEq, Eq)]
-pub struct Bad {
-    /// What is bad about it, 1 to 3.
-    pub code: u8,
-    /// Its number, counted from 1.
-    pub line: u64,
-}
-
-/// Why a run ends where its reader does.
-pub fn fault_of_step(fault: StepFault) -> RunFault
-    ensures no_memory { (result ≡ RunFault.NoMemory) ↔ (fault ≡ StepFault.NoMemory) }
-    ensures read { (result ≡ RunFault.Read) ↔ (fault ≡ StepFault.Read) }
-    ensures too_long { (result ≡ RunFault.TooLong) ↔ (fault ≡ StepFault.TooLong) }
-    ensures never_write { result ≢ RunFault.Write }
-{
-    match fault {
-        StepFault::NoMemory => RunFault::NoMemory,
-        StepFault::Read => RunFault::Read,
-        StepFault::TooLong => RunFault::TooLong,
-    }
-}
 
 /// The status of a run that ended early.
 pub fn fault_status(fault: RunFault) -> Status
@@ -62,6 +31,25 @@ pub fn end_status(bad: Option<Bad>) -> Status
     match bad {
         None => Status::Done,
         Some(_) => Status::BadPackets,
+    }
+}
+
+/// Writes the lines that wait and a last text behind them, and answers the status of the end of a run; where the sink
+/// fails, it is `WriteFault`.
+pub fn end_run<O: Sink>(waiting: &Waiting, last: &[u8], bad: Option<Bad>, out: &mut O) -> Status
+    ensures status { (result ≡ status_of_end bad) ⊎ (result ≡ Status.WriteFault) }
+    ensures printed { result ≡ status_of_end bad →
+        Gained (O.state out.old) (O.state out.new) (waiting.now.lines.items ++ last.now) }
+    ensures front { GainedFront (O.state out.old) (O.state out.new)
+        (waiting.now.lines.items ++ last.now) }
+    ensures some { result ≡ Status.WriteFault → waiting.now.lines.items ++ last.now ≢ [] }
+    ensures failed { result ≡ Status.WriteFault →
+        PrintingFailed (O.state out.old) (O.state out.new) }
+    ensures only_printed { OnlyPrinted (O.state out.old) (O.state out.new) }
+{
+    match waiting.end(last, out) {
+        Ok(()) => end_status(bad),
+        Err(_) => Status::WriteFault,
     }
 }
 

@@ -14,21 +14,22 @@ mod commit;
 pub mod commits;
 mod finish;
 mod line;
-mod lines;
 mod state;
+mod taker;
 mod turn;
 mod wait;
 
 use crate::run_end::fault_status;
 use crate::running::commits::Commits;
 use crate::running::finish::finish;
-use crate::running::lines::take_all;
 use crate::running::state::start;
+use crate::running::taker::ChipTaker;
 use crate::status::Status;
 use crate::watch::Watch;
 use rmt_chip::chip::Chip;
 use rmt_io::shelf::Shelf;
 use rmt_io::sink::Sink;
+use rmt_runs::lines::take_all;
 use std::alloc::Global;
 
 /// Reads the packet text from the place in the shelf's open file on, of which `limit` bytes may be read, clocks the chip,
@@ -101,7 +102,12 @@ pub fn run_watched<F: Shelf, O: Sink>(
     let Ok(mut run) = start(alloc, watch) else {
         return Status::NoMemory;
     };
-    match take_all(alloc, shelf, limit, chip, commits, &mut run, out) {
+    let mut taker = ChipTaker {
+        chip: &mut *chip,
+        commits,
+        run: &mut run,
+    };
+    match take_all(alloc, shelf, limit, &mut taker, out) {
         Ok(bad) => finish(alloc, chip, &mut run, bad, out),
         Err(fault) => fault_status(fault),
     }

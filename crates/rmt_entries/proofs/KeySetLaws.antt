@@ -1,5 +1,5 @@
 -- What one more list changes in a set of lists of numbers.
-use Rattle.std.proofs.Common.{◌≡◌, ◌≢◌, ◌<◌, ◌≤◌, ℕ, zero, suc, ◌+◌, ◌-◌, ◌==◌, ◌&&◌, ◌||◌, Bool, true, false, not, cond, List, [], ◌∷◌, ◌++◌, Vec, length, drop, get_or, replicate, slice_set, refl, sym, ap, subst, ◌∙◌, inl, inr, arith}
+use Rattle.std.proofs.Common.{◌≡◌, ◌≢◌, ◌<◌, ◌≤◌, ℕ, zero, suc, ◌+◌, ◌-◌, ◌*◌, ◌==◌, ◌&&◌, ◌||◌, Bool, true, false, not, cond, List, [], ◌∷◌, ◌++◌, Vec, length, drop, get_or, replicate, slice_set, refl, sym, ap, subst, ◌∙◌, inl, inr, arith}
 use Rattle.std.specs.Global.{Global}
 use Rattle.std.specs.Str.{bytes_eq}
 use Rattle.std.specs.BTreeSet.{BTreeSet, Updates, contains}
@@ -13,7 +13,7 @@ use Rattle.std.proofs.Math.Seq.{drop-append-add, get_or-append_seam, take-length
 use Rattle.rmt_bits.proofs.FunctionLaws.{bytes_eq-sym}
 use Rattle.rmt_entries.specs.declared.key_set.Spot.{Spot}
 use Rattle.rmt_entries.specs.declared.key_set.Spot.TheVariants.{Free, Held, Crowded}
-use Rattle.rmt_entries.specs.KeySets.{IsWhole, KeySet, Stands, by_numbers, holds, home, is_at, is_near, is_there, list_at, near, place_of, spot_in, spot_of}
+use Rattle.rmt_entries.specs.KeySets.{IsWhole, KeySet, Stands, apart, by_numbers, holds, home, is_at, is_near, is_there, list_at, near, place_of, spot_in, spot_of}
 
 -- ---- lists behind their lengths
 
@@ -54,7 +54,7 @@ pub spot_held : (slots held : List ℕ) (count place : ℕ) (key : List ℕ) →
 unfolding spot_of
 spot_held slots held count place key f t = rw (f, t) refl
 
-pub spot_next : (slots held : List ℕ) (count place : ℕ) (key : List ℕ) → (get_or slots place 0 == 0) ≡ false → bytes_eq key (list_at held (get_or slots place 0 - 1)) ≡ false → spot_of slots held (suc count) place key ≡ spot_of slots held count (place + 1) key
+pub spot_next : (slots held : List ℕ) (count place : ℕ) (key : List ℕ) → (get_or slots place 0 == 0) ≡ false → bytes_eq key (list_at held (get_or slots place 0 - 1)) ≡ false → spot_of slots held (suc count) place key ≡ spot_of slots held count (place + apart) key
 unfolding spot_of
 spot_next slots held count place key f g = rw (f, g) refl
 
@@ -67,7 +67,7 @@ pub held_here : (slots held : List ℕ) (left place : ℕ) (key : List ℕ) → 
 held_here slots held zero place key some h t = absurd (omega (arith, some))
 held_here slots held (suc n) place key some h t = spot_held slots held n place key (below h) t
 
-pub not_here : (slots held : List ℕ) (left place : ℕ) (key : List ℕ) → 0 < left → get_or slots place 0 ≢ 0 → bytes_eq key (list_at held (get_or slots place 0 - 1)) ≡ false → spot_of slots held left place key ≡ spot_of slots held (left - 1) (place + 1) key
+pub not_here : (slots held : List ℕ) (left place : ℕ) (key : List ℕ) → 0 < left → get_or slots place 0 ≢ 0 → bytes_eq key (list_at held (get_or slots place 0 - 1)) ≡ false → spot_of slots held left place key ≡ spot_of slots held (left - 1) (place + apart) key
 not_here slots held zero place key some h f = absurd (omega (arith, some))
 not_here slots held (suc n) place key some h f =
     let left : suc n - 1 ≡ n = omega arith in
@@ -101,7 +101,7 @@ held_near slots held (suc n) place key e = elim (cases_Bool (get_or slots place 
   | inl t ↦ absurd (false≢true (ap is_held (sym (spot_free slots held n place key t) ∙ e)))
   | inr f ↦ elim (cases_Bool (bytes_eq key (list_at held (get_or slots place 0 - 1)))) [
     | inl u ↦ rw (f, u) refl
-    | inr g ↦ rw (f, g) (held_near slots held n (place + 1) key (sym (spot_next slots held n place key f g) ∙ e))
+    | inr g ↦ rw (f, g) (held_near slots held n (place + apart) key (sym (spot_next slots held n place key f g) ∙ e))
   ]
 ]
 
@@ -113,12 +113,12 @@ crowded_near slots held (suc n) place key e = elim (cases_Bool (get_or slots pla
   | inl t ↦ absurd (false≢true (sym (ap is_free (sym (spot_free slots held n place key t) ∙ e))))
   | inr f ↦ elim (cases_Bool (bytes_eq key (list_at held (get_or slots place 0 - 1)))) [
     | inl u ↦ absurd (false≢true (sym (ap is_held (sym (spot_held slots held n place key f u) ∙ e))))
-    | inr g ↦ rw (f, g) (crowded_near slots held n (place + 1) key (sym (spot_next slots held n place key f g) ∙ e))
+    | inr g ↦ rw (f, g) (crowded_near slots held n (place + apart) key (sym (spot_next slots held n place key f g) ∙ e))
   ]
 ]
 
 -- a free place is one of those
-pub free_place : (slots held : List ℕ) (count place : ℕ) (key : List ℕ) (at : ℕ) → spot_of slots held count place key ≡ Free at → (get_or slots at 0 ≡ 0) × (at < place + count)
+pub free_place : (slots held : List ℕ) (count place : ℕ) (key : List ℕ) (at : ℕ) → spot_of slots held count place key ≡ Free at → (get_or slots at 0 ≡ 0) × (at < place + apart * count)
 unfolding spot_of
 free_place slots held zero place key at e = absurd (false≢true (ap is_free e))
 free_place slots held (suc n) place key at e = elim (cases_Bool (get_or slots place 0 == 0)) [
@@ -128,16 +128,16 @@ free_place slots held (suc n) place key at e = elim (cases_Bool (get_or slots pl
   | inr f ↦ elim (cases_Bool (bytes_eq key (list_at held (get_or slots place 0 - 1)))) [
     | inl u ↦ absurd (false≢true (ap is_free (sym (spot_held slots held n place key f u) ∙ e)))
     | inr g ↦
-        let rest = free_place slots held n (place + 1) key at (sym (spot_next slots held n place key f g) ∙ e) in
+        let rest = free_place slots held n (place + apart) key at (sym (spot_next slots held n place key f g) ∙ e) in
         (rest.0, omega (arith, rest.1))
   ]
 ]
 
 -- all places of a list are there
-pub home_room : (slots key : List ℕ) → near < length slots → home slots key + near ≤ length slots
+pub home_room : (slots key : List ℕ) → near * apart < length slots → home slots key + near * apart ≤ length slots
 home_room slots key some =
-    let places : 0 < length slots - near = omega (arith, some) in
-    let within : home slots key < length slots - near = mod-lt _ places in
+    let places : 0 < length slots - near * apart = omega (arith, some) in
+    let within : home slots key < length slots - near * apart = mod-lt _ places in
     omega (arith, within, some)
 
 -- where a list belongs, as a call sees it
@@ -152,8 +152,8 @@ module _ (slots held rest : List ℕ) (whole : IsWhole slots held) where
   unfolding is_near
   near_more zero p q = refl
   near_more (suc n) p q =
-      ap (λ (b : Bool). b || is_near slots (held ++ rest) n (p + 1) q) (is_at_kept held rest (get_or slots p 0) q (whole p))
-      ∙ ap (λ (b : Bool). is_at held (get_or slots p 0) q || b) (near_more n (p + 1) q)
+      ap (λ (b : Bool). b || is_near slots (held ++ rest) n (p + apart) q) (is_at_kept held rest (get_or slots p 0) q (whole p))
+      ∙ ap (λ (b : Bool). is_at held (get_or slots p 0) q || b) (near_more n (p + apart) q)
 
   pub spot_more : (count p : ℕ) (q : List ℕ) → spot_of slots (held ++ rest) count p q ≡ spot_of slots held count p q
   unfolding spot_of
@@ -163,7 +163,7 @@ module _ (slots held rest : List ℕ) (whole : IsWhole slots held) where
     | inr f ↦
         let some = above (get_or slots p 0) f in
         let list : list_at (held ++ rest) (get_or slots p 0 - 1) ≡ list_at held (get_or slots p 0 - 1) = list_at_kept held rest (get_or slots p 0 - 1) (omega (arith, whole p some, some)) in
-        rw (list, spot_more n (p + 1) q) refl
+        rw (list, spot_more n (p + apart) q) refl
   ]
 
 pub stands_more : (slots held rest : List ℕ) (crowded : BTreeSet (Vec ℕ Global)) → Stands slots held crowded → Stands slots (held ++ rest) crowded
@@ -231,8 +231,8 @@ module _ (slots held : List ℕ) (whole : IsWhole slots held) (key : List ℕ) (
   unfolding is_near
   near_kept zero p q h = refl
   near_kept (suc n) p q h =
-      ap (λ (b : Bool). b || is_near filled more n (p + 1) q) (slot_kept p q h)
-      ∙ ap (λ (b : Bool). is_at held (get_or slots p 0) q || b) (near_kept n (p + 1) q h)
+      ap (λ (b : Bool). b || is_near filled more n (p + apart) q) (slot_kept p q h)
+      ∙ ap (λ (b : Bool). is_at held (get_or slots p 0) q || b) (near_kept n (p + apart) q h)
 
   spot_at : (n : ℕ) → spot_of filled more (suc n) place key ≡ Held
   spot_at n =
@@ -257,7 +257,7 @@ module _ (slots held : List ℕ) (whole : IsWhole slots held) (key : List ℕ) (
           | inl u ↦ absurd (false≢true (ap is_free (sym (spot_held slots held n p key f u) ∙ e)))
           | inr g ↦
               spot_next filled more n p key some (ap (bytes_eq key) list ∙ g)
-              ∙ spot_put n (p + 1) (sym (spot_next slots held n p key f g) ∙ e)
+              ∙ spot_put n (p + apart) (sym (spot_next slots held n p key f g) ∙ e)
         ]
   ]
 
@@ -275,7 +275,7 @@ module _ (slots held : List ℕ) (whole : IsWhole slots held) (key : List ℕ) (
           | inl u ↦ ap (is_there others) (spot_held filled more n p q some (ap (bytes_eq q) list ∙ u))
           | inr g ↦
               ap (is_there others) (spot_next filled more n p q some (ap (bytes_eq q) list ∙ g))
-              ∙ there_kept others n (p + 1) q (ap (is_there others) (sym (spot_next slots held n p q f g)) ∙ h)
+              ∙ there_kept others n (p + apart) q (ap (is_there others) (sym (spot_next slots held n p q f g)) ∙ h)
         ]
   ]
 
@@ -336,7 +336,7 @@ module _ (slots held : List ℕ) (crowded : BTreeSet (Vec ℕ Global)) (s : Stan
     held_put = with_list held key.items
 
     same_home : (q : List ℕ) → home slots_put q ≡ home slots q
-    same_home q = ap (λ (n : ℕ). place_of (n - near) q) (length-set slots place (length held + 1))
+    same_home q = ap (λ (n : ℕ). place_of (n - near * apart) q) (length-set slots place (length held + 1))
 
     is_put : (q : List ℕ) → key.items ≡ q → spot_of slots_put held_put near (home slots_put q) q ≡ Held
     is_put q same =
@@ -408,13 +408,13 @@ module _ (slots : List ℕ) (free : (p : ℕ) → get_or slots p 0 ≡ 0) where
   none_near : (count place : ℕ) (key : List ℕ) → is_near slots [] count place key ≡ false
   unfolding is_near
   none_near zero place key = refl
-  none_near (suc n) place key = rw (free place) (none_near n (place + 1) key)
+  none_near (suc n) place key = rw (free place) (none_near n (place + apart) key)
 
   module _ (crowded : BTreeSet (Vec ℕ Global)) (none : (q : Vec ℕ Global) → contains by_numbers crowded q ≡ false) where
     pub holds_none : (q : Vec ℕ Global) → holds slots [] crowded q ≡ false
     holds_none q = rw (none_near near (home slots q.items) q.items) (none q)
 
-    pub stands_empty : near < length slots → Stands slots [] crowded
+    pub stands_empty : near * apart < length slots → Stands slots [] crowded
     stands_empty some = record {
       some = some;
       whole = λ p taken. absurd (taken (free p));

@@ -9,16 +9,17 @@ use Rattle.std.specs.declared.cmp.Ordering.{Ordering}
 use Rattle.rmt_entries.specs.declared.key_set.Spot.{Spot}
 use Rattle.rmt_entries.specs.declared.key_set.Spot.TheVariants.{Free, Held, Crowded}
 
--- a print with one more number
+-- a print with one more number, of which the lowest four bits are those of the number
 abbrev pub spread : ℕ → ℕ
 spread n = bit_xor n (n / 2 ^ 32)
 
 abbrev pub mixed : ℕ → ℕ → ℕ
-mixed print number = spread (((print + number % 2 ^ 64) % 2 ^ 64 + number / 2 ^ 64) % 2 ^ 64 * 11400714819323198485 % 2 ^ 64)
+mixed print number =
+    (spread (((print + number % 2 ^ 64 / 16 * 16) % 2 ^ 64 + number / 2 ^ 64) % 2 ^ 64 * 11400714819323198485 % 2 ^ 64) * 16 % 2 ^ 64 + number % 2 ^ 64 % 16) % 2 ^ 64
 
--- the place of a list among so many
+-- the place of a list among so many; lists whose last numbers differ in the lowest four bits alone stand side by side
 abbrev pub place_of : ℕ → List ℕ → ℕ
-place_of places key = fold mixed 0 key * 13787848793156543929 % 2 ^ 64 / 2 ^ 32 % places
+place_of places key = (fold mixed 0 key / 16 * 13787848793156543929 % 2 ^ 64 / 2 ^ 32 + fold mixed 0 key % 16) % places
 
 -- the list that stands behind its length at a place
 abbrev pub list_at : List ℕ → ℕ → List ℕ
@@ -28,18 +29,21 @@ list_at held at = take (slice_index_or held at 0) (drop (at + 1) held)
 abbrev pub is_at : List ℕ → ℕ → List ℕ → Bool
 is_at held slot key = not (slot == 0) && bytes_eq key (list_at held (slot - 1))
 
--- how many places, one behind another, a list may stand at
+-- how many places a list may stand at, and how far each is behind the one before
 abbrev pub near : ℕ
 near = 8
 
+abbrev pub apart : ℕ
+apart = 16
+
 -- the first of them, where so many follow the last first one
 abbrev pub home : List ℕ → List ℕ → ℕ
-home slots key = place_of (length slots - near) key
+home slots key = place_of (length slots - near * apart) key
 
 -- a list stands at one of so many places from one on
 unfoldable pub is_near : List ℕ → List ℕ → ℕ → ℕ → List ℕ → Bool
 is_near slots held zero place key = false
-is_near slots held (suc count) place key = is_at held (slice_index_or slots place 0) key || is_near slots held count (place + 1) key
+is_near slots held (suc count) place key = is_at held (slice_index_or slots place 0) key || is_near slots held count (place + apart) key
 
 -- where a list belongs, which may stand at so many places from one on: the first that is free, unless it stands before that
 unfoldable pub spot_of : List ℕ → List ℕ → ℕ → ℕ → List ℕ → Spot
@@ -47,7 +51,7 @@ spot_of slots held zero place key = Crowded
 spot_of slots held (suc count) place key =
     if slice_index_or slots place 0 == 0
     then Free place
-    else (if bytes_eq key (list_at held (slice_index_or slots place 0 - 1)) then Held else spot_of slots held count (place + 1) key)
+    else (if bytes_eq key (list_at held (slice_index_or slots place 0 - 1)) then Held else spot_of slots held count (place + apart) key)
 
 -- a list is there that belongs there, where others of its places are in a set that has it or not
 abbrev pub is_there : Bool → Spot → Bool
@@ -79,6 +83,6 @@ IsWhole slots held = (p : ℕ) → slice_index_or slots p 0 ≢ 0 → slice_inde
 
 -- each slot's list is whole, and each list is where it belongs
 pub record Stands (slots held : List ℕ) (crowded : BTreeSet (Vec ℕ Global)) : Type 0 where
-  pub some : near < length slots
+  pub some : near * apart < length slots
   pub whole : IsWhole slots held
   pub found : (key : Vec ℕ Global) → holds slots held crowded key ≡ true → is_there (contains by_numbers crowded key) (spot_of slots held near (home slots key.items) key.items) ≡ true

@@ -1,10 +1,10 @@
 //! A set of lists of numbers. Nearly each has a place of its own, one of a few that are found by its print; an ordered set
 //! has those whose places others took, so that no choice of lists makes it slow.
 
-ghost use Rattle.std.specs.Prelude.{◌≡◌, ◌<◌, ◌≤◌, ◌+◌, ◌++◌, ◌∷◌, ℕ, Bool, List, Vec, cond, false, not, true, length, slice_index_or, IfOk, OnOk};
+ghost use Rattle.std.specs.Prelude.{◌≡◌, ◌<◌, ◌≤◌, ◌+◌, ◌*◌, ◌++◌, ◌∷◌, ℕ, Bool, List, Vec, cond, false, not, true, length, slice_index_or, IfOk, OnOk};
 ghost use Rattle.std.specs.Global.{Global};
 ghost use Rattle.std.specs.Str.{bytes_eq};
-ghost use Rattle.rmt_entries.specs.KeySets.{IsWhole, has, list_at, mixed, near, place_of, spot_in, spot_of};
+ghost use Rattle.rmt_entries.specs.KeySets.{IsWhole, apart, has, list_at, mixed, near, place_of, spot_in, spot_of};
 
 use std::alloc::{AllocError, Global};
 use std::collections::BTreeSet;
@@ -15,8 +15,12 @@ const FIRST_FACTOR: u64 = 11400714819323198485;
 
 const LAST_FACTOR: u64 = 13787848793156543929;
 
-/// How many places, one behind another, a list may stand at.
+/// How many places a list may stand at.
 const NEAR: usize = 8;
+
+/// How far each of them is behind the one before. Lists whose last numbers differ in the lowest four bits alone stand side by
+/// side, so that lists that follow each other share the memory that is looked at; behind places that are taken others follow.
+const APART: usize = 16;
 
 /// A set of lists of numbers. Contracts see whether it has a list.
 #[derive(Drop)]
@@ -49,7 +53,7 @@ impl KeySet {
         ensures { IfOk result (λ set. (key : Vec ℕ Global) → has set key ≡ false) }
     {
         Ok(KeySet {
-            slots: vec![in alloc; 0u32; places.saturating_add(NEAR)]?,
+            slots: vec![in alloc; 0u32; places.saturating_add(NEAR * APART)]?,
             held: Vec::new(alloc),
             crowded: BTreeSet::new(alloc),
         })
@@ -83,7 +87,7 @@ impl KeySet {
     fn spot_of(&self, key: &[u128]) -> Spot
         ensures { result ≡ spot_in self.now key.now }
     {
-        let home = place_of(self.slots.len() - NEAR, key);
+        let home = place_of(self.slots.len() - NEAR * APART, key);
         spot_from(self.slots.as_slice(), self.held.as_slice(), home, key)
     }
 }
@@ -101,7 +105,7 @@ enum Spot {
 
 /// Where a list belongs, the first of whose places is this one.
 fn spot_from(slots: &[u32], held: &[u128], home: usize, key: &[u128]) -> Spot
-    requires room { home + near ≤ length slots.now }
+    requires room { home + near * apart ≤ length slots.now }
     requires whole { IsWhole slots.now held.now }
     ensures { result ≡ spot_of slots.now held.now near home key.now }
 {
@@ -115,23 +119,24 @@ fn spot_from(slots: &[u32], held: &[u128], home: usize, key: &[u128]) -> Spot
         if is_list_at(held, slot as usize - 1, key) {
             return Spot::Held;
         }
-        place += 1;
+        place += APART;
         left -= 1;
     }
     Spot::Crowded
 }
 
-/// A print with one more number.
+/// A print with one more number, of which the lowest four bits are those of the number.
 fn mixed(print: u64, number: u128) -> u64
     ensures { result ≡ mixed print number }
 {
     let low = (number % (1 << 64)) as u64;
     let high = (number >> 64) as u64;
     let product = print
-        .wrapping_add(low)
+        .wrapping_add(low / 16 * 16)
         .wrapping_add(high)
         .wrapping_mul(FIRST_FACTOR);
-    product ^ (product >> 32)
+    let spread = product ^ (product >> 32);
+    spread.wrapping_mul(16).wrapping_add(low % 16)
 }
 
 /// The place of a list among so many.
@@ -144,7 +149,8 @@ pub fn place_of(places: usize, key: &[u128]) -> usize
     for number in key {
         print = mixed(print, *number);
     }
-    ((print.wrapping_mul(LAST_FACTOR) >> 32) % places as u64) as usize
+    let first = (print / 16).wrapping_mul(LAST_FACTOR) >> 32;
+    ((first + print % 16) % places as u64) as usize
 }
 
 /// Adds a list behind its length.

@@ -9,16 +9,16 @@ use Rattle.rmt_image.specs.Types.{Unit as ChipUnit, GateUnit, GateTest, UnitGuar
 use Rattle.rmt_config.specs.declared.config.Unit.TheVariants.{Gate, Slot}
 use Rattle.rmt_config.specs.declared.config.Memory.TheVariants.{Without, Exact, Ternary}
 use Rattle.rmt_config.specs.LaneForm.{lane_is_formed, bits_of_lanes}
-use Rattle.rmt_config.specs.Shapes.{ternary_shape}
-use Rattle.rmt_config.specs.declared.form.shape.Shape.{Shape}
-use Rattle.rmt_config.specs.UnitForm.{guard_is_formed, test_is_formed, gate_is_formed, number_is_formed, slot_head_is_formed, takes_memory, are_sram_blocks, has_shape, may_have_memory, memory_is_formed, slot_is_formed, unit_is_formed}
+use Rattle.rmt_config.specs.BlockCounts.{ternary_block_counts}
+use Rattle.rmt_config.specs.declared.form.block_counts.BlockCounts.{BlockCounts}
+use Rattle.rmt_config.specs.UnitForm.{guard_is_formed, test_is_formed, gate_is_formed, number_is_formed, slot_head_is_formed, takes_memory, are_sram_blocks, has_block_counts, may_have_memory, memory_is_formed, slot_is_formed, unit_is_formed}
 use Rattle.rmt_config.specs.CodeForm.{unit_places, places_of}
 use Rattle.rmt_config.specs.declared.form.code.InstructionRole.{InstructionRole}
 use Rattle.rmt_config.specs.Spelling.{two_bytes, spelled_list16, spelled_list32, spelled_flag, spelled_lane, spelled_guard, spelled_test, spelled_gate, spelled_memory, spelled_number, spelled_slot_head, spelled_slot, spelled_unit}
 use Rattle.rmt_image.specs.declared.reading.memory.Blocks.{Blocks}
-use Rattle.rmt_image.specs.declared.reading.memory.Format.{Format}
+use Rattle.rmt_image.specs.declared.reading.memory.ExactFormat.{ExactFormat}
 use Rattle.rmt_image.specs.Readers.{list_at, at_most, at_least, below}
-use Rattle.rmt_image.specs.Reading.{no_guard, guard_of_parts, mask_is_even, guard_at, test_of_parts, test_fits, test_at, gate_of_parts, gate_at, SlotHead, marks_of_parts, marks_at, slot_of_head, slot_head_at, block_at, blocks_of_parts, blocks_at, quanta_fit, cells_fit, format_of_parts, format_at, format_shape, exact_at, ternary_at, without, exact_of_parts, ternary_of_parts, memory_at, may_have_numbers, number_of_parts, cell_number_at, numbers_at, slot_of_parts, slot_at, unit_at}
+use Rattle.rmt_image.specs.Reading.{no_guard, guard_of_parts, mask_is_even, guard_at, test_of_parts, test_fits, test_at, gate_of_parts, gate_at, SlotHead, marks_of_parts, marks_at, slot_of_head, slot_head_at, block_at, blocks_of_parts, blocks_at, quanta_fit, cells_fit, format_of_parts, format_at, format_block_counts, exact_at, ternary_at, without, exact_of_parts, ternary_of_parts, memory_at, may_have_numbers, number_of_parts, cell_number_at, numbers_at, slot_of_parts, slot_at, unit_at}
 use Rattle.rmt_bits.proofs.TestLaws.{split2, split3, split5, split8, split11}
 use Rattle.rmt_image.proofs.Codec.{Codec, codec_for, codec_kept, codec_where, codec_behind, codec_made, codec_give, choices_none, choices_when, codec_chosen, codec_listed, byte_codec, two_codec, four_codec, codec_respelled, codec_list, alone}
 use Rattle.rmt_image.proofs.Items.{codec_byte, flag_codec, lane_tests, lane_codec}
@@ -126,39 +126,39 @@ unfolding block_at
 block_list_codec most n =
     codec_for (codec_respelled (codec_list (λ b. ltb b most) (codec_byte (below most)) n) (λ bs. bs) alone) (λ bs. (length bs ≡ n) × (list_all (λ b. ltb b most) bs ≡ true)) (λ bs q. q)
 
--- lists of blocks of that shape
-abbrev BlocksKeep : ℕ → Shape → Blocks → Type 0
-BlocksKeep most shape x =
-    ((length x.keys ≡ shape.keys) × (list_all (λ b. ltb b most) x.keys ≡ true))
-    × (((length x.records ≡ shape.records) × (list_all (λ b. ltb b 106) x.records ≡ true))
-    × ((length x.counters ≡ shape.counters) × (list_all (λ b. ltb b 106) x.counters ≡ true)))
+-- lists of blocks of these counts
+abbrev BlocksKeep : ℕ → BlockCounts → Blocks → Type 0
+BlocksKeep most counts x =
+    ((length x.keys ≡ counts.keys) × (list_all (λ b. ltb b most) x.keys ≡ true))
+    × (((length x.records ≡ counts.records) × (list_all (λ b. ltb b 106) x.records ≡ true))
+    × ((length x.counters ≡ counts.counters) × (list_all (λ b. ltb b 106) x.counters ≡ true)))
 
 abbrev blocks_text : Blocks → List ℕ
 blocks_text x = x.keys ++ x.records ++ x.counters
 
-blocks_codec : (most : ℕ) (shape : Shape) → Codec (blocks_at most shape) blocks_text (BlocksKeep most shape) (λ _. Unit {0})
+blocks_codec : (most : ℕ) (counts : BlockCounts) → Codec (blocks_at most counts) blocks_text (BlocksKeep most counts) (λ _. Unit {0})
 unfolding blocks_at
-blocks_codec most shape =
+blocks_codec most counts =
     codec_made blocks_of_parts
-    (codec_behind (block_list_codec most shape.keys) (λ _. codec_behind (block_list_codec 106 shape.records) (λ _. block_list_codec 106 shape.counters)))
-    blocks_text (BlocksKeep most shape) (λ a r. sym (append_assoc a.0 a.1.0 a.1.1))
+    (codec_behind (block_list_codec most counts.keys) (λ _. codec_behind (block_list_codec 106 counts.records) (λ _. block_list_codec 106 counts.counters)))
+    blocks_text (BlocksKeep most counts) (λ a r. sym (append_assoc a.0 a.1.0 a.1.1))
     (λ x q. ((x.keys, (x.records, x.counters)), refl, sym (append_assoc x.keys x.records x.counters), q))
 
 abbrev blocks_are : List ℕ → List ℕ → List ℕ → Blocks
 blocks_are keys records counters = record { keys = keys; records = records; counters = counters }
 
-blocks_keep : (most : ℕ) (shape : Shape) (keys records counters : List ℕ) → has_shape shape keys records counters ≡ true
-    → list_all (λ b. ltb b most) keys ≡ true → are_sram_blocks records ≡ true → are_sram_blocks counters ≡ true → BlocksKeep most shape (blocks_are keys records counters)
-blocks_keep most shape keys records counters lengths k r c =
+blocks_keep : (most : ℕ) (counts : BlockCounts) (keys records counters : List ℕ) → has_block_counts counts keys records counters ≡ true
+    → list_all (λ b. ltb b most) keys ≡ true → are_sram_blocks records ≡ true → are_sram_blocks counters ≡ true → BlocksKeep most counts (blocks_are keys records counters)
+blocks_keep most counts keys records counters lengths k r c =
     let p = split3 lengths in
-    ((eqb-true (length keys) shape.keys p.0, k), ((eqb-true (length records) shape.records p.1, r), (eqb-true (length counters) shape.counters p.2, c)))
+    ((eqb-true (length keys) counts.keys p.0, k), ((eqb-true (length records) counts.records p.1, r), (eqb-true (length counters) counts.counters p.2, c)))
 
-abbrev FormatKeeps : SlotUnit → Format → Type 0
+abbrev FormatKeeps : SlotUnit → ExactFormat → Type 0
 FormatKeeps s f =
     (at_least 1 f.width ≡ true)
     × (((f.per < 2 ^ 16) × (cells_fit (bits_of_lanes s.keys) f.width f.per ≡ true)) × ((quanta_fit f.quanta ≡ true) × Unit {0}))
 
-abbrev format_text : Format → List ℕ
+abbrev format_text : ExactFormat → List ℕ
 format_text f = f.width ∷ (two_bytes f.per ++ (f.quanta ∷ f.first_way ∷ []))
 
 format_codec : (s : SlotUnit) → Codec (format_at s) format_text (FormatKeeps s) (λ _. Unit {0})
@@ -168,19 +168,19 @@ format_codec s =
     (codec_behind (codec_byte (at_least 1)) (λ width. codec_behind (codec_kept (cells_fit (bits_of_lanes s.keys) width) two_codec) (λ _. codec_behind (codec_byte quanta_fit) (λ _. byte_codec))))
     format_text (FormatKeeps s) (λ a r. refl) (λ f q. ((f.width, (f.per, (f.quanta, f.first_way))), refl, refl, q))
 
-abbrev format_is : ℕ → ℕ → ℕ → ℕ → Format
+abbrev format_is : ℕ → ℕ → ℕ → ℕ → ExactFormat
 format_is width per quanta first_way = record { width = width; per = per; quanta = quanta; first_way = first_way }
 
-abbrev ExactKeeps : SlotUnit → Format × Blocks → Type 0
-ExactKeeps s x = (takes_memory s ≡ true) × (FormatKeeps s x.0 × BlocksKeep 106 (format_shape s x.0) x.1)
+abbrev ExactKeeps : SlotUnit → ExactFormat × Blocks → Type 0
+ExactKeeps s x = (takes_memory s ≡ true) × (FormatKeeps s x.0 × BlocksKeep 106 (format_block_counts s x.0) x.1)
 
 exact_codec : (s : SlotUnit) → Codec (exact_at s) (λ x. format_text x.0 ++ blocks_text x.1) (ExactKeeps s) (λ _. Unit {0})
 unfolding exact_at
 exact_codec s =
-    codec_for (codec_where (takes_memory s) (codec_behind (format_codec s) (λ f. blocks_codec 106 (format_shape s f)))) (ExactKeeps s) (λ x q. q)
+    codec_for (codec_where (takes_memory s) (codec_behind (format_codec s) (λ f. blocks_codec 106 (format_block_counts s f)))) (ExactKeeps s) (λ x q. q)
 
-abbrev ternary_form : SlotUnit → ℕ → Shape
-ternary_form s quanta = ternary_shape (bits_of_lanes s.keys) quanta s.held s.counted
+abbrev ternary_form : SlotUnit → ℕ → BlockCounts
+ternary_form s quanta = ternary_block_counts (bits_of_lanes s.keys) quanta s.held s.counted
 
 abbrev TernaryKeeps : SlotUnit → ℕ × Blocks → Type 0
 TernaryKeeps s x = (takes_memory s ≡ true) × ((quanta_fit x.0 ≡ true) × BlocksKeep 16 (ternary_form s x.0) x.1)
@@ -201,7 +201,7 @@ memory_0 s Without p = inl (tt, refl, (p.1, refl))
 memory_0 s (Exact width per quanta first_way keys records counters) p = inr (omega arith, p.1)
 memory_0 s (Ternary quanta keys records counters) p = inr p
 
-memory_1 : (s : SlotUnit) (m : Memory) → MemoryFrom s 1 m → ((a : Format × Blocks) × (exact_of_parts a ≡ m) × ExactKeeps s a) ⊎ MemoryFrom s 2 m
+memory_1 : (s : SlotUnit) (m : Memory) → MemoryFrom s 1 m → ((a : ExactFormat × Blocks) × (exact_of_parts a ≡ m) × ExactKeeps s a) ⊎ MemoryFrom s 2 m
 memory_1 s Without p = absurd (omega (arith, p.0))
 memory_1 s (Exact width per quanta first_way keys records counters) p = inl ((format_is width per quanta first_way, blocks_are keys records counters), refl, p.1)
 memory_1 s (Ternary quanta keys records counters) p = inr p
@@ -233,7 +233,7 @@ memory_from s (Exact width per quanta first_way keys records counters) e =
     let p = split11 e in
     let q = may_have s quanta p.0 in
     let format = format_is width per quanta first_way in
-    (omega arith, (q.0, ((p.1, ((ltb-true per 65536 p.4, and_from _ _ p.3 p.6), (q.1, tt))), blocks_keep 106 (format_shape s format) keys records counters p.7 p.8 p.9 p.10)))
+    (omega arith, (q.0, ((p.1, ((ltb-true per 65536 p.4, and_from _ _ p.3 p.6), (q.1, tt))), blocks_keep 106 (format_block_counts s format) keys records counters p.7 p.8 p.9 p.10)))
 memory_from s (Ternary quanta keys records counters) e =
     let p = split5 e in
     let q = may_have s quanta p.0 in

@@ -13,8 +13,8 @@ use Rattle.rmt_config.specs.declared.config.OpKind.TheVariants as kind
 use Rattle.rmt_config.specs.declared.config.Source.TheVariants.{Word, Held, Constant}
 use Rattle.rmt_config.specs.LaneForm.{lane_is_formed, bits_of_lanes}
 use Rattle.rmt_config.specs.ParserForm.{lookups_of}
-use Rattle.rmt_config.specs.Shapes.{exact_shape, ternary_shape}
-use Rattle.rmt_config.specs.declared.form.shape.Shape.{Shape}
+use Rattle.rmt_config.specs.BlockCounts.{exact_block_counts, ternary_block_counts}
+use Rattle.rmt_config.specs.declared.form.block_counts.BlockCounts.{BlockCounts}
 use Rattle.rmt_config.specs.UnitForm.{memory_is_formed, takes_memory}
 use Rattle.rmt_config.specs.CodeForm.{places_of, kind_is_formed}
 use Rattle.rmt_config.specs.declared.form.code.InstructionRole.{InstructionRole}
@@ -26,7 +26,7 @@ use Rattle.rmt_image.specs.declared.fault.ReadFault.{ReadFault}
 use Rattle.rmt_image.specs.declared.fault.ReadFault.TheVariants.{Short, Form}
 use Rattle.rmt_image.specs.declared.reading.config.Ports.{Ports}
 use Rattle.rmt_image.specs.declared.reading.memory.Blocks.{Blocks}
-use Rattle.rmt_image.specs.declared.reading.memory.Format.{Format}
+use Rattle.rmt_image.specs.declared.reading.memory.ExactFormat.{ExactFormat}
 use Rattle.rmt_image.specs.declared.reading.parser.EntryHead.{EntryHead}
 use Rattle.rmt_image.specs.declared.reading.slot.Marks.{Marks}
 use Rattle.rmt_image.specs.Readers.{Reader, give, behind, ◌⊗◌, made, kept, where_, when, no_other, chosen, items_at, list_at, each, listed, at_most, at_least, below, byte_at, number_at, flag_at}
@@ -240,9 +240,9 @@ abbrev pub blocks_of_parts : List ℕ × (List ℕ × List ℕ) → Blocks
 blocks_of_parts x = record { keys = x.0; records = x.1.0; counters = x.1.1 }
 
 -- blocks of the keys below that number, blocks of the records and of the counters
-unfoldable pub blocks_at : ℕ → Shape → Reader Blocks
-blocks_at most shape bytes =
-    made blocks_of_parts (list_at (block_at most) shape.keys ⊗ list_at (block_at 106) shape.records ⊗ list_at (block_at 106) shape.counters) bytes
+unfoldable pub blocks_at : ℕ → BlockCounts → Reader Blocks
+blocks_at most counts bytes =
+    made blocks_of_parts (list_at (block_at most) counts.keys ⊗ list_at (block_at 106) counts.records ⊗ list_at (block_at 106) counts.counters) bytes
 
 abbrev pub quanta_fit : ℕ → Bool
 quanta_fit quanta = nat_le 1 quanta && nat_le quanta 106
@@ -251,29 +251,29 @@ quanta_fit quanta = nat_le 1 quanta && nat_le quanta 106
 abbrev pub cells_fit : ℕ → ℕ → ℕ → Bool
 cells_fit bits width per = nat_le 1 per && nat_le (per * (bits + 8)) (112 * width)
 
-abbrev pub format_of_parts : ℕ × (ℕ × (ℕ × ℕ)) → Format
+abbrev pub format_of_parts : ℕ × (ℕ × (ℕ × ℕ)) → ExactFormat
 format_of_parts x = record { width = x.0; per = x.1.0; quanta = x.1.1.0; first_way = x.1.1.1 }
 
 -- the width of a unit, the cells of a row, the quanta, and the first way
-unfoldable pub format_at : SlotUnit → Reader Format
+unfoldable pub format_at : SlotUnit → Reader ExactFormat
 format_at s bytes =
     made format_of_parts
     (behind (kept (at_least 1) byte_at) (λ width. kept (cells_fit (bits_of_lanes s.keys) width) (number_at 2) ⊗ kept quanta_fit byte_at ⊗ byte_at)) bytes
 
-abbrev pub format_shape : SlotUnit → Format → Shape
-format_shape s f = exact_shape f.width f.per f.quanta s.held s.counted
+abbrev pub format_block_counts : SlotUnit → ExactFormat → BlockCounts
+format_block_counts s f = exact_block_counts f.width f.per f.quanta s.held s.counted
 
-unfoldable pub exact_at : SlotUnit → Reader (Format × Blocks)
-exact_at s bytes = where_ (takes_memory s) (behind (format_at s) (λ f. blocks_at 106 (format_shape s f))) bytes
+unfoldable pub exact_at : SlotUnit → Reader (ExactFormat × Blocks)
+exact_at s bytes = where_ (takes_memory s) (behind (format_at s) (λ f. blocks_at 106 (format_block_counts s f))) bytes
 
 unfoldable pub ternary_at : SlotUnit → Reader (ℕ × Blocks)
 ternary_at s bytes =
-    where_ (takes_memory s) (behind (kept quanta_fit byte_at) (λ quanta. blocks_at 16 (ternary_shape (bits_of_lanes s.keys) quanta s.held s.counted))) bytes
+    where_ (takes_memory s) (behind (kept quanta_fit byte_at) (λ quanta. blocks_at 16 (ternary_block_counts (bits_of_lanes s.keys) quanta s.held s.counted))) bytes
 
 abbrev pub without : Unit {0} → Memory
 without x = Without
 
-abbrev pub exact_of_parts : Format × Blocks → Memory
+abbrev pub exact_of_parts : ExactFormat × Blocks → Memory
 exact_of_parts x = Exact x.0.width x.0.per x.0.quanta x.0.first_way x.1.keys x.1.records x.1.counters
 
 abbrev pub ternary_of_parts : ℕ × Blocks → Memory

@@ -6,7 +6,7 @@ use Rattle.rmt_bits.specs.Bits.{slice, number_of, bytes_of}
 use Rattle.rmt_bits.proofs.BitLaws.{slice-lt, slice-add}
 use Rattle.rmt_bits.proofs.ByteLaws.{AreBytes, bytes_of-number_of}
 use Rattle.rmt_bits.proofs.PairLaws.{AllPairs-left}
-use Rattle.rmt_config.specs.Shapes.{divided_up, record_width, records_a_row, record_units}
+use Rattle.rmt_config.specs.BlockCounts.{divided_up, record_width, records_a_row, record_units}
 use Rattle.rmt_config.specs.Cells.{Blocks, unit_row, blocks_at, local_index, record_at, data_at, row_record, is_occupied, visible_bits, code_of}
 use Rattle.rmt_config.proofs.HeadBits.{slice-head}
 use Rattle.rmt_pack.specs.declared.head.Head.{Head}

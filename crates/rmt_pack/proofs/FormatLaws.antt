@@ -14,7 +14,7 @@ use Rattle.std.proofs.lemmas.Bool.{leb-true, le-leb}
 use Rattle.std.proofs.lemmas.Bool.Decides.{nat_tests}
 use Rattle.rmt_bits.proofs.ListLaws.{range_more}
 use Rattle.rmt_bits.proofs.AllLaws.{All-parts, All-flat_map, All-unmap, All-unfilter, All-between}
-use Rattle.rmt_config.specs.Shapes.{divided_up, record_width, records_a_row, record_units}
+use Rattle.rmt_config.specs.BlockCounts.{divided_up, record_width, records_a_row, record_units}
 use Rattle.rmt_pack.specs.declared.format.Format.{Format}
 use Rattle.rmt_pack.specs.declared.format.Need.{Need}
 use Rattle.rmt_pack.specs.Formats.{first_of, is_in_stage, layouts_of_width, exact_layout, exact_sram, most_cells, exact_formats, exact_format, no_memory, goes_before, whole, IsExactFormat, IsTaken, IsNeed}

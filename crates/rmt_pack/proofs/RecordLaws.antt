@@ -5,7 +5,7 @@ use Rattle.std.proofs.lemmas.Nat.{mul-le, mul-add-lt, div_below, mod_below, div-
 use Rattle.rmt_bits.specs.Bits.{slice, number_of, bytes_of}
 use Rattle.rmt_bits.proofs.ByteLaws.{AreBytes, bytes_of-number_of}
 use Rattle.rmt_bits.proofs.PairLaws.{AllPairs-right}
-use Rattle.rmt_config.specs.Shapes.{divided_up, record_width, records_a_row, record_units}
+use Rattle.rmt_config.specs.BlockCounts.{divided_up, record_width, records_a_row, record_units}
 use Rattle.rmt_config.specs.Cells.{Blocks, unit_row, blocks_at, local_index, record_at, data_at, row_record}
 use Rattle.rmt_config.proofs.CellPlaces.{three-of}
 use Rattle.rmt_config.proofs.CellLayouts.{up-enough, records-are}

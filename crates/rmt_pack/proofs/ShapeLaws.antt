@@ -5,7 +5,7 @@ use Rattle.std.proofs.lemmas.Bool.{eq-eqb, ne_eqb}
 use Rattle.std.specs.List.{range_with_len}
 use Rattle.std.proofs.lemmas.List.FromFn.{length-range_with_len}
 use Rattle.rmt_bits.proofs.AllLaws.{All-range}
-use Rattle.rmt_config.specs.Shapes.{exact_shape, ternary_shape}
+use Rattle.rmt_config.specs.BlockCounts.{exact_block_counts, ternary_block_counts}
 use Rattle.rmt_pack.proofs.BlockLaws.{range-joined, range-apart}
 use Rattle.std.proofs.lemmas.Nat.{mul-le, div_below, div-add-mod', same_from_place}
 use Rattle.rmt_pack.specs.declared.shape.Shape.{Shape}
@@ -45,7 +45,7 @@ numbered-is s a n lk hk ld hd memory joined within = record {
 
 pub exact-is : (s : Shape) (a n m : ℕ) → s.memory ≡ 1 → 0 < s.key → s.key ≤ 640 → 0 < s.quanta → s.quanta ≤ 106 → 0 < s.width → 0 < s.per
     → s.per * (s.key + 8) ≤ 112 * s.width → s.keys ≡ range_with_len a n → s.records ≡ range_with_len (a + n) m
-    → n ≡ (exact_shape s.width s.per s.quanta s.held false).keys → m ≡ (exact_shape s.width s.per s.quanta s.held false).records → a + (n + m) ≤ 106 → IsShape s
+    → n ≡ (exact_block_counts s.width s.per s.quanta s.held false).keys → m ≡ (exact_block_counts s.width s.per s.quanta s.held false).records → a + (n + m) ≤ 106 → IsShape s
 exact-is s a n m kind lk hk ld hd lw lp fits ks rs en em within =
     numbered-is s a (n + m) lk hk ld hd (subst (λ b. MatchBool b (IsExact s) (IsTernary s)) (sym (exact-true s kind)) exact) joined within
   where
@@ -62,7 +62,7 @@ exact-is s a n m kind lk hk ld hd lw lp fits ks rs en em within =
     }
 
 pub ternary-is : (s : Shape) (a m : ℕ) → s.memory ≡ 2 → 0 < s.key → s.key ≤ 640 → 0 < s.quanta → s.quanta ≤ 106 → s.width ≡ 0 → s.per ≡ 0
-    → 8 ≤ s.held → s.keys ≡ [] → s.records ≡ range_with_len a m → m ≡ (ternary_shape s.key s.quanta (s.held - 8) false).records → a + m ≤ 106 → IsShape s
+    → 8 ≤ s.held → s.keys ≡ [] → s.records ≡ range_with_len a m → m ≡ (ternary_block_counts s.key s.quanta (s.held - 8) false).records → a + m ≤ 106 → IsShape s
 ternary-is s a m kind lk hk ld hd no_width no_per head ks rs em within =
     numbered-is s a m lk hk ld hd (subst (λ b. MatchBool b (IsExact s) (IsTernary s)) (sym (exact-false s (not_one s.memory kind))) ternary) joined within
   where

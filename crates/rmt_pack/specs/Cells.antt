@@ -1,7 +1,7 @@
 -- What stands in the cells of a part: an entry, which is a head and a key, and a record.
 use Rattle.std.specs.Prelude.{◌≡◌, ◌≢◌, ℕ, ◌+◌, ◌*◌, ◌-◌, ◌/◌, ◌%◌, ◌<◌, List, if◌then◌else◌, Contains}
 use Rattle.rmt_bits.specs.Bits.{deposit, bytes_of}
-use Rattle.rmt_config.specs.Shapes.{divided_up, record_width, records_a_row, record_units}
+use Rattle.rmt_config.specs.BlockCounts.{divided_up, record_width, records_a_row, record_units}
 use Rattle.rmt_config.specs.Cells.{Blocks, unit_row, blocks_at, Cell, cell_of, local_index, entry_at, data_at, row_record}
 use Rattle.rmt_pack.specs.declared.head.Head.{Head}
 use Rattle.rmt_pack.specs.declared.shape.Shape.{Shape}

@@ -4,8 +4,8 @@ use Rattle.std.specs.List.{flat_map, range_with_len, best_of}
 use Rattle.rmt_ast.specs.declared.program.Table.{Table}
 use Rattle.rmt_ast.specs.declared.program.Kind.{Kind}
 use Rattle.rmt_ast.specs.declared.program.Kind.TheVariants.{Keyless, Exact, Prefix, Ternary}
-use Rattle.rmt_config.specs.Shapes.{exact_shape, ternary_shape}
-pub use Rattle.rmt_config.specs.Shapes.{divided_up, record_width, records_a_row, record_units}
+use Rattle.rmt_config.specs.BlockCounts.{exact_block_counts, ternary_block_counts}
+pub use Rattle.rmt_config.specs.BlockCounts.{divided_up, record_width, records_a_row, record_units}
 use Rattle.rmt_pack.specs.declared.format.Format.{Format}
 use Rattle.rmt_pack.specs.declared.format.Need.{Need}
 
@@ -13,11 +13,11 @@ use Rattle.rmt_pack.specs.declared.format.Need.{Need}
 
 -- the SRAM blocks of a quantum of an exact table, in units k blocks wide with p cells a row: of keys, records and counters
 abbrev pub exact_sram : Need → ℕ → ℕ → ℕ
-exact_sram n k p = let s = exact_shape k p 1 n.held n.counted in s.keys + s.records + s.counters
+exact_sram n k p = let s = exact_block_counts k p 1 n.held n.counted in s.keys + s.records + s.counters
 
 -- the SRAM blocks of a quantum of a prefix or ternary table: of records and counters
 abbrev pub ternary_sram : Need → ℕ
-ternary_sram n = let s = ternary_shape n.key 1 n.held n.counted in s.records + s.counters
+ternary_sram n = let s = ternary_block_counts n.key 1 n.held n.counted in s.records + s.counters
 
 -- the TCAM blocks of such a quantum
 abbrev pub ternary_tcam : Need → ℕ

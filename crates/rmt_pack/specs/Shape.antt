@@ -1,6 +1,6 @@
 -- Parts of tables, and the rules of form that they keep.
 use Rattle.std.specs.Prelude.{◌≡◌, ◌≢◌, ℕ, ◌+◌, ◌*◌, ◌-◌, ◌<◌, ◌≤◌, length, ◌++◌, Bool, false, ◌==◌, if◌then◌else◌, All, AllPairs, MatchBool}
-use Rattle.rmt_config.specs.Shapes.{exact_shape, ternary_shape}
+use Rattle.rmt_config.specs.BlockCounts.{exact_block_counts, ternary_block_counts}
 use Rattle.rmt_pack.specs.declared.shape.Shape.{Shape}
 
 -- memory of kind 1 is exact, and of kind 2 ternary
@@ -16,8 +16,8 @@ pub record IsExact (s : Shape) : Type 0 where
   pub some_width : 0 < s.width
   pub some_per : 0 < s.per
   pub fits : s.per * (s.key + 8) ≤ 112 * s.width
-  pub keys : length s.keys ≡ (exact_shape s.width s.per s.quanta s.held false).keys
-  pub records : length s.records ≡ (exact_shape s.width s.per s.quanta s.held false).records
+  pub keys : length s.keys ≡ (exact_block_counts s.width s.per s.quanta s.held false).keys
+  pub records : length s.records ≡ (exact_block_counts s.width s.per s.quanta s.held false).records
 
 -- a record has a head of 8 bits, and no key stands in SRAM
 pub record IsTernary (s : Shape) : Type 0 where
@@ -26,7 +26,7 @@ pub record IsTernary (s : Shape) : Type 0 where
   pub no_per : s.per ≡ 0
   pub head : 8 ≤ s.held
   pub keys : length s.keys ≡ 0
-  pub records : length s.records ≡ (ternary_shape s.key s.quanta (s.held - 8) false).records
+  pub records : length s.records ≡ (ternary_block_counts s.key s.quanta (s.held - 8) false).records
 
 -- a part that keeps the rules of form: the block lists are as long as its memory says, and no block of them stands twice
 pub record IsShape (s : Shape) : Type 0 where

@@ -4,7 +4,7 @@ use Rattle.rmt_ast.specs.declared.program.Test.{Test}
 use Rattle.rmt_ast.specs.State.{passes}
 use Rattle.rmt_config.specs.Cells.{Blocks, unit_row}
 use Rattle.rmt_pack.specs.declared.tcam.TcamWord.{TcamWord}
-use Rattle.rmt_config.specs.Shapes.{divided_up}
+use Rattle.rmt_config.specs.BlockCounts.{divided_up}
 use Rattle.rmt_pack.specs.declared.tcam.Bits.{Bits}
 
 -- words of 40 bits as one number, the first lowest

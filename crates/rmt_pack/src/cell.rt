@@ -2,7 +2,7 @@
 
 ghost use Rattle.std.specs.Prelude.{◌≡◌, ◌+◌, ◌*◌, ◌-◌, ◌/◌, ◌%◌, ◌^◌, ◌<◌, ◌≤◌, length};
 ghost use Rattle.rmt_bits.specs.Bits.{number_of};
-ghost use Rattle.rmt_config.specs.Shapes.{divided_up};
+ghost use Rattle.rmt_config.specs.BlockCounts.{divided_up};
 ghost use Rattle.rmt_pack.specs.Rows.{blocks_of};
 ghost use Rattle.rmt_pack.specs.Head.{number_of_head};
 ghost use Rattle.rmt_pack.specs.Shape.{IsShape, cells_in};

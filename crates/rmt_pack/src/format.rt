@@ -1,11 +1,12 @@
 //! Memory formats of tables.
 
 ghost use Rattle.std.specs.Prelude.{◌≡◌, ℕ, ◌+◌, ◌<◌, ◌≤◌, ◌^◌, List, [], ◌++◌, ◌∷◌, filter};
-ghost use Rattle.rmt_config.specs.Shapes.{divided_up};
+ghost use Rattle.rmt_config.specs.BlockCounts.{divided_up as divided_up_of};
 ghost use Rattle.rmt_pack.specs.Formats.{memory_format, IsFormat, IsTaken, IsNeed, HasNeed, need_of, no_memory, most_cells as cells_a_row, whole as whole_of, goes_before as is_first, is_in_stage, first_of, exact_layout as layout_of, exact_format as format_of_exact, ternary_format as format_of_ternary};
 
 use rmt_ast::program::{Kind, Table};
-use rmt_config::form::shape::{exact_shape, ternary_shape};
+use rmt_config::form::block_counts::{exact_block_counts, ternary_block_counts};
+use rmt_config::form::layout::divided_up;
 
 /// How the memory of a table is laid out.
 #[derive(Clone, Copy, Debug, PartialEq, Eq)]
@@ -74,13 +75,12 @@ pub fn without_memory() -> Format
     }
 }
 
-/// The quotient, rounded up.
+/// The quotient of two numbers of 32 bits, rounded up.
 pub fn divide_up(a: u32, b: u32) -> u32
     requires positive { 0 < b }
-    requires small { a + b ≤ 2 ^ 32 }
-    ensures { result ≡ divided_up a b }
+    ensures { result ≡ divided_up_of a b }
 {
-    (a + (b - 1)) / b
+    divided_up(u64::from(a), u64::from(b)) as u32
 }
 
 /// The format of a prefix or ternary table.
@@ -88,12 +88,12 @@ fn ternary_format(need: Need) -> Format
     requires { IsNeed need }
     ensures { result ≡ format_of_ternary need }
 {
-    let shape = ternary_shape(need.key, 1, need.held as u16, need.counted);
+    let blocks = ternary_block_counts(need.key, 1, need.held as u16, need.counted);
     Format {
         width: 0,
         per: 0,
         quanta: divide_up(need.size, 2048),
-        sram: (shape.records + shape.counters) as u32,
+        sram: (blocks.records + blocks.counters) as u32,
         tcam: divide_up(need.key, 40),
     }
 }
@@ -116,12 +116,12 @@ pub fn exact_layout(need: Need, width: u8, per: u32) -> Format
     requires few_cells { per < 100 }
     ensures { result ≡ layout_of need width per }
 {
-    let shape = exact_shape(width, per as u16, 1, need.held as u16, need.counted);
+    let blocks = exact_block_counts(width, per as u16, 1, need.held as u16, need.counted);
     Format {
         width,
         per,
         quanta: divide_up(need.size + need.size / 8, 4096 * per),
-        sram: (shape.keys + shape.records + shape.counters) as u32,
+        sram: (blocks.keys + blocks.records + blocks.counters) as u32,
         tcam: 0,
     }
 }

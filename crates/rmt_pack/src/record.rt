@@ -2,7 +2,7 @@
 
 ghost use Rattle.std.specs.Prelude.{◌≡◌, ◌≢◌, ◌+◌, ◌*◌, ◌-◌, ◌/◌, ◌%◌, ◌^◌, ◌<◌, ◌≤◌, length, take, drop, All, AllPairs};
 ghost use Rattle.rmt_bits.specs.Bits.{number_of};
-ghost use Rattle.rmt_config.specs.Shapes.{divided_up as divided_up_of, record_width as record_width_of, records_a_row as records_a_row_of, record_units as record_units_of};
+ghost use Rattle.rmt_config.specs.BlockCounts.{divided_up as divided_up_of, record_width as record_width_of, records_a_row as records_a_row_of, record_units as record_units_of};
 ghost use Rattle.rmt_pack.specs.Rows.{blocks_of};
 ghost use Rattle.rmt_pack.specs.Shape.{IsShape, cells_in};
 ghost use Rattle.rmt_pack.specs.Cells.{record_of, HoldsRecord, EntriesStay, OtherRecordsStay, PutsRecord, quantum_in, index_in, thousands_in};

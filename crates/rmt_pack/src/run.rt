@@ -2,7 +2,7 @@
 
 ghost use Rattle.std.specs.Prelude.{◌≡◌, ◌≢◌, ℕ, ◌+◌, ◌-◌, ◌*◌, ◌/◌, ◌%◌, ◌^◌, ◌<◌, ◌≤◌, length, replicate, All, AllPairs};
 ghost use Rattle.rmt_bits.specs.Bits.{slice as slice_of, deposit as deposit_of, number_of, bytes_of};
-ghost use Rattle.rmt_config.specs.Shapes.{divided_up};
+ghost use Rattle.rmt_config.specs.BlockCounts.{divided_up};
 ghost use Rattle.rmt_config.specs.Cells.{unit_row};
 ghost use Rattle.rmt_pack.specs.Rows.{blocks_of};
 ghost use Rattle.rmt_pack.specs.Cells.{PutsBits};

@@ -7,8 +7,9 @@ use Rattle.std.proofs.lemmas.List.Elements.{All-nil, All-cons}
 use Rattle.rmt_config.specs.declared.limits.LimitHit.{LimitHit}
 use Rattle.rmt_pack.specs.declared.placement.Part.{Part}
 use Rattle.rmt_place.specs.declared.demand.Demand.{Demand}
+use Rattle.rmt_config.specs.Limits.{most_of}
 use Rattle.rmt_place.specs.Needs.{Standing, Sum, demand_at, keeps_limits, sums_of}
-use Rattle.rmt_place.specs.Placing.{beside, fitting, hit_beside, hit_list, hits_from, hits_in, most_by, passed_first, Passes, spread, stages_from, standing_in, TellWhy}
+use Rattle.rmt_place.specs.Placing.{beside, fitting, hit_beside, hit_list, hits_from, hits_in, passed_first, Passes, spread, stages_from, standing_in, TellWhy}
 
 -- ---- no more fits than the most
 
@@ -35,7 +36,7 @@ abbrev AreAlike : List Sum → List Sum → Type 0
 AreAlike [] [] = ⊤
 AreAlike [] (y ∷ ys) = ⊥
 AreAlike (x ∷ xs) [] = ⊥
-AreAlike (x ∷ xs) (y ∷ ys) = (most_by x.limit ≡ y.most) × AreAlike xs ys
+AreAlike (x ∷ xs) (y ∷ ys) = (most_of x.limit ≡ y.most) × AreAlike xs ys
 
 -- a hit that tells of stage k
 pub record IsHit (k : ℕ) (o : Option LimitHit) : Type 0 where
@@ -55,7 +56,7 @@ passed_some k (x ∷ xs) (y ∷ ys) alike fails = elim (cases_lt y.most y.sum) [
         hit = hit;
         is = ap (λ (b : Bool). cond b (Some hit) (passed_first k xs ys)) (lt-ltb y.most y.sum past);
         stage = refl;
-        passes = (let same : most_by x.limit ≡ y.most = alike.0 in omega (arith, same, past));
+        passes = (let same : most_of x.limit ≡ y.most = alike.0 in omega (arith, same, past));
       }
   | inr kept ↦
       let hit : LimitHit = record { limit = x.limit; stage = k; sum = x.sum; need = y.sum - x.sum } in

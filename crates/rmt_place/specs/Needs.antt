@@ -11,6 +11,7 @@ use Rattle.rmt_ast.specs.declared.program.What.{What}
 use Rattle.rmt_ast.specs.declared.program.What.TheVariants.{Apply, Gate}
 use Rattle.rmt_ast.specs.declared.program.Kind.TheVariants.{Keyless, Exact, Prefix, Ternary}
 use Rattle.rmt_ast.specs.Places.{lanes_of}
+use Rattle.rmt_config.specs.Limits.{most_of}
 use Rattle.rmt_config.specs.Resources.{distinct}
 use Rattle.rmt_pack.specs.Formats.{memory_format}
 use Rattle.rmt_pack.specs.Placements.{data_bits, table_need}
@@ -99,17 +100,21 @@ pub record Sum : Type 0 where
 abbrev pub bits_of_words : List ℕ → ℕ
 bits_of_words words = sum_by word_size (distinct words)
 
+-- a sum of a limit, which has its most among the limits of the chip
+abbrev pub sum_for : ℕ → ℕ → Sum
+sum_for limit sum = record { limit = limit; sum = sum; most = most_of limit }
+
 -- the sums of a stage, by the numbers of their limits
 abbrev pub sums_of : List Standing → List Sum
 sums_of xs =
-    record { limit = 6; sum = sum_by (λ x. x.quanta * x.demand.sram) xs; most = 106 }
-    ∷ record { limit = 7; sum = sum_by (λ x. x.quanta * x.demand.tcam) xs; most = 16 }
-    ∷ record { limit = 8; sum = bits_of_words (flat_map (λ x. x.demand.exact_words) xs); most = 640 }
-    ∷ record { limit = 9; sum = bits_of_words (flat_map (λ x. x.demand.ternary_words) xs); most = 640 }
-    ∷ record { limit = 10; sum = sum_by (λ x. x.demand.slots) xs; most = 16 }
-    ∷ record { limit = 11; sum = sum_by (λ x. x.demand.instructions) xs; most = 32 }
-    ∷ record { limit = 12; sum = sum_by (λ x. x.demand.held) xs; most = 1280 }
-    ∷ record { limit = 13; sum = sum_by (λ x. x.demand.gates) xs; most = 16 }
+    sum_for 6 (sum_by (λ x. x.quanta * x.demand.sram) xs)
+    ∷ sum_for 7 (sum_by (λ x. x.quanta * x.demand.tcam) xs)
+    ∷ sum_for 8 (bits_of_words (flat_map (λ x. x.demand.exact_words) xs))
+    ∷ sum_for 9 (bits_of_words (flat_map (λ x. x.demand.ternary_words) xs))
+    ∷ sum_for 10 (sum_by (λ x. x.demand.slots) xs)
+    ∷ sum_for 11 (sum_by (λ x. x.demand.instructions) xs)
+    ∷ sum_for 12 (sum_by (λ x. x.demand.held) xs)
+    ∷ sum_for 13 (sum_by (λ x. x.demand.gates) xs)
     ∷ []
 
 -- a stage keeps all its limits

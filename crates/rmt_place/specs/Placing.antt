@@ -1,11 +1,12 @@
 -- How the nodes of a program are placed into stages: by dependency level, each as early as its edges and the limits allow (after the greedy placement of Jose et al. 2015).
-use Rattle.std.specs.Prelude.{◌≡◌, ◌≢◌, ◌<◌, ◌≤◌, ⊤, ℕ, ◌+◌, ◌-◌, List, [], ◌∷◌, ◌++◌, ◌==◌, nat_lt, if◌then◌else◌, Option, Some, None, find, filter, map, length, slice_index, unwrap_or, Result, Ok, Err, All, AllPairs, Contains, sum_by}
+use Rattle.std.specs.Prelude.{◌≡◌, ◌≢◌, ◌<◌, ◌≤◌, ⊤, ℕ, ◌+◌, ◌-◌, List, [], ◌∷◌, ◌++◌, ◌==◌, nat_lt, if◌then◌else◌, Option, Some, None, find, filter, map, length, slice_index, unwrap_or, Result, Ok, Err, All, AllPairs, Contains}
 use Rattle.std.specs.List.{flat_map, range_with_len}
 use Rattle.rmt_bits.specs.declared.lane.Lane.{Lane}
 use Rattle.rmt_ast.specs.declared.program.Program.{Program}
 use Rattle.rmt_ast.specs.declared.deps.Edge.{Edge}
 use Rattle.rmt_ast.specs.declared.deps.Deps.{Deps}
 use Rattle.rmt_config.specs.declared.limits.LimitHit.{LimitHit}
+use Rattle.rmt_config.specs.Limits.{most_of}
 use Rattle.rmt_config.specs.Resources.{greatest_by}
 use Rattle.rmt_deps.specs.Levels.{all_edges, levels_of}
 use Rattle.rmt_pack.specs.Placements.{is_strict}
@@ -166,13 +167,9 @@ pub record IsPart (nodes : ℕ) (x : Part) : Type 0 where
 abbrev pub AreTwo : Part → Part → Type 0
 AreTwo x y = x.node ≡ y.node → x.stage ≡ y.stage → ⊥
 
--- the most that a limit allows, by its number: of stages, or in a stage
-abbrev pub most_by : ℕ → ℕ
-most_by limit = sum_by (λ (s : Sum). if s.limit == limit then s.most else 0) (record { limit = 1; sum = 0; most = 32 } ∷ sums_of [])
-
 -- what a hit tells of passes its limit
 abbrev pub Passes : LimitHit → Type 0
-Passes hit = most_by hit.limit < hit.sum + hit.need
+Passes hit = most_of hit.limit < hit.sum + hit.need
 
 -- the stages of which hits tell: those from one on, or that there are only 32
 abbrev pub told_stages : ℕ → List ℕ

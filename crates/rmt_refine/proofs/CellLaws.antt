@@ -4,11 +4,12 @@ use Rattle.std.specs.Prelude.{All, Contains, slice_get}
 use Rattle.rmt_refine.specs.Types.{Program, Table, Config, Stage}
 use Rattle.rmt_ast.specs.declared.entry.Entry.{Entry}
 use Rattle.rmt_ast.specs.RowOrder.{goes_first}
+use Rattle.rmt_config.specs.Instructions.{first_code}
 use Rattle.rmt_config.specs.Cells.{is_seen}
 use Rattle.rmt_refine.specs.declared.map.CellOf.{CellOf}
 use Rattle.rmt_refine.specs.View.{View}
 use Rattle.rmt_config.specs.Rooms.{tests_as_one}
-use Rattle.rmt_refine.specs.Cells.{HoldsEntry, IsBefore, IsCandidate, IsSpotOf, IsTold, Spot, TableCellsCarried, first_code}
+use Rattle.rmt_refine.specs.Cells.{HoldsEntry, IsBefore, IsCandidate, IsSpotOf, IsTold, Spot, TableCellsCarried}
 use Rattle.std.proofs.lemmas.List.Elements.{All-contains}
 
 -- each entry has the spot that a function tells, and the map tells of that one alone

@@ -12,10 +12,10 @@ use Rattle.rmt_bits.proofs.BitLaws.{slice-deposit_above, slice-deposit_below, sl
 use Rattle.rmt_refine.specs.Types.{Table, Stage, SlotUnit, Operation, Source}
 use Rattle.rmt_ast.specs.Places.{lanes_of}
 use Rattle.rmt_ast.specs.State.{IsState}
+use Rattle.rmt_config.specs.Instructions.{first_code}
 use Rattle.rmt_config.specs.declared.config.Source.TheVariants.{Word, Held, Constant}
 use Rattle.rmt_config.specs.Life.{Words, code_at, lane_of, source_of, written}
 use Rattle.rmt_refine.specs.View.{slot_of}
-use Rattle.rmt_refine.specs.Cells.{first_code}
 use Rattle.rmt_refine.specs.Code.{CodeCarried, DoesAction, DoesDefault, TableCode}
 use Rattle.rmt_config.specs.Effects.{held_by, Hold, words_after, ChangesOnly}
 use Rattle.rmt_refine.specs.Units.{table_at}

@@ -17,11 +17,11 @@ use Rattle.rmt_ast.specs.State.{IsState}
 use Rattle.rmt_ast.specs.WellFormed.{Fits, IsProgram}
 use Rattle.rmt_phv.specs.Places.{written_by}
 use Rattle.rmt_deps.specs.Edges.{of_action, of_node, of_table, read_by, reads_of, words_of, writes_of}
+use Rattle.rmt_config.specs.Instructions.{first_code}
 use Rattle.rmt_config.specs.Life.{Running, Words, op_on}
 use Rattle.rmt_refine.specs.declared.map.Map.{Map}
 use Rattle.rmt_refine.specs.View.{View}
 use Rattle.rmt_refine.specs.Carries.{CarriesIn}
-use Rattle.rmt_refine.specs.Cells.{first_code}
 use Rattle.rmt_refine.specs.Code.{DoesAction, DoesDefault, TableCode, WritesWordsOf, assigned_lanes}
 use Rattle.rmt_config.specs.Effects.{Hold, words_after, ChangesOnly}
 use Rattle.rmt_refine.specs.Outcomes.{entries_at, run_before}

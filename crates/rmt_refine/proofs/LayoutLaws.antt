@@ -3,11 +3,11 @@ use Rattle.std.proofs.Common.{◌≡◌, ℕ, ◌+◌, ◌*◌, ◌^◌, ◌<◌
 use Rattle.std.proofs.Math.Pow.{pow_mono}
 use Rattle.rmt_bits.specs.Bits.{bytes_of, number_of}
 use Rattle.rmt_bits.proofs.ByteLaws.{number_of-bytes_of}
-use Rattle.rmt_config.specs.declared.form.layout.Layout.{Layout}
+use Rattle.rmt_config.specs.declared.form.layout.CellLayout.{CellLayout}
 use Rattle.rmt_config.specs.Form.{Formed}
 use Rattle.rmt_config.specs.Layouts.{IsInSram, exact_keys, exact_records, ternary_records}
 use Rattle.rmt_config.specs.MemoryRules.{MemoryIsFormed}
-use Rattle.rmt_config.specs.Shapes.{divided_up}
+use Rattle.rmt_config.specs.BlockCounts.{divided_up}
 use Rattle.rmt_config.proofs.CellLayouts.{exact_keys-is, exact_records-is, ternary_records-is, up-enough}
 use Rattle.rmt_refine.specs.Types.{Config}
 
@@ -30,7 +30,7 @@ pub rows_in : (d n : ℕ) → 0 < d → d ≤ 106 → 0 < n → n < 65544 → Is
 rows_in d n ld hd ln hn = record { is = ternary_records-is d n ld hd ln hn; in_sram = refl; in_blocks = refl }
 
 -- what holds of a layout holds of an equal one
-pub at_layout : (P : Layout → Type 0) (l l' : Layout) → l ≡ l' → P l' → P l
+pub at_layout : (P : CellLayout → Type 0) (l l' : CellLayout) → l ≡ l' → P l' → P l
 at_layout P l l' e h = subst P (sym e) h
 
 -- ---- forms

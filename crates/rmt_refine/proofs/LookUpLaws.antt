@@ -12,6 +12,7 @@ use Rattle.rmt_ast.specs.EntryLists.{AreTableEntries, HasRank, IsEntry, terms_of
 use Rattle.rmt_ast.specs.Lookup.{hit_of, hits, matches, precedes}
 use Rattle.rmt_ast.specs.State.{joined, width_of}
 use Rattle.rmt_ast.specs.WellFormed.{IsTest}
+use Rattle.rmt_config.specs.Instructions.{first_code}
 use Rattle.rmt_config.specs.declared.config.Memory.TheVariants.{Without, Exact, Ternary}
 use Rattle.rmt_config.specs.LaneForm.{bits_of_lanes}
 use Rattle.rmt_config.specs.Cells.{Content, candidates, cells_in, has_key, is_seen}
@@ -19,7 +20,7 @@ use Rattle.rmt_refine.specs.declared.map.CellOf.{CellOf}
 use Rattle.rmt_refine.specs.View.{View, found_at, look_in, slot_at, slot_of}
 use Rattle.rmt_refine.specs.Units.{HasKind}
 use Rattle.rmt_config.specs.Rooms.{tests_as_one}
-use Rattle.rmt_refine.specs.Cells.{HoldsEntry, IsBefore, IsSpotOf, IsTold, Spot, TableCellsCarried, first_code}
+use Rattle.rmt_refine.specs.Cells.{HoldsEntry, IsBefore, IsSpotOf, IsTold, Spot, TableCellsCarried}
 use Rattle.rmt_refine.specs.LookUps.{FindsAs, FindsEntry}
 use Rattle.rmt_refine.proofs.FindLaws.{best_there, find-least, none_unless, found_passes}
 use Rattle.rmt_refine.proofs.KeyLaws.{FieldsFit, key_agrees, whole_key}

@@ -9,14 +9,14 @@ use Rattle.rmt_bits.proofs.MemberLaws.{Contains-first, Contains-flat_map, Contai
 use Rattle.rmt_bits.proofs.AllLaws.{All-flat_map}
 use Rattle.rmt_bits.proofs.ListLaws.{first_from, next_from}
 use Rattle.rmt_refine.specs.Types.{Config, Stage, Unit, SlotUnit}
+use Rattle.rmt_config.specs.Instructions.{first_code}
+use Rattle.rmt_config.proofs.InstructionLaws.{first_code_next}
 use Rattle.rmt_config.specs.declared.config.Unit.TheVariants.{Gate, Slot}
 use Rattle.rmt_config.specs.LaneForm.{bits_of_lanes}
 use Rattle.rmt_config.specs.Cells.{candidates}
 use Rattle.rmt_config.specs.Rooms.{PartAt, Room, parts_among, parts_of, rooms_for}
-use Rattle.rmt_refine.specs.Cells.{first_code}
 use Rattle.rmt_refine.specs.View.{as_slot}
 use Rattle.rmt_refine.proofs.PartLaws.{IsPart, slot_is_unit, then_some}
-use Rattle.rmt_refine.proofs.StageLaws.{first_code_next}
 
 -- a part of a node, as the rooms tell it
 pub record PartIs (c : Config) (node : ℕ) (p : PartAt) : Type 0 where

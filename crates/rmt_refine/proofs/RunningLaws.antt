@@ -10,6 +10,7 @@ use Rattle.rmt_ast.specs.declared.entry.Entry.{Entry}
 use Rattle.rmt_ast.specs.Control.{runs}
 use Rattle.rmt_ast.specs.Lookup.{hit_of}
 use Rattle.rmt_ast.specs.State.{joined}
+use Rattle.rmt_config.specs.Instructions.{first_code}
 use Rattle.rmt_config.specs.declared.config.Unit.TheVariants.{Gate, Slot}
 use Rattle.rmt_config.specs.Cells.{Found}
 use Rattle.rmt_config.specs.Life.{Acts, Words, acts_of, gate_passes, guarded, key_of, looked_up, slot_acts, unit_acts}
@@ -20,7 +21,6 @@ use Rattle.rmt_refine.specs.View.{View, as_slot, look_in}
 use Rattle.rmt_phv.specs.Places.{high_first}
 use Rattle.rmt_refine.specs.Units.{DoesAs, TableCarried, applied, guard_in, last_stage, nodes_in, table_at}
 use Rattle.rmt_config.specs.TableForm.{node_of}
-use Rattle.rmt_refine.specs.Cells.{first_code}
 use Rattle.rmt_refine.specs.LookUps.{FindsAs}
 use Rattle.rmt_refine.specs.Outcomes.{IsSetIn, TableSetIn}
 use Rattle.rmt_refine.proofs.NodeLaws.{one_place, within_last}
@@ -44,18 +44,18 @@ gate_adds false a x = refl
 unit_stops : (c : Config) (v : View) (k : ℕ) (stage : Stage) (words : Words) (a : Acts) (u : Unit) → chip_runs (node_of u) (guard_in u) a.outcomes ≡ false
     → made (unit_acts (look_in c v) k stage words a u) ≡ made a
 unit_stops c v k stage words a (Gate g) e = gate_adds (chip_runs g.node g.guard a.outcomes) a (slice_set a.outcomes g.node (cond (gate_passes words g.tests) 2 1))
-unit_stops c v k stage words a (Slot s) e = ap (λ (b : Bool). made (cond b (slot_acts stage s (looked_up (look_in c v) k a.place words s) a) a)) e
+unit_stops c v k stage words a (Slot s) e = ap (λ (b : Bool). made (cond b (slot_acts stage (first_code stage a.place) s (looked_up (look_in c v) k a.place words s) a) a)) e
 
 slot_adds : (c : Config) (v : View) (k : ℕ) (stage : Stage) (words : Words) (a : Acts) (s : SlotUnit) (o : Option Found) → chip_runs s.node s.guard a.outcomes ≡ true
-    → looked_up (look_in c v) k a.place words s ≡ o → made (unit_acts (look_in c v) k stage words a (Slot s)) ≡ made (slot_acts stage s o a)
+    → looked_up (look_in c v) k a.place words s ≡ o → made (unit_acts (look_in c v) k stage words a (Slot s)) ≡ made (slot_acts stage (first_code stage a.place) s o a)
 slot_adds c v k stage words a s o e found =
-    ap (λ (b : Bool). made (cond b (slot_acts stage s (looked_up (look_in c v) k a.place words s) a) a)) e ∙ ap (λ (f : Option Found). made (slot_acts stage s f a)) found
+    ap (λ (b : Bool). made (cond b (slot_acts stage (first_code stage a.place) s (looked_up (look_in c v) k a.place words s) a) a)) e ∙ ap (λ (f : Option Found). made (slot_acts stage (first_code stage a.place) s f a)) found
 
-miss_adds : (stage : Stage) (s : SlotUnit) (a : Acts) → s.last ≡ true → made (slot_acts stage s None a) ≡ (record { ops = code_at stage (a.base + s.actions); held = 0 } ∷ a.running, a.counted)
-miss_adds stage s a e = rw e refl
+miss_adds : (stage : Stage) (first : ℕ) (s : SlotUnit) (a : Acts) → s.last ≡ true → made (slot_acts stage first s None a) ≡ (record { ops = code_at stage (first + s.actions); held = 0 } ∷ a.running, a.counted)
+miss_adds stage first s a e = rw e refl
 
-miss_adds_none : (stage : Stage) (s : SlotUnit) (a : Acts) → s.last ≡ false → made (slot_acts stage s None a) ≡ made a
-miss_adds_none stage s a e = rw e refl
+miss_adds_none : (stage : Stage) (first : ℕ) (s : SlotUnit) (a : Acts) → s.last ≡ false → made (slot_acts stage first s None a) ≡ made a
+miss_adds_none stage first s a e = rw e refl
 
 -- the number that a hit in a table counts
 abbrev pub counted_hit : Table → Option Entry → List ℕ
@@ -74,9 +74,9 @@ count_adds : (b d : Bool) (n m age : ℕ) (old : List Counted) → b ≡ d → n
 count_adds b true n m age old e same = rw (e, same) refl
 count_adds b false n m age old e same = rw e refl
 
-hit_adds : (stage : Stage) (s : SlotUnit) (a : Acts) (t : Table) (e : Entry) (f : Found) → s.counted ≡ t.counted → f.number ≡ e.number
-    → made (slot_acts stage s (Some f) a) ≡ (record { ops = code_at stage f.code; held = f.held } ∷ a.running, counts_in stage (counted_hit t (Some e)) ++ a.counted)
-hit_adds stage s a t e f counted number =
+hit_adds : (stage : Stage) (first : ℕ) (s : SlotUnit) (a : Acts) (t : Table) (e : Entry) (f : Found) → s.counted ≡ t.counted → f.number ≡ e.number
+    → made (slot_acts stage first s (Some f) a) ≡ (record { ops = code_at stage f.code; held = f.held } ∷ a.running, counts_in stage (counted_hit t (Some e)) ++ a.counted)
+hit_adds stage first s a t e f counted number =
     ap (λ (cs : List Counted). (record { ops = code_at stage f.code; held = f.held } ∷ a.running, cs))
     (count_adds s.counted t.counted f.number e.number (stage.start + 8) a.counted counted number)
 
@@ -204,24 +204,24 @@ module _ (p : Program) (places : List (List Lane)) (parts : List Part) (starts :
 
   -- a slot that runs
   slot_runs : (k n place : ℕ) (stage : Stage) (s : SlotUnit) (node : Node) (words : Words) (a : Acts) (t : Table) (o : Option Entry) → TheRun → UnitAt k n place stage (Slot s) node
-      → a.base ≡ first_code stage place → TableCarried places parts n k t s → table_at p n ≡ Some t → k ≤ set_in n → runs node.guard outcomes ≡ true
+      → a.place ≡ place → TableCarried places parts n k t s → table_at p n ≡ Some t → k ≤ set_in n → runs node.guard outcomes ≡ true
       → chip_runs s.node s.guard a.outcomes ≡ true → looked_up (look_in c v) k a.place words s ≡ look_in c v k place (joined p t.key (state n))
       → hit_of t.kind t.key (entries n) (state n) ≡ o → FindsAs p c v n t (joined p t.key (state n)) o → TableSetIn p parts c v n t (joined p t.key (state n)) (set_in n) o
       → Makes k n stage a (unit_acts (look_in c v) k stage words a (Slot s))
-  slot_runs k n place stage s node words a t None run at base carried table le goes acts looks_there hit finds sets =
+  slot_runs k n place stage s node words a t None run at here carried table le goes acts looks_there hit finds sets =
       let part : IsPart c n k place stage s = record { stage_is = at.stage_is; slot_is = ap (option_and_then as_slot) at.unit_is; node_is = at.carried.number } in
       let none = looks_there ∙ finds k place s (slot_of_part c n k place stage s part) at.carried.number in
       elim (compare k (set_in n)) [
         | inl lt ↦
             inl (
               slot_adds c v k stage words a s None acts none
-                  ∙ miss_adds_none stage s a (carried.last ∙ eqb_false k (last_stage parts n) (λ e. omega (arith, e, sets, lt))),
+                  ∙ miss_adds_none stage (first_code stage a.place) s a (carried.last ∙ eqb_false k (last_stage parts n) (λ e. omega (arith, e, sets, lt))),
               (λ u h. let e = h.set_here in omega (arith, e, lt)),
             )
         | inr more ↦ elim more [
           | inl gt ↦ absurd (omega (arith, gt, le))
           | inr e ↦
-              let r : Running = record { ops = code_at stage (a.base + s.actions); held = 0 } in
+              let r : Running = record { ops = code_at stage (first_code stage a.place + s.actions); held = 0 } in
               inr (
                 r,
                 record {
@@ -232,31 +232,31 @@ module _ (p : Program) (places : List (List Lane)) (parts : List Part) (starts :
                   part = part;
                   acts = record { table_is = table; set_here = sym e; goes = same_goes n node at.node_is goes };
                   runs_it = subst (λ h. RunsInstruction t (first_code stage place) stage h r) (sym hit)
-                      (ap (λ b. code_at stage (b + s.actions)) base ∙ ap (λ m. code_at stage (first_code stage place + m)) carried.actions);
+                      (ap (λ i. code_at stage (first_code stage i + s.actions)) here ∙ ap (λ m. code_at stage (first_code stage place + m)) carried.actions);
                 },
-                slot_adds c v k stage words a s None acts none ∙ miss_adds stage s a (carried.last ∙ eq-eqb k (last_stage parts n) (e ∙ sets))
+                slot_adds c v k stage words a s None acts none ∙ miss_adds stage (first_code stage a.place) s a (carried.last ∙ eq-eqb k (last_stage parts n) (e ∙ sets))
                     ∙ ap (λ h. (r ∷ a.running, counts_in stage (counted_hit t h) ++ a.counted)) (sym hit),
               )
         ]
       ]
-  slot_runs k n place stage s node words a t (Some e) run at base carried table le goes acts looks_there hit finds sets =
+  slot_runs k n place stage s node words a t (Some e) run at here carried table le goes acts looks_there hit finds sets =
       let part : IsPart c n k place stage s = record { stage_is = at.stage_is; slot_is = ap (option_and_then as_slot) at.unit_is; node_is = at.carried.number } in
       let f = sets.0 in
-      let here : f.k ≡ set_in n = sets.1 in
+      let set_there : f.k ≡ set_in n = sets.1 in
       let f_part : IsPart c n f.k f.place f.stage f.slot = record { stage_is = f.stage_is; slot_is = f.slot_is; node_is = f.node_is } in
       let f_at = unit_of_part p places parts starts c n f.k f.place f.stage f.slot run.units f_part in
       let f_last = within_last parts n f.k (quanta_of_node p parts f.k f.place n f_at.0) in
       elim (compare k (set_in n)) [
         | inl lt ↦
             inl (
-              slot_adds c v k stage words a s None acts (looks_there ∙ f.none_before k place s (omega (arith, lt, here)) (slot_of_part c n k place stage s part) at.carried.number)
-                  ∙ miss_adds_none stage s a (carried.last ∙ eqb_false k (last_stage parts n) (λ x. omega (arith, x, lt, here, f_last))),
+              slot_adds c v k stage words a s None acts (looks_there ∙ f.none_before k place s (omega (arith, lt, set_there)) (slot_of_part c n k place stage s part) at.carried.number)
+                  ∙ miss_adds_none stage (first_code stage a.place) s a (carried.last ∙ eqb_false k (last_stage parts n) (λ x. omega (arith, x, lt, set_there, f_last))),
               (λ u h. let x = h.set_here in omega (arith, x, lt)),
             )
         | inr more ↦ elim more [
           | inl gt ↦ absurd (omega (arith, gt, le))
           | inr same ↦
-              let k_is : f.k ≡ k = here ∙ sym same in
+              let k_is : f.k ≡ k = set_there ∙ sym same in
               let place_is : f.place ≡ place = one_place p parts k n f.place place (subst (λ j. slice_get (nodes_in p parts j) f.place ≡ Some n) k_is f_at.0) at.number in
               let stage_is : f.stage ≡ stage = same_Some f.stage stage (sym f.stage_is ∙ ap (slice_get c.stages) k_is ∙ at.stage_is) in
               let looks_is : look_in c v k place (joined p t.key (state n)) ≡ Some f.found =
@@ -276,7 +276,7 @@ module _ (p : Program) (places : List (List Lane)) (parts : List Part) (starts :
                   acts = record { table_is = table; set_here = sym same; goes = same_goes n node at.node_is goes };
                   runs_it = subst (λ h. RunsInstruction t (first_code stage place) stage h r) (sym hit) (ap (code_at stage) code, entry.held);
                 },
-                slot_adds c v k stage words a s (Some f.found) acts (looks_there ∙ looks_is) ∙ hit_adds stage s a t e f.found carried.counted entry.number
+                slot_adds c v k stage words a s (Some f.found) acts (looks_there ∙ looks_is) ∙ hit_adds stage (first_code stage a.place) s a t e f.found carried.counted entry.number
                     ∙ ap (λ h. (r ∷ a.running, counts_in stage (counted_hit t h) ++ a.counted)) (sym hit),
               )
         ]
@@ -284,9 +284,9 @@ module _ (p : Program) (places : List (List Lane)) (parts : List Part) (starts :
 
   -- a unit that runs
   acting_makes : (k n place : ℕ) (stage : Stage) (u : Unit) (node : Node) (words : Words) (a : Acts) (w : What) → TheRun → UnitAt k n place stage u node → node.what ≡ w
-      → a.place ≡ place → a.base ≡ first_code stage place → k ≤ set_in n → runs node.guard outcomes ≡ true → chip_runs (node_of u) (guard_in u) a.outcomes ≡ true → Reads words n w
+      → a.place ≡ place → k ≤ set_in n → runs node.guard outcomes ≡ true → chip_runs (node_of u) (guard_in u) a.outcomes ≡ true → Reads words n w
       → Makes k n stage a (unit_acts (look_in c v) k stage words a u)
-  acting_makes k n place stage (Gate g) node words a w run at is here base le goes acts reads =
+  acting_makes k n place stage (Gate g) node words a w run at is here le goes acts reads =
       inl (gate_adds (chip_runs g.node g.guard a.outcomes) a (slice_set a.outcomes g.node (cond (gate_passes words g.tests) 2 1)), (λ t h. no_table w is t h.table_is))
     where
       does : DoesAs p places parts k n node.what (Gate g)
@@ -297,10 +297,10 @@ module _ (p : Program) (places : List (List Lane)) (parts : List Part) (starts :
       no_table (what.Gate field test) e t table =
           let none : table_at p n ≡ None = ap (option_and_then (λ (x : Node). applied p x.what)) at.node_is ∙ ap (applied p) e in
           none-some t (sym none ∙ table)
-  acting_makes k n place stage (Slot s) node words a (what.Gate field test) run at is here base le goes acts reads =
+  acting_makes k n place stage (Slot s) node words a (what.Gate field test) run at is here le goes acts reads =
       let does = and_at (slice_get p.nodes n) (λ (x : Node). DoesAs p places parts k n x.what (Slot s)) node at.node_is at.carried.does in
       absurd (subst (λ x. DoesAs p places parts k n x (Slot s)) is does)
-  acting_makes k n place stage (Slot s) node words a (what.Apply i) run at is here base le goes acts reads =
+  acting_makes k n place stage (Slot s) node words a (what.Apply i) run at is here le goes acts reads =
       let does = subst (λ x. DoesAs p places parts k n x (Slot s)) is
       (and_at (slice_get p.nodes n) (λ (x : Node). DoesAs p places parts k n x.what (Slot s)) node at.node_is at.carried.does) in
       let table = some_and (slice_get p.tables i) (λ (t : Table). TableCarried places parts n k t s) does in
@@ -315,13 +315,13 @@ module _ (p : Program) (places : List (List Lane)) (parts : List Part) (starts :
       let reads_key : key_of words (high_first places t.key) ≡ key = subst (λ o. IfSome o (λ (x : Table). key_of words (high_first places x.key) ≡ joined p x.key (state n))) table.1 reads in
       let looks_there : looked_up (look_in c v) k a.place words s ≡ look_in c v k place key =
       ap (λ m. looked_up (look_in c v) k m words s) here ∙ looks c v n k place stage words s key part (ap (key_of words) carried.keys ∙ reads_key) s.memory refl in
-      slot_runs k n place stage s node words a t (hit_of t.kind t.key (entries n) (state n)) run at base carried at_table le goes acts looks_there refl (run.finds n t at_table) set_there
+      slot_runs k n place stage s node words a t (hit_of t.kind t.key (entries n) (state n)) run at here carried at_table le goes acts looks_there refl (run.finds n t at_table) set_there
 
   -- a unit of stage k
   unit_makes : (k n place : ℕ) (stage : Stage) (u : Unit) (node : Node) (words : Words) (a : Acts) → TheRun → UnitAt k n place stage u node
-      → a.place ≡ place → a.base ≡ first_code stage place → SetBefore k n a.outcomes → (runs node.guard outcomes ≡ true → k ≤ set_in n → Reads words n node.what)
+      → a.place ≡ place → SetBefore k n a.outcomes → (runs node.guard outcomes ≡ true → k ≤ set_in n → Reads words n node.what)
       → Makes k n stage a (unit_acts (look_in c v) k stage words a u)
-  unit_makes k n place stage u node words a run at here base set reads = by_run (runs node.guard outcomes) refl
+  unit_makes k n place stage u node words a run at here set reads = by_run (runs node.guard outcomes) refl
     where
       own : slice_index a.outcomes n ≡ cond (is_set p places parts starts c v entries state outcomes set_in k n n) (slice_index outcomes n) 0
       own = set.each n at.within
@@ -352,7 +352,7 @@ module _ (p : Program) (places : List (List Lane)) (parts : List Part) (starts :
                 own ∙ ap (λ b. cond b (slice_index outcomes n) 0) (own_unset p places parts starts c v entries state outcomes set_in k n le) in
                 let acts : chip_runs (node_of u) (guard_in u) a.outcomes ≡ true =
                 ap (λ b. b && (slice_index a.outcomes (node_of u) == 0)) (guard ∙ goes) ∙ own_value 0 value in
-                acting_makes k n place stage u node words a node.what run at refl here base le goes acts (reads goes le)
+                acting_makes k n place stage u node words a node.what run at refl here le goes acts (reads goes le)
           ]
 
   -- ---- all units of a stage
@@ -385,10 +385,10 @@ module _ (p : Program) (places : List (List Lane)) (parts : List Part) (starts :
           not_there p places parts starts c v entries state outcomes set_in k m node a.outcomes run is_node (slice_get_within p.nodes m node is_node) off before.0,
           made_next k m stage a a before.1 (none_made k m stage node a run is_node off),
         );
-        acts = λ m u node a at base stands before. (
-          unit_law p places parts starts c v entries state outcomes set_in k m a.place stage u node words a run at refl base before.0 (reads m node at.node_is stands),
+        acts = λ m u node a at stands before. (
+          unit_law p places parts starts c v entries state outcomes set_in k m a.place stage u node words a run at refl before.0 (reads m node at.node_is stands),
           made_next k m stage a (unit_acts (look_in c v) k stage words a u) before.1
-              (unit_makes k m a.place stage u node words a run at refl base before.0 (reads m node at.node_is stands)),
+              (unit_makes k m a.place stage u node words a run at refl before.0 (reads m node at.node_is stands)),
         );
       }) now run.units (set, (refl, refl))).1
 

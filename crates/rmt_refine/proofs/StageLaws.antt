@@ -1,12 +1,11 @@
 -- Outcomes, stage by stage: after a stage, the nodes whose outcome is set up to there have that of the program's run, and no other node has one.
 use Rattle.std.proofs.Common.{◌≡◌, ℕ, zero, suc, ◌+◌, ◌-◌, ◌/◌, ◌%◌, ◌^◌, ◌<◌, ◌≤◌, Bool, true, false, ◌&&◌, ◌||◌, ◌==◌, cond, List, [], ◌∷◌, Option, Some, None, length, get_or, take, drop, refl, sym, ap, ◌∙◌, subst, ◌⊎◌, inl, inr, arith}
-use Rattle.std.specs.Prelude.{IfSome, filter, fold, nat_lt, option_and_then, option_map, slice_get, slice_index, slice_set, sum_by, unwrap_or, ⊤}
+use Rattle.std.specs.Prelude.{IfSome, filter, fold, nat_lt, option_and_then, option_map, slice_get, slice_index, slice_set, unwrap_or, ⊤}
 use Rattle.std.specs.List.{AllZip, range_with_len}
 use Rattle.std.proofs.Math.ListN.{length-set}
 use Rattle.std.proofs.lemmas.Bool.{both_ways, cases_lt, eq-eqb, eqb-true, false_from_ne_true, le-ltb, lt-ltb, ltb-true}
-use Rattle.std.proofs.lemmas.List.{get_or-set_other, get_or-set_same, take_more}
-use Rattle.std.proofs.lemmas.List.Sums.{sum_by_push}
-use Rattle.std.proofs.lemmas.Option.{get_or_from_slice_get, same_Some, slice_get_within}
+use Rattle.std.proofs.lemmas.List.{get_or-set_other, get_or-set_same}
+use Rattle.std.proofs.lemmas.Option.{same_Some, slice_get_within}
 use Rattle.std.proofs.lemmas.List.Elements.{All-weaker, All-contains}
 use Rattle.rmt_bits.proofs.ListLaws.{slice_get-item}
 use Rattle.rmt_bits.specs.declared.lane.Lane.{Lane}
@@ -16,19 +15,18 @@ use Rattle.rmt_ast.specs.declared.entry.Entry.{Entry}
 use Rattle.rmt_ast.specs.Control.{runs}
 use Rattle.rmt_ast.specs.Lookup.{hit_of}
 use Rattle.rmt_ast.specs.State.{joined, passes}
+use Rattle.rmt_config.specs.Instructions.{first_code}
 use Rattle.rmt_config.specs.declared.config.Unit.TheVariants.{Gate, Slot}
 use Rattle.rmt_config.specs.declared.config.Memory.TheVariants.{Without, Exact, Ternary}
 use Rattle.rmt_config.specs.Cells.{Found}
 use Rattle.rmt_config.specs.Life.{Acts, Life, Words, acts_of, gate_passes, guarded, has_memory, key_of, looked_up, slot_acts, through, unit_acts}
 use Rattle.rmt_config.specs.Life.{runs as chip_runs}
-use Rattle.rmt_config.specs.Resources.{unit_instructions}
 use Rattle.rmt_pack.specs.declared.placement.Part.{Part}
 use Rattle.rmt_pack.specs.Placements.{quanta_in}
 use Rattle.rmt_refine.specs.View.{View, as_slot, look_in}
 use Rattle.rmt_phv.specs.Places.{high_first}
 use Rattle.rmt_refine.specs.Units.{DoesAs, TableCarried, UnitCarried, UnitsCarried, applied, guard_in, guard_of, last_stage, nodes_in, table_at, tests_of}
 use Rattle.rmt_config.specs.TableForm.{node_of}
-use Rattle.rmt_refine.specs.Cells.{first_code}
 use Rattle.rmt_refine.specs.LookUps.{FindsAs}
 use Rattle.rmt_refine.specs.Outcomes.{IsSetIn, TableSetIn, hit_outcome, node_outcome}
 use Rattle.rmt_refine.proofs.NodeLaws.{one_place, part_there, stands_in_last, within_last}
@@ -48,18 +46,18 @@ gate_on c v k stage words a g e = ap (λ (b : Bool). (cond b (record a { outcome
 
 pub slot_off : (c : Config) (v : View) (k : ℕ) (stage : Stage) (words : Words) (a : Acts) (s : SlotUnit) → chip_runs s.node s.guard a.outcomes ≡ false
     → (unit_acts (look_in c v) k stage words a (Slot s)).outcomes ≡ a.outcomes
-slot_off c v k stage words a s e = ap (λ (b : Bool). (cond b (slot_acts stage s (looked_up (look_in c v) k a.place words s) a) a).outcomes) e
+slot_off c v k stage words a s e = ap (λ (b : Bool). (cond b (slot_acts stage (first_code stage a.place) s (looked_up (look_in c v) k a.place words s) a) a).outcomes) e
 
 slot_on : (c : Config) (v : View) (k : ℕ) (stage : Stage) (words : Words) (a : Acts) (s : SlotUnit) (o : Option Found) → chip_runs s.node s.guard a.outcomes ≡ true
-    → looked_up (look_in c v) k a.place words s ≡ o → (unit_acts (look_in c v) k stage words a (Slot s)).outcomes ≡ (slot_acts stage s o a).outcomes
+    → looked_up (look_in c v) k a.place words s ≡ o → (unit_acts (look_in c v) k stage words a (Slot s)).outcomes ≡ (slot_acts stage (first_code stage a.place) s o a).outcomes
 slot_on c v k stage words a s o e found =
-    ap (λ (b : Bool). (cond b (slot_acts stage s (looked_up (look_in c v) k a.place words s) a) a).outcomes) e ∙ ap (λ (f : Option Found). (slot_acts stage s f a).outcomes) found
+    ap (λ (b : Bool). (cond b (slot_acts stage (first_code stage a.place) s (looked_up (look_in c v) k a.place words s) a) a).outcomes) e ∙ ap (λ (f : Option Found). (slot_acts stage (first_code stage a.place) s f a).outcomes) found
 
-miss_last : (stage : Stage) (s : SlotUnit) (a : Acts) → s.last ≡ true → (slot_acts stage s None a).outcomes ≡ slice_set a.outcomes s.node 1
-miss_last stage s a e = rw e refl
+miss_last : (stage : Stage) (first : ℕ) (s : SlotUnit) (a : Acts) → s.last ≡ true → (slot_acts stage first s None a).outcomes ≡ slice_set a.outcomes s.node 1
+miss_last stage first s a e = rw e refl
 
-miss_more : (stage : Stage) (s : SlotUnit) (a : Acts) → s.last ≡ false → (slot_acts stage s None a).outcomes ≡ a.outcomes
-miss_more stage s a e = rw e refl
+miss_more : (stage : Stage) (first : ℕ) (s : SlotUnit) (a : Acts) → s.last ≡ false → (slot_acts stage first s None a).outcomes ≡ a.outcomes
+miss_more stage first s a e = rw e refl
 
 -- a slot looks its key up, where it has memory; one without has nothing to find
 pub looks : (c : Config) (v : View) (n k place : ℕ) (stage : Stage) (words : Words) (s : SlotUnit) (key : ℕ) → IsPart c n k place stage s → key_of words s.keys ≡ key
@@ -92,25 +90,9 @@ drop_head (z ∷ zs) (suc i) x ys e =
     let next : suc i + 1 ≡ suc (i + 1) = omega arith in
     (r.0, ap (λ m. drop m (z ∷ zs)) next ∙ r.1)
 
-pub first_code_next : (stage : Stage) (i : ℕ) (u : Unit) → slice_get stage.units i ≡ Some u → first_code stage (i + 1) ≡ first_code stage i + unit_instructions u
-first_code_next stage i u e =
-    ap (sum_by unit_instructions) (take_more stage.units i u (slice_get_within stage.units i u e))
-    ∙ sum_by_push unit_instructions (take i stage.units) (get_or stage.units i u)
-    ∙ ap (λ (x : Unit). first_code stage i + unit_instructions x) (get_or_from_slice_get stage.units i u u e)
-
 pub place_after : (c : Config) (v : View) (k : ℕ) (stage : Stage) (words : Words) (a : Acts) (u : Unit) → (unit_acts (look_in c v) k stage words a u).place ≡ a.place + 1
 place_after c v k stage words a (Gate g) = refl
 place_after c v k stage words a (Slot s) = refl
-
-same_base : (b : Bool) (a : Acts) (x : List ℕ) → (cond b (record a { outcomes = x }) a).base ≡ a.base
-same_base true a x = refl
-same_base false a x = refl
-
-pub base_after : (c : Config) (v : View) (k : ℕ) (stage : Stage) (words : Words) (a : Acts) (u : Unit) → (unit_acts (look_in c v) k stage words a u).base ≡ a.base + unit_instructions u
-base_after c v k stage words a (Gate g) =
-    let none : a.base ≡ a.base + 0 = omega arith in
-    same_base (chip_runs g.node g.guard a.outcomes) a (slice_set a.outcomes g.node (cond (gate_passes words g.tests) 2 1)) ∙ none
-base_after c v k stage words a (Slot s) = let sum : a.base + s.actions + 1 ≡ a.base + (s.actions + 1) = omega arith in sum
 
 -- ---- a stage
 
@@ -288,23 +270,23 @@ module _ (p : Program) (places : List (List Lane)) (parts : List Part) (starts :
       → AreSet k (n + 1) (unit_acts (look_in c v) k stage words a (Slot s)).outcomes
   slot_miss k n stage s words a within number last set le acts none (inl now) =
       let done : (unit_acts (look_in c v) k stage words a (Slot s)).outcomes ≡ slice_set a.outcomes n (slice_index outcomes n) =
-      slot_on c v k stage words a s None acts none ∙ miss_last stage s a (last ∙ eq-eqb k (last_stage parts n) now.1)
+      slot_on c v k stage words a s None acts none ∙ miss_last stage (first_code stage a.place) s a (last ∙ eq-eqb k (last_stage parts n) now.1)
       ∙ ap (λ m. slice_set a.outcomes m 1) number ∙ ap (slice_set a.outcomes n) (sym now.2) in
       subst (AreSet k (n + 1)) (sym done) (sets_own k n a.outcomes within set now.0)
   slot_miss k n stage s words a within number last set le acts none (inr later) =
       let lt = later.1 in
       let done : (unit_acts (look_in c v) k stage words a (Slot s)).outcomes ≡ a.outcomes =
-      slot_on c v k stage words a s None acts none ∙ miss_more stage s a (last ∙ eqb_false k (last_stage parts n) (λ e. omega (arith, e, lt))) in
+      slot_on c v k stage words a s None acts none ∙ miss_more stage (first_code stage a.place) s a (last ∙ eqb_false k (last_stage parts n) (λ e. omega (arith, e, lt))) in
       subst (AreSet k (n + 1)) (sym done)
       (stays k n a.outcomes set
       (set.each n within ∙ ap (λ b. cond b (slice_index outcomes n) 0) (own_unset k n le ∙ sym (own_later k n (n + 1) later.0))))
 
   by_found : (k n place : ℕ) (stage : Stage) (s : SlotUnit) (node : Node) (words : Words) (a : Acts) (t : Table) (o : Option Entry) → IsRun → IsAt k n place stage (Slot s) node
-      → a.base ≡ first_code stage place → s.last ≡ (k == last_stage parts n) → AreSet k n a.outcomes → k ≤ set_in n → chip_runs s.node s.guard a.outcomes ≡ true
+      → a.place ≡ place → s.last ≡ (k == last_stage parts n) → AreSet k n a.outcomes → k ≤ set_in n → chip_runs s.node s.guard a.outcomes ≡ true
       → looked_up (look_in c v) k a.place words s ≡ look_in c v k place (joined p t.key (state n)) → FindsAs p c v n t (joined p t.key (state n)) o
       → TableSetIn p parts c v n t (joined p t.key (state n)) (set_in n) o → slice_index outcomes n ≡ hit_outcome o
       → AreSet k (n + 1) (unit_acts (look_in c v) k stage words a (Slot s)).outcomes
-  by_found k n place stage s node words a t None run at base last set le acts looks_there finds sets value =
+  by_found k n place stage s node words a t None run at here last set le acts looks_there finds sets value =
       let part : IsPart c n k place stage s = record { stage_is = at.stage_is; slot_is = ap (option_and_then as_slot) at.unit_is; node_is = at.carried.number } in
       let none = looks_there ∙ finds k place s (slot_of_part c n k place stage s part) at.carried.number in
       slot_miss k n stage s words a at.within at.carried.number last set le acts none
@@ -315,22 +297,22 @@ module _ (p : Program) (places : List (List Lane)) (parts : List Part) (starts :
           | inr e ↦ inl (sym e, e ∙ sets, value)
         ]
       ])
-  by_found k n place stage s node words a t (Some e) run at base last set le acts looks_there finds sets value =
+  by_found k n place stage s node words a t (Some e) run at here last set le acts looks_there finds sets value =
       let part : IsPart c n k place stage s = record { stage_is = at.stage_is; slot_is = ap (option_and_then as_slot) at.unit_is; node_is = at.carried.number } in
       let f = sets.0 in
-      let here : f.k ≡ set_in n = sets.1 in
+      let set_there : f.k ≡ set_in n = sets.1 in
       let f_part : IsPart c n f.k f.place f.stage f.slot = record { stage_is = f.stage_is; slot_is = f.slot_is; node_is = f.node_is } in
       let f_at = unit_of_part p places parts starts c n f.k f.place f.stage f.slot run.units f_part in
       let f_last = within_last parts n f.k (quanta_of_node p parts f.k f.place n f_at.0) in
       elim (compare k (set_in n)) [
         | inl lt ↦
             slot_miss k n stage s words a at.within at.carried.number last set le acts
-            (looks_there ∙ f.none_before k place s (omega (arith, lt, here)) (slot_of_part c n k place stage s part) at.carried.number)
-            (inr (lt, omega (arith, lt, here, f_last)))
+            (looks_there ∙ f.none_before k place s (omega (arith, lt, set_there)) (slot_of_part c n k place stage s part) at.carried.number)
+            (inr (lt, omega (arith, lt, set_there, f_last)))
         | inr more ↦ elim more [
           | inl gt ↦ absurd (omega (arith, gt, le))
           | inr same ↦
-              let k_is : f.k ≡ k = here ∙ sym same in
+              let k_is : f.k ≡ k = set_there ∙ sym same in
               let place_is : f.place ≡ place = one_place p parts k n f.place place (subst (λ j. slice_get (nodes_in p parts j) f.place ≡ Some n) k_is f_at.0) at.number in
               let stage_is : f.stage ≡ stage = same_Some f.stage stage (sym f.stage_is ∙ ap (slice_get c.stages) k_is ∙ at.stage_is) in
               let looks_is : look_in c v k place (joined p t.key (state n)) ≡ Some f.found =
@@ -338,22 +320,23 @@ module _ (p : Program) (places : List (List Lane)) (parts : List Part) (starts :
               let entry = f.is_entry in
               let code : f.found.code ≡ first_code stage place + e.action =
               entry.code ∙ ap (λ (x : Stage). first_code x f.place + e.action) stage_is ∙ ap (λ i. first_code stage i + e.action) place_is in
-              let action : 2 + (f.found.code - a.base) ≡ 2 + e.action = omega (arith, code, base) in
+              let first : first_code stage a.place ≡ first_code stage place = ap (first_code stage) here in
+              let action : 2 + (f.found.code - first_code stage a.place) ≡ 2 + e.action = omega (arith, code, first) in
               let done : (unit_acts (look_in c v) k stage words a (Slot s)).outcomes ≡ slice_set a.outcomes n (slice_index outcomes n) =
               slot_on c v k stage words a s (Some f.found) acts (looks_there ∙ looks_is)
-              ∙ ap (λ m. slice_set a.outcomes m (2 + (f.found.code - a.base))) at.carried.number
+              ∙ ap (λ m. slice_set a.outcomes m (2 + (f.found.code - first_code stage a.place))) at.carried.number
               ∙ ap (slice_set a.outcomes n) (action ∙ sym value) in
               subst (AreSet k (n + 1)) (sym done) (sets_own k n a.outcomes at.within set (sym same))
         ]
       ]
 
   slot_law : (k n place : ℕ) (stage : Stage) (s : SlotUnit) (node : Node) (words : Words) (a : Acts) (w : What) → IsRun → IsAt k n place stage (Slot s) node → node.what ≡ w
-      → a.place ≡ place → a.base ≡ first_code stage place → AreSet k n a.outcomes → k ≤ set_in n → runs node.guard outcomes ≡ true
+      → a.place ≡ place → AreSet k n a.outcomes → k ≤ set_in n → runs node.guard outcomes ≡ true
       → chip_runs s.node s.guard a.outcomes ≡ true → ReadsAs words n w → AreSet k (n + 1) (unit_acts (look_in c v) k stage words a (Slot s)).outcomes
-  slot_law k n place stage s node words a (what.Gate field test) run at is here base set le goes acts reads =
+  slot_law k n place stage s node words a (what.Gate field test) run at is here set le goes acts reads =
       let does = and_at (slice_get p.nodes n) (λ (x : Node). DoesAs p places parts k n x.what (Slot s)) node at.node_is at.carried.does in
       absurd (subst (λ x. DoesAs p places parts k n x (Slot s)) is does)
-  slot_law k n place stage s node words a (what.Apply i) run at is here base set le goes acts reads =
+  slot_law k n place stage s node words a (what.Apply i) run at is here set le goes acts reads =
       let does = subst (λ x. DoesAs p places parts k n x (Slot s)) is
       (and_at (slice_get p.nodes n) (λ (x : Node). DoesAs p places parts k n x.what (Slot s)) node at.node_is at.carried.does) in
       let table = some_and (slice_get p.tables i) (λ (t : Table). TableCarried places parts n k t s) does in
@@ -372,7 +355,7 @@ module _ (p : Program) (places : List (List Lane)) (parts : List Part) (starts :
       let reads_key : key_of words (high_first places t.key) ≡ key = subst (λ o. IfSome o (λ (x : Table). key_of words (high_first places x.key) ≡ joined p x.key (state n))) table.1 reads in
       let looks_there : looked_up (look_in c v) k a.place words s ≡ look_in c v k place key =
       ap (λ m. looked_up (look_in c v) k m words s) here ∙ looks c v n k place stage words s key part (ap (key_of words) carried.keys ∙ reads_key) s.memory refl in
-      by_found k n place stage s node words a t hit run at base carried.last set le acts looks_there (run.finds n t at_table) set_there value
+      by_found k n place stage s node words a t hit run at here carried.last set le acts looks_there (run.finds n t at_table) set_there value
 
   -- a node that runs has an outcome
   hit_some_outcome : (o : Option Entry) → hit_outcome o ≡ 0 → ⊥
@@ -394,9 +377,9 @@ module _ (p : Program) (places : List (List Lane)) (parts : List Part) (starts :
 
   -- a unit of stage k: after it the outcome of its node is set too, where that is set in this stage
   pub unit_law : (k n place : ℕ) (stage : Stage) (u : Unit) (node : Node) (words : Words) (a : Acts) → IsRun → IsAt k n place stage u node
-      → a.place ≡ place → a.base ≡ first_code stage place → AreSet k n a.outcomes → (runs node.guard outcomes ≡ true → k ≤ set_in n → ReadsAs words n node.what)
+      → a.place ≡ place → AreSet k n a.outcomes → (runs node.guard outcomes ≡ true → k ≤ set_in n → ReadsAs words n node.what)
       → AreSet k (n + 1) (unit_acts (look_in c v) k stage words a u).outcomes
-  unit_law k n place stage u node words a run at here base set reads = by_run (runs node.guard outcomes) refl
+  unit_law k n place stage u node words a run at here set reads = by_run (runs node.guard outcomes) refl
     where
       own : slice_index a.outcomes n ≡ cond (is_set k n n) (slice_index outcomes n) 0
       own = set.each n at.within
@@ -416,7 +399,7 @@ module _ (p : Program) (places : List (List Lane)) (parts : List Part) (starts :
       acting (Slot s) e goes le acts =
           let P : Unit → Type 0 = λ x. IsAt k n place stage x node in
           let Q : Unit → Type 0 = λ x. AreSet k (n + 1) (unit_acts (look_in c v) k stage words a x).outcomes in
-          subst Q (sym e) (slot_law k n place stage s node words a node.what run (subst P e at) refl here base set le goes
+          subst Q (sym e) (slot_law k n place stage s node words a node.what run (subst P e at) refl here set le goes
           (subst (λ x. chip_runs (node_of x) (guard_in x) a.outcomes ≡ true) e acts) (reads goes le))
 
       by_run : (r : Bool) → runs node.guard outcomes ≡ r → AreSet k (n + 1) (unit_acts (look_in c v) k stage words a u).outcomes
@@ -493,7 +476,7 @@ module _ (p : Program) (places : List (List Lane)) (parts : List Part) (starts :
 
   pub record IsKept (k : ℕ) (stage : Stage) (words : Words) (Q : ℕ → Acts → Type 0) : Type 0 where
     pub absent : (m : ℕ) (node : Node) (a : Acts) → slice_get p.nodes m ≡ Some node → nat_lt 0 (quanta_in parts m k) ≡ false → Q m a → Q (m + 1) a
-    pub acts : (m : ℕ) (u : Unit) (node : Node) (a : Acts) → IsAt k m a.place stage u node → a.base ≡ first_code stage a.place → 0 < quanta_in parts m k → Q m a
+    pub acts : (m : ℕ) (u : Unit) (node : Node) (a : Acts) → IsAt k m a.place stage u node → 0 < quanta_in parts m k → Q m a
         → Q (m + 1) (unit_acts (look_in c v) k stage words a u)
 
   module _ (k : ℕ) (stage : Stage) (words : Words) (Q : ℕ → Acts → Type 0) (stage_is : slice_get c.stages k ≡ Some stage) (kept : IsKept k stage words Q) where
@@ -501,12 +484,12 @@ module _ (p : Program) (places : List (List Lane)) (parts : List Part) (starts :
     abbrev FromNode : ℕ → List ℕ → Type 0
     FromNode m ns =
         (us : List Unit) (a : Acts) → AllZip (UnitCarried p places parts k) ns us → drop a.place stage.units ≡ us → drop a.place (nodes_in p parts k) ≡ ns
-        → a.base ≡ first_code stage a.place → Q m a → Q (length p.nodes) (fold (unit_acts (look_in c v) k stage words) a us)
+        → Q m a → Q (length p.nodes) (fold (unit_acts (look_in c v) k stage words) a us)
 
     by_node : (m : ℕ) (node : Node) (ns : List ℕ) (b : Bool) → slice_get p.nodes m ≡ Some node → stands_in k m ≡ b → FromNode (m + 1) ns → FromNode m (cond b (m ∷ ns) ns)
-    by_node m node ns false is_node e rest us a zip units nodes base holds = rest us a zip units nodes base (kept.absent m node a is_node e holds)
-    by_node m node ns true is_node e rest [] a zip units nodes base holds = absurd zip
-    by_node m node ns true is_node e rest (u ∷ us) a zip units nodes base holds =
+    by_node m node ns false is_node e rest us a zip units nodes holds = rest us a zip units nodes (kept.absent m node a is_node e holds)
+    by_node m node ns true is_node e rest [] a zip units nodes holds = absurd zip
+    by_node m node ns true is_node e rest (u ∷ us) a zip units nodes holds =
         let unit = drop_head stage.units a.place u us units in
         let number = drop_head (nodes_in p parts k) a.place m ns nodes in
         let at : IsAt k m a.place stage u node = record {
@@ -520,23 +503,22 @@ module _ (p : Program) (places : List (List Lane)) (parts : List Part) (starts :
         let after = unit_acts (look_in c v) k stage words a u in
         let next : after.place ≡ a.place + 1 = place_after c v k stage words a u in
         rest us after zip.1 (ap (λ i. drop i stage.units) next ∙ unit.1) (ap (λ i. drop i (nodes_in p parts k)) next ∙ number.1)
-        (base_after c v k stage words a u ∙ ap (λ n. n + unit_instructions u) base ∙ sym (first_code_next stage a.place u unit.0) ∙ sym (ap (first_code stage) next))
-        (kept.acts m u node a at base (ltb-true 0 (quanta_in parts m k) e) holds)
+        (kept.acts m u node a at (ltb-true 0 (quanta_in parts m k) e) holds)
 
     from_node : (count m : ℕ) → m + count ≡ length p.nodes → FromNode m (filter (stands_in k) (range_with_len m count))
-    from_node zero m sum [] a zip units nodes base holds = let e : m ≡ length p.nodes = omega (arith, sum) in subst (λ n. Q n a) e holds
-    from_node zero m sum (u ∷ us) a zip units nodes base holds = absurd zip
-    from_node (suc count) m sum us a zip units nodes base holds =
+    from_node zero m sum [] a zip units nodes holds = let e : m ≡ length p.nodes = omega (arith, sum) in subst (λ n. Q n a) e holds
+    from_node zero m sum (u ∷ us) a zip units nodes holds = absurd zip
+    from_node (suc count) m sum us a zip units nodes holds =
         let node = slice_get-item p.nodes m (omega (arith, sum)) in
-        by_node m node.0 (filter (stands_in k) (range_with_len (m + 1) count)) (stands_in k m) node.1 refl (from_node count (m + 1) (omega (arith, sum))) us a zip units nodes base holds
+        by_node m node.0 (filter (stands_in k) (range_with_len (m + 1) count)) (stands_in k m) node.1 refl (from_node count (m + 1) (omega (arith, sum))) us a zip units nodes holds
 
     -- it holds of what the units of the stage make
-    pub kept_through : (now : List ℕ) → UnitsCarried p places parts starts c → Q 0 (record { outcomes = now; running = []; counted = []; base = 0; place = 0 })
+    pub kept_through : (now : List ℕ) → UnitsCarried p places parts starts c → Q 0 (record { outcomes = now; running = []; counted = []; place = 0 })
         → Q (length p.nodes) (acts_of (look_in c v) k stage words now)
     kept_through now units holds =
         let zip = and_at (slice_get c.stages k) (λ (s : Stage). AllZip (UnitCarried p places parts k) (nodes_in p parts k) s.units) stage stage_is
         (units.units k (slice_get_within c.stages k stage stage_is)) in
-        from_node (length p.nodes) 0 (omega arith) stage.units (record { outcomes = now; running = []; counted = []; base = 0; place = 0 }) zip refl refl refl holds
+        from_node (length p.nodes) 0 (omega arith) stage.units (record { outcomes = now; running = []; counted = []; place = 0 }) zip refl refl holds
 
   stage_end : (k : ℕ) (now : List ℕ) → AreSet k (length p.nodes) now → AreSet (k + 1) 0 now
   stage_end k now set = record {
@@ -565,7 +547,7 @@ module _ (p : Program) (places : List (List Lane)) (parts : List Part) (starts :
       (kept_through k stage words (λ m a. AreSet k m a.outcomes) stage_is
       (record {
         absent = λ m node a is_node off before. not_there k m node a.outcomes run is_node (slice_get_within p.nodes m node is_node) off before;
-        acts = λ m u node a at base stands before. unit_law k m a.place stage u node words a run at refl base before (reads m node at.node_is stands);
+        acts = λ m u node a at stands before. unit_law k m a.place stage u node words a run at refl before (reads m node at.node_is stands);
       }) now run.units set)
 
   -- ---- all stages

@@ -16,6 +16,8 @@ use Rattle.rmt_ast.specs.EntryLists.{AreEntries, IsEntry, params_of, terms_of}
 use Rattle.rmt_ast.specs.RowOrder.{goes_first}
 use Rattle.rmt_ast.specs.State.{width_of}
 use Rattle.rmt_refine.specs.Types.{Config, Node, Program, SlotUnit, Stage, Table, What}
+use Rattle.rmt_config.specs.Instructions.{first_code, unit_instructions}
+use Rattle.rmt_config.proofs.InstructionLaws.{first_code_next}
 use Rattle.rmt_config.specs.LaneForm.{bits_of_lanes}
 use Rattle.rmt_config.specs.Cells.{Content, candidates, cells_in, code_of, is_seen}
 use Rattle.rmt_config.specs.Limits.{IsWithinLimits}
@@ -26,18 +28,16 @@ use Rattle.rmt_refine.specs.declared.map.CellOf.{CellOf}
 use Rattle.rmt_refine.specs.declared.map.Map.{Map}
 use Rattle.rmt_refine.specs.View.{View, as_slot, slot_of}
 use Rattle.rmt_refine.specs.Units.{DoesAs, TableCarried, UnitsCarried, applied, nodes_in, table_at}
-use Rattle.rmt_refine.specs.Cells.{CellsCarried, HoldsEntry, IsBefore, IsCandidate, IsSpotOf, IsTold, Spot, TableCellsCarried, first_code}
+use Rattle.rmt_refine.specs.Cells.{CellsCarried, HoldsEntry, IsBefore, IsCandidate, IsSpotOf, IsTold, Spot, TableCellsCarried}
 use Rattle.rmt_refine.proofs.PartLaws.{and_at, and_from as some_from, candidates_within, kind_of_part, part_of_spot, slot_is_unit, slot_of_part, spot_of_part, then_some, unit_of_part}
 use Rattle.rmt_refine.proofs.EntryLaws.{IsListed, action_is, listed_in, one_entry, two_items}
 use Rattle.rmt_bits.specs.declared.lane.Lane.{Lane}
 use Rattle.rmt_ast.specs.declared.program.What.TheVariants as what
 use Rattle.rmt_config.specs.declared.config.Unit.TheVariants.{Slot}
-use Rattle.rmt_config.specs.Resources.{unit_instructions}
 use Rattle.rmt_config.specs.Effects.{HasArguments}
 use Rattle.rmt_config.proofs.LimitLaws.{limits_kept}
 use Rattle.rmt_pack.specs.declared.placement.Part.{Part}
 use Rattle.rmt_refine.proofs.NodeLaws.{one_place}
-use Rattle.rmt_refine.proofs.StageLaws.{first_code_next}
 use Rattle.rmt_refine.proofs.TheLaw.{table_entries}
 use Rattle.rmt_refine.proofs.RankLaws.{goes_never}
 use Rattle.rmt_refine.proofs.RoomLaws.{RoomIs}

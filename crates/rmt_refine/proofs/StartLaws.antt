@@ -11,6 +11,7 @@ use Rattle.rmt_ast.specs.declared.entry.Entry.{Entry}
 use Rattle.rmt_ast.specs.declared.names.Names.{Names}
 use Rattle.rmt_ast.specs.EntryLists.{AreEntries}
 use Rattle.rmt_refine.specs.Types.{Config, Node, Program, SlotUnit, Stage, Table}
+use Rattle.rmt_config.specs.Instructions.{first_code}
 use Rattle.rmt_config.specs.declared.config.Unit.TheVariants.{Slot}
 use Rattle.rmt_config.specs.LaneForm.{bits_of_lanes}
 use Rattle.rmt_config.specs.CellForm.{Coded, SlotHolds, StageHolds, cells_of, content_is_formed}
@@ -24,7 +25,7 @@ use Rattle.rmt_refine.specs.declared.map.Map.{Map}
 use Rattle.rmt_refine.specs.View.{View, look_in, own_content, own_view}
 use Rattle.rmt_refine.specs.View as view
 use Rattle.rmt_refine.specs.Units.{DoesAs, TableCarried, UnitsCarried, applied, table_at}
-use Rattle.rmt_refine.specs.Cells.{CellsCarried, HoldsEntry, IsSpotOf, Spot, TableCellsCarried, first_code}
+use Rattle.rmt_refine.specs.Cells.{CellsCarried, HoldsEntry, IsSpotOf, Spot, TableCellsCarried}
 use Rattle.rmt_refine.specs.Commits.{seen_by}
 use Rattle.rmt_refine.specs.Outcomes.{entries_at}
 use Rattle.rmt_refine.proofs.CellNumberLaws.{cells_listed, coded_slot, does_table}

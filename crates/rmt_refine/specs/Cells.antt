@@ -1,15 +1,14 @@
 -- Fourth part of a configuration's carrying a program: the cells hold its entries.
-use Rattle.std.specs.Prelude.{◌≡◌, ◌<◌, ◌⊎◌, ℕ, ◌+◌, List, true, Some, All, IsSomeAnd, Contains, map, take, slice_get, slice_index}
-use Rattle.std.specs.List.{sum_by}
+use Rattle.std.specs.Prelude.{◌≡◌, ◌<◌, ◌⊎◌, ℕ, ◌+◌, List, true, Some, All, IsSomeAnd, Contains, map, slice_get, slice_index}
 use Rattle.rmt_refine.specs.Types.{Program, Table, Config, Stage, SlotUnit}
 use Rattle.rmt_ast.specs.declared.entry.Entry.{Entry}
 use Rattle.rmt_ast.specs.WellFormed.{AreDistinct}
 use Rattle.rmt_ast.specs.EntryLists.{params_of}
 use Rattle.rmt_ast.specs.RowOrder.{goes_first}
 use Rattle.rmt_ast.specs.State.{width_of}
+use Rattle.rmt_config.specs.Instructions.{first_code}
 use Rattle.rmt_config.specs.LaneForm.{bits_of_lanes}
 use Rattle.rmt_config.specs.Cells.{Content, candidates, cells_in, code_of, is_seen}
-use Rattle.rmt_config.specs.Resources.{unit_instructions}
 use Rattle.rmt_refine.specs.declared.map.CellOf.{CellOf}
 use Rattle.rmt_refine.specs.View.{View, slot_of}
 use Rattle.rmt_refine.specs.Units.{table_at}
@@ -26,10 +25,6 @@ pub record HoldsEntry (p : Program) (t : Table) (widths : List ℕ) (first : ℕ
   pub mask : content.mask ≡ tests_as_one (λ t. t.mask) widths e.tests
   pub held : HasArguments (params_of p (slice_index t.actions e.action)) e.args content.held
   pub number_is : number ≡ e.number
-
--- the number of the first instruction of the unit at a place of a stage
-abbrev pub first_code : Stage → ℕ → ℕ
-first_code stage place = sum_by unit_instructions (take place stage.units)
 
 -- ---- all cells
 

@@ -10,10 +10,10 @@ use Rattle.rmt_ast.specs.EntryLists.{params_of}
 use Rattle.rmt_ast.specs.WellFormed.{Fits}
 use Rattle.rmt_phv.specs.Places.{written_by}
 use Rattle.rmt_deps.specs.Edges.{of_action}
+use Rattle.rmt_config.specs.Instructions.{first_code}
 use Rattle.rmt_config.specs.Life.{Words, code_at}
 use Rattle.rmt_refine.specs.View.{slot_of}
 use Rattle.rmt_refine.specs.Units.{table_at}
-use Rattle.rmt_refine.specs.Cells.{first_code}
 use Rattle.rmt_config.specs.Effects.{HasArguments, Hold, words_after, ChangesOnly}
 
 -- ---- words and instructions

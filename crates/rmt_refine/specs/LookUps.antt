@@ -3,9 +3,9 @@ use Rattle.std.specs.Prelude.{◌≡◌, ◌<◌, ℕ, ◌+◌, Option, Some, No
 use Rattle.rmt_refine.specs.Types.{Program, Table, Config, Stage, SlotUnit}
 use Rattle.rmt_ast.specs.declared.entry.Entry.{Entry}
 use Rattle.rmt_ast.specs.EntryLists.{params_of}
+use Rattle.rmt_config.specs.Instructions.{first_code}
 use Rattle.rmt_config.specs.Cells.{Found}
 use Rattle.rmt_refine.specs.View.{View, look_in, slot_at, slot_of}
-use Rattle.rmt_refine.specs.Cells.{first_code}
 use Rattle.rmt_config.specs.Effects.{HasArguments}
 
 -- what was found is an entry: its action, its arguments and its number

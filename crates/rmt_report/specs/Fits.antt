@@ -1,8 +1,9 @@
 -- A stage whose sums are at most those of the chip.
 use Rattle.std.specs.Prelude.{◌≤◌, length}
 use Rattle.std.specs.List.{flat_map, sum_by, count_by}
+use Rattle.rmt_config.specs.Instructions.{unit_instructions}
 use Rattle.rmt_config.specs.declared.config.Stage.{Stage}
-use Rattle.rmt_config.specs.Resources.{is_slot, is_gate, unit_instructions, unit_data, unit_sram, unit_tcam}
+use Rattle.rmt_config.specs.Resources.{is_slot, is_gate, unit_data, unit_sram, unit_tcam}
 
 -- what is summed over the units of a stage is within the limits
 pub record StageFits (stage : Stage) : Type 0 where

@@ -1,8 +1,9 @@
 -- What a stage uses of the chip, in numbers.
 use Rattle.std.specs.Prelude.{length}
 use Rattle.std.specs.List.{flat_map, count_by, sum_by}
+use Rattle.rmt_config.specs.Instructions.{unit_instructions}
 use Rattle.rmt_config.specs.declared.config.Stage.{Stage}
-use Rattle.rmt_config.specs.Resources.{is_slot, is_gate, unit_instructions, unit_data, unit_sram, unit_tcam, exact_words, ternary_words, crossbar_bits}
+use Rattle.rmt_config.specs.Resources.{is_slot, is_gate, unit_data, unit_sram, unit_tcam, exact_words, ternary_words, crossbar_bits}
 use Rattle.rmt_report.specs.declared.stage_use.StageUse.{StageUse}
 
 -- blocks as often as units list them, crossbar words each once, and the sums of units, instructions and data bits

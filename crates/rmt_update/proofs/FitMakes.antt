@@ -19,6 +19,8 @@ use Rattle.rmt_ast.specs.declared.program.Kind.TheVariants as kind
 use Rattle.rmt_ast.specs.Changes.{list_of}
 use Rattle.rmt_ast.specs.EntryLists.{AreEntriesAt, IsEntry, Terms}
 use Rattle.rmt_ast.specs.NameRules.{AreEntriesOf, terms_named, terms_of_name}
+use Rattle.rmt_config.specs.Instructions.{first_code, unit_instructions}
+use Rattle.rmt_config.proofs.InstructionLaws.{first_code_next}
 use Rattle.rmt_config.specs.declared.config.Config.{Config}
 use Rattle.rmt_config.specs.declared.config.Memory.{Memory}
 use Rattle.rmt_config.specs.declared.config.SlotUnit.{SlotUnit}
@@ -31,18 +33,15 @@ use Rattle.rmt_config.specs.LaneForm.{bits_of_lanes}
 use Rattle.rmt_config.specs.Limits.{IsWithinLimits}
 use Rattle.rmt_config.specs.PartStands.{PartStands}
 use Rattle.rmt_config.specs.NamesForm.{has_actions, is_made_so, is_of_kind}
-use Rattle.rmt_config.specs.Resources.{unit_instructions}
 use Rattle.rmt_config.specs.Rooms.{PartAt, Room, args_as_one, content_in, entry_content, is_at, key_number, parts_of, rooms_for, tests_as_one}
 use Rattle.rmt_config.specs.RunCells.{RunCells, as_slot, emptied, has_bit, no_content, slot_at, with_version}
 use Rattle.rmt_config.proofs.LimitLaws.{limits_kept}
 use Rattle.rmt_config.proofs.SpelledParts.{parts-stand}
 use Rattle.rmt_config.proofs.SpelledWays.{parts-follow}
-use Rattle.rmt_refine.specs.Cells.{first_code}
 use Rattle.rmt_refine.proofs.BesideLaws.{args-lt}
 use Rattle.rmt_refine.proofs.PartLaws.{slot_is_unit, then_some}
 use Rattle.rmt_refine.proofs.PlacedLaws.{Comes, HasItsRoom, Stays, each_has_its_room}
 use Rattle.rmt_refine.proofs.RoomLaws.{PartIs, stages_there}
-use Rattle.rmt_refine.proofs.StageLaws.{first_code_next}
 use Rattle.rmt_refine.proofs.LayoutLaws.{memory_formed}
 use Rattle.rmt_refine.proofs.FilledLaws.{room_there}
 use Rattle.rmt_refine.proofs.StandLaws.{at_is, code_at}

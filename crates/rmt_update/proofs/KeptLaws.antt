@@ -7,7 +7,7 @@ use Rattle.rmt_bits.proofs.BitLaws.{slice-lt, slice-slice, slice-whole}
 use Rattle.rmt_bits.proofs.ByteLaws.{length-bytes_of}
 use Rattle.rmt_config.specs.declared.config.TcamRow.{TcamRow}
 use Rattle.rmt_config.specs.Cells.{Blocks, tcam_row, unit_row}
-use Rattle.rmt_config.specs.Shapes.{divided_up}
+use Rattle.rmt_config.specs.BlockCounts.{divided_up}
 use Rattle.rmt_config.proofs.CellLayouts.{up-least}
 use Rattle.rmt_config.proofs.SpelledCandidates.{above-byte}
 use Rattle.rmt_config.proofs.UnitBits.{Within}

@@ -24,7 +24,7 @@ use Rattle.rmt_config.specs.Cells.{candidates}
 use Rattle.rmt_config.specs.Commits.{AreFilled, IsFilled, Placed, all_entries}
 use Rattle.rmt_config.specs.LaneForm.{bits_of_lanes}
 use Rattle.rmt_config.specs.Rooms.{PartAt, Room, is_same, key_number, parts_of, rooms_for}
-use Rattle.rmt_config.specs.Shapes.{divided_up}
+use Rattle.rmt_config.specs.BlockCounts.{divided_up}
 use Rattle.rmt_cuckoo.specs.Loading.{IsLoading, candidates as loaded_in}
 use Rattle.rmt_update.specs.declared.book.loading.TableTried.TheVariants as table
 use Rattle.rmt_update.specs.declared.book.spots.Spot.{Spot}

@@ -21,7 +21,7 @@ use Rattle.rmt_config.specs.Cells.{Content, cells_in, code_of, visible_bits}
 use Rattle.rmt_config.specs.Commits.{AreWrites, IsCell, writes_before}
 use Rattle.rmt_config.specs.LaneForm.{bits_of_lanes}
 use Rattle.rmt_config.specs.RunCells.{RunCells, emptied, is_changed, no_content, slot_at, written_content, written_mask}
-use Rattle.rmt_config.specs.Shapes.{divided_up}
+use Rattle.rmt_config.specs.BlockCounts.{divided_up}
 use Rattle.rmt_refine.proofs.FindLaws.{Contains-range}
 use Rattle.rmt_refine.proofs.RoomOrderLaws.{pairs_flat}
 use Rattle.rmt_refine.proofs.LayoutLaws.{bytes_hold}

@@ -45,7 +45,7 @@ use Rattle.rmt_update.specs.Refill.{IsMoved, SamePart, spots_of}
 use Rattle.rmt_update.specs.Seen.{entries_in, is_seen}
 use Rattle.rmt_update.specs.Spots.{no_part, placed_from, room_at}
 use Rattle.rmt_update.specs.Told.{told_entry}
-use Rattle.rmt_update.specs.declared.book.shape.Shape.{Shape}
+use Rattle.rmt_update.specs.declared.book.shape.PartShape.{PartShape}
 use Rattle.rmt_update.proofs.CandidateLaws.{key-low}
 use Rattle.rmt_update.proofs.FirstLaws.{IsRowKind, firsts, map-twice}
 use Rattle.rmt_update.proofs.LoadLaws.{table-entries}
@@ -271,7 +271,7 @@ module _ (c : Config) (names : Names) (cells : RunCells) (seed : ℕ) (lists : L
         each = λ n lt. by n (get nat_cmp y.cells n) refl;
         bytes = λ n k is.
             let h = moved.found i n y k at_y is in
-            sizes-bytes x.name p y.shape.held k facts.bits facts.kind (ap (λ (u : Shape). u.held) same.shape ∙ old.2.shape.held) h.sizes;
+            sizes-bytes x.name p y.shape.held k facts.bits facts.kind (ap (λ (u : PartShape). u.held) same.shape ∙ old.2.shape.held) h.sizes;
       }
         where
           by : (n : ℕ) (o : Option Kept) → get nat_cmp y.cells n ≡ o → IsKeptOf seed p (next.content p.stage p.place n) (record { cell = n; number = next.number p.stage p.place n }) o

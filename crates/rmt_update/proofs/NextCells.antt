@@ -20,7 +20,7 @@ use Rattle.rmt_config.specs.RunCells.{is_changed}
 use Rattle.rmt_update.specs.declared.book.changing.CellChange.{CellChange}
 use Rattle.rmt_update.specs.declared.book.kept.Kept.{Kept}
 use Rattle.rmt_update.specs.declared.book.placing.Coming.{Coming}
-use Rattle.rmt_update.specs.declared.book.shape.Shape.{Shape}
+use Rattle.rmt_update.specs.declared.book.shape.PartShape.{PartShape}
 use Rattle.rmt_update.specs.declared.book.spot.BookSpot.{BookSpot}
 use Rattle.rmt_update.specs.declared.book.table.PartCells.{PartCells}
 use Rattle.rmt_update.specs.declared.book.table.TableCells.{TableCells}
@@ -342,7 +342,7 @@ module _ (odd : Bool) (gone : List ℕ) (come : List Coming) (ts : List TableCel
           let now : get nat_cmp p.1.cells n ≡ next s = sym (kept-part us s p.1 (h.new n)) ∙ next-kept s in
           ap (λ k. write_at m ((k, p.1.place), n)) is.stage ∙ ap (λ k. write_at m ((p.0.stage, k), n)) is.place ∙ changed.each s p.0 (h.old n)
           ∙ ap (λ o. change_by (is_exact p.0.shape.grid) p.0.stage p.0.place n (get nat_cmp p.0.cells n) o) (sym now)
-          ∙ ap (λ (z : Shape). change_by (is_exact z.grid) p.0.stage p.0.place n (get nat_cmp p.0.cells n) (get nat_cmp p.1.cells n)) (sym is.shape)
+          ∙ ap (λ (z : PartShape). change_by (is_exact z.grid) p.0.stage p.0.place n (get nat_cmp p.0.cells n) (get nat_cmp p.1.cells n)) (sym is.shape)
           ∙ ap (λ k. change_by (is_exact p.1.shape.grid) k p.0.place n (get nat_cmp p.0.cells n) (get nat_cmp p.1.cells n)) (sym is.stage)
           ∙ ap (λ k. change_by (is_exact p.1.shape.grid) p.1.stage k n (get nat_cmp p.0.cells n) (get nat_cmp p.1.cells n)) (sym is.place)
 

@@ -16,7 +16,7 @@ use Rattle.rmt_bits.specs.Bits.{bytes_of}
 use Rattle.rmt_ast.specs.RankPairs.{pair_cmp}
 use Rattle.rmt_config.specs.LaneForm.{bits_of_lanes}
 use Rattle.rmt_config.specs.Rooms.{PartAt}
-use Rattle.rmt_config.specs.Shapes.{divided_up}
+use Rattle.rmt_config.specs.BlockCounts.{divided_up}
 use Rattle.rmt_ast.specs.declared.program.Kind.{Kind}
 use Rattle.rmt_update.specs.declared.book.kept.Kept.{Kept}
 use Rattle.rmt_update.specs.declared.book.row_order.RowOrder.{RowOrder}

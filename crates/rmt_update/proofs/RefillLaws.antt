@@ -17,7 +17,7 @@ use Rattle.rmt_update.specs.declared.book.table.PartCells.{PartCells}
 use Rattle.rmt_update.specs.declared.book.table.TableCells.{TableCells}
 use Rattle.rmt_update.specs.Coming.{HasSizes, KeepsEntry}
 use Rattle.rmt_update.specs.Refill.{AreRefilled, IsCleared, IsOneOf, SamePart, WithEntry}
-use Rattle.rmt_update.specs.declared.book.shape.Shape.{Shape}
+use Rattle.rmt_update.specs.declared.book.shape.PartShape.{PartShape}
 use Rattle.rmt_update.proofs.ZipLaws.{zip-all-right, zip-gives}
 
 pub same-parts : (x y z : PartCells) → SamePart x y → SamePart y z → SamePart x z
@@ -98,11 +98,11 @@ module _ (x : TableCells) (es : List Entry) (ss : List Spot) where
               in_entries = in_es;
               in_spots = in_ss ∙ ap (λ m. Some (record { part = s.part; cell = m })) cell;
               keeps = subst (λ f. KeepsEntry x.name f n 3 e k) (sym put.same.first) (subst (KeepsEntry x.name y.first n 3 e) kept (subst (λ m. KeepsEntry x.name y.first m 3 e put.kept) cell put.keeps));
-              sizes = subst (λ (u : Shape). HasSizes x.name u.held k) (sym put.same.shape) (subst (HasSizes x.name y.shape.held) kept put.sizes);
+              sizes = subst (λ (u : PartShape). HasSizes x.name u.held k) (sym put.same.shape) (subst (HasSizes x.name y.shape.held) kept put.sizes);
             }
         by false f is =
             let h = so_far.found s.part n y k here is in
-            record { j = h.j; below = (let lt = h.below in omega (arith, lt)); entry = h.entry; in_entries = h.in_entries; in_spots = h.in_spots; keeps = subst (λ f. KeepsEntry x.name f n 3 h.entry k) (sym put.same.first) h.keeps; sizes = subst (λ (u : Shape). HasSizes x.name u.held k) (sym put.same.shape) h.sizes }
+            record { j = h.j; below = (let lt = h.below in omega (arith, lt)); entry = h.entry; in_entries = h.in_entries; in_spots = h.in_spots; keeps = subst (λ f. KeepsEntry x.name f n 3 h.entry k) (sym put.same.first) h.keeps; sizes = subst (λ (u : PartShape). HasSizes x.name u.held k) (sym put.same.shape) h.sizes }
 
     pub refilled-more : AreRefilled x es ss (at + 1) (slice_set parts s.part y2)
     refilled-more = record {

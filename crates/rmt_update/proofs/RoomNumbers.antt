@@ -22,7 +22,7 @@ use Rattle.rmt_config.specs.Cells.{candidates, cells_in, index_of, key_row}
 use Rattle.rmt_config.specs.LaneForm.{bits_of_lanes}
 use Rattle.rmt_config.specs.NamesForm.{is_of_kind}
 use Rattle.rmt_config.specs.Rooms.{PartAt, Room}
-use Rattle.rmt_config.specs.Shapes.{divided_up}
+use Rattle.rmt_config.specs.BlockCounts.{divided_up}
 use Rattle.rmt_config.specs.TableForm.{ways_follow}
 use Rattle.rmt_refine.proofs.FindLaws.{range_bounds}
 use Rattle.rmt_cuckoo.specs.declared.layout.Ways.{Ways}

@@ -8,7 +8,7 @@ use Rattle.std.proofs.lemmas.Bool.{cases_lt, le-ltb, lt-ltb}
 use Rattle.std.proofs.lemmas.List.FromFn.{length-map-range_with_len}
 use Rattle.std.proofs.lemmas.Option.{none-some, same_Some}
 use Rattle.rmt_bits.proofs.ListLaws.{slice_get-end, slice_get-front}
-use Rattle.rmt_update.specs.declared.book.shape.Shape.{Shape}
+use Rattle.rmt_update.specs.declared.book.shape.PartShape.{PartShape}
 use Rattle.rmt_update.specs.declared.book.spots.Spot.{Spot}
 use Rattle.rmt_update.specs.declared.book.table.PartCells.{PartCells}
 use Rattle.rmt_update.specs.PartShape.{cell_count}
@@ -146,7 +146,7 @@ same-spots at [] [] i zip = refl
 same-spots at [] (y ∷ ys) i zip = absurd zip
 same-spots at (x ∷ xs) [] i zip = absurd zip
 same-spots at (x ∷ xs) (y ∷ ys) i zip =
-    let size : cell_count y.shape.grid ≡ cell_count x.shape.grid = ap (λ (s : Shape). cell_count s.grid) zip.0.shape in
+    let size : cell_count y.shape.grid ≡ cell_count x.shape.grid = ap (λ (s : PartShape). cell_count s.grid) zip.0.shape in
     elim (cases_lt i (cell_count x.shape.grid)) [
       | inl lt ↦ spot-first at y ys i (omega (arith, lt, size)) ∙ sym (spot-first at x xs i lt)
       | inr le ↦ spot-rest at y ys i (omega (arith, le, size)) ∙ ap (λ n. spot_from (at + 1) ys (i - n)) size ∙ same-spots (at + 1) xs ys (i - cell_count x.shape.grid) zip.1 ∙ sym (spot-rest at x xs i le)
@@ -157,7 +157,7 @@ same-count [] [] zip = refl
 same-count [] (y ∷ ys) zip = absurd zip
 same-count (x ∷ xs) [] zip = absurd zip
 same-count (x ∷ xs) (y ∷ ys) zip =
-    let size : cell_count y.shape.grid ≡ cell_count x.shape.grid = ap (λ (s : Shape). cell_count s.grid) zip.0.shape in
+    let size : cell_count y.shape.grid ≡ cell_count x.shape.grid = ap (λ (s : PartShape). cell_count s.grid) zip.0.shape in
     let long = long-part x in
     let long2 = long-part y in
     let both = length-append (part_rows x) (rows_of xs) in

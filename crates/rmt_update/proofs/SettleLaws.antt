@@ -1,7 +1,7 @@
 -- Tables behind a commit.
 use Rattle.std.proofs.Common.{◌≡◌, ◌≢◌, ℕ, zero, suc, ◌+◌, ◌<◌, ◌≤◌, ◌==◌, ◌||◌, Bool, true, false, not, cond, List, [], ◌∷◌, ◌++◌, Option, Some, None, length, take, slice_get, slice_set, get_or, nat_lt, unwrap_or, refl, sym, ap, subst, ◌∙◌, inl, inr, arith, append_assoc}
 use Rattle.std.specs.Prelude.{All, filter}
-use Rattle.std.specs.List.{flat_map}
+use Rattle.std.specs.List.{flat_map, remove}
 use Rattle.std.proofs.lemmas.Bool.{cases_Bool, eq-eqb, eqb-true, false≢true, lt-ltb}
 use Rattle.std.proofs.lemmas.Bool.Decides.{nat_tests}
 use Rattle.std.proofs.lemmas.List.{append-nil, length-set}
@@ -167,3 +167,32 @@ kept_whole p (x ∷ xs) e = by (p x) e (kept_whole p xs) (filter-short p xs)
     by : (b : Bool) → length (cond b (x ∷ filter p xs) (filter p xs)) ≡ length (x ∷ xs) → (length (filter p xs) ≡ length xs → filter p xs ≡ xs) → length (filter p xs) ≤ length xs → cond b (x ∷ filter p xs) (filter p xs) ≡ x ∷ xs
     by true s rest le = ap (λ ys. x ∷ ys) (rest (omega (arith, s)))
     by false s rest le = absurd (omega (arith, s, le))
+
+-- a list of which an item is not kept gets shorter
+filter_less : {X : Type 0} (p : X → Bool) (xs : List X) (i : ℕ) (x : X) → slice_get xs i ≡ Some x → p x ≡ false → length (filter p xs) < length xs
+filter_less p [] i x at out = absurd (none-some x at)
+filter_less p (y ∷ ys) zero x at out = by (p y) (ap p (same_Some y x at) ∙ out) (filter-short p ys)
+  where
+    by : (b : Bool) → b ≡ false → length (filter p ys) ≤ length ys → length (cond b (y ∷ filter p ys) (filter p ys)) < length (y ∷ ys)
+    by true s le = absurd (false≢true (sym s))
+    by false s le = omega (arith, le)
+filter_less p (y ∷ ys) (suc i) x at out = by (p y) (filter_less p ys i x at out)
+  where
+    by : (b : Bool) → length (filter p ys) < length ys → length (cond b (y ∷ filter p ys) (filter p ys)) < length (y ∷ ys)
+    by true lt = omega (arith, lt)
+    by false lt = omega (arith, lt)
+
+-- a list of which one item is not kept, without that item
+pub kept_but_one : {X : Type 0} (p : X → Bool) (xs : List X) (i : ℕ) (x : X) → length (filter p xs) + 1 ≡ length xs → slice_get xs i ≡ Some x → p x ≡ false → remove xs i ≡ filter p xs
+kept_but_one p [] i x e at out = absurd (none-some x at)
+kept_but_one p (y ∷ ys) zero x e at out = by (p y) (ap p (same_Some y x at) ∙ out) e
+  where
+    by : (b : Bool) → b ≡ false → length (cond b (y ∷ filter p ys) (filter p ys)) + 1 ≡ length (y ∷ ys) → ys ≡ cond b (y ∷ filter p ys) (filter p ys)
+    by true s len = absurd (false≢true (sym s))
+    by false s len = sym (kept_whole p ys (omega (arith, len)))
+kept_but_one p (y ∷ ys) (suc i) x e at out = by (p y) e (λ len. kept_but_one p ys i x len at out) (filter_less p ys i x at out)
+  where
+    by : (b : Bool) → length (cond b (y ∷ filter p ys) (filter p ys)) + 1 ≡ length (y ∷ ys) → (length (filter p ys) + 1 ≡ length ys → remove ys i ≡ filter p ys) → length (filter p ys) < length ys
+        → y ∷ remove ys i ≡ cond b (y ∷ filter p ys) (filter p ys)
+    by true len rest lt = ap (λ zs. y ∷ zs) (rest (omega (arith, len)))
+    by false len rest lt = absurd (omega (arith, len, lt))

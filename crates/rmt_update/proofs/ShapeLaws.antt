@@ -18,12 +18,12 @@ use Rattle.rmt_config.specs.LaneForm.{bits_of_lanes}
 use Rattle.rmt_config.specs.Life.{has_memory}
 use Rattle.rmt_config.specs.MemoryRules.{ExactFits}
 use Rattle.rmt_config.specs.NamesForm.{is_of_kind}
-use Rattle.rmt_config.specs.Shapes.{divided_up}
+use Rattle.rmt_config.specs.BlockCounts.{divided_up}
 use Rattle.rmt_config.specs.UnitForm.{memory_is_formed, slot_head_is_formed, slot_is_formed}
 use Rattle.rmt_config.proofs.SlotLaws.{exact-fits}
 use Rattle.rmt_update.specs.declared.book.grid.Grid.{Grid}
 use Rattle.rmt_update.specs.declared.book.grid.Grid.TheVariants.{Ways, Rows}
-use Rattle.rmt_update.specs.declared.book.shape.Shape.{Shape}
+use Rattle.rmt_update.specs.declared.book.shape.PartShape.{PartShape}
 use Rattle.rmt_update.specs.PartShape.{HasFewCells, IsGrid, IsShape, cell_count, cells_for, row_cells}
 
 -- a memory of a table's kind has cells
@@ -74,7 +74,7 @@ count-of (Exact k p d w ks rs cs) (Ways v) is = ap (λ r. 4 * (r * v.per)) is.1 
 count-of (Ternary d ks rs cs) (Ways v) is = absurd is
 count-of (Ternary d ks rs cs) (Rows rows) is = is
 
-pub cells-are : (slot : SlotUnit) (s : Shape) → IsShape slot s → cell_count s.grid ≡ cells_in slot.memory
+pub cells-are : (slot : SlotUnit) (s : PartShape) → IsShape slot s → cell_count s.grid ≡ cells_in slot.memory
 cells-are slot s is = count-of slot.memory s.grid is.grid
 
 for-grid : (seed bits key : ℕ) (m : Memory) (g : Grid) → IsGrid m g → cells_for seed (bytes_of (divided_up bits 8) key) g ≡ candidates seed bits m key
@@ -88,7 +88,7 @@ for-grid seed bits key (Exact k p d w ks rs cs) (Ways v) is =
 for-grid seed bits key (Ternary d ks rs cs) (Ways v) is = absurd is
 for-grid seed bits key (Ternary d ks rs cs) (Rows rows) is = ap (range_with_len 0) is
 
-pub cells-told : (seed key : ℕ) (slot : SlotUnit) (s : Shape) (bytes : List ℕ) → IsShape slot s → bytes ≡ bytes_of (divided_up (bits_of_lanes slot.keys) 8) key
+pub cells-told : (seed key : ℕ) (slot : SlotUnit) (s : PartShape) (bytes : List ℕ) → IsShape slot s → bytes ≡ bytes_of (divided_up (bits_of_lanes slot.keys) 8) key
     → cells_for seed bytes s.grid ≡ candidates seed (bits_of_lanes slot.keys) slot.memory key
 cells-told seed key slot s bytes is told = ap (λ bs. cells_for seed bs s.grid) told ∙ for-grid seed (bits_of_lanes slot.keys) key slot.memory s.grid is.grid
 

@@ -22,7 +22,7 @@ use Rattle.rmt_ast.specs.NameRules.{table_is_formed}
 use Rattle.rmt_ast.specs.RowOrder.{goes_first}
 use Rattle.rmt_ast.specs.WellFormed.{IsTest}
 use Rattle.rmt_config.specs.Rooms.{key_number}
-use Rattle.rmt_config.specs.Shapes.{divided_up}
+use Rattle.rmt_config.specs.BlockCounts.{divided_up}
 use Rattle.rmt_cuckoo.specs.declared.layout.Ways.{Ways}
 use Rattle.rmt_cuckoo.specs.Loading.{cells_in, cells_of}
 use Rattle.rmt_update.specs.declared.book.grid.Grid.{Grid}

@@ -32,7 +32,7 @@ use Rattle.rmt_config.specs.LaneForm.{bits_of_lanes}
 use Rattle.rmt_config.specs.NamesForm.{args_of_data, entry_in, held_by, is_of_kind, params_in, prefix_length, rank_in, tests_of_key}
 use Rattle.rmt_config.specs.PartStands.{PartStands}
 use Rattle.rmt_config.specs.Rooms.{PartAt}
-use Rattle.rmt_config.specs.Shapes.{divided_up}
+use Rattle.rmt_config.specs.BlockCounts.{divided_up}
 use Rattle.rmt_config.specs.StageForm.{is_listed, rows_are_formed, tcam_blocks, trow_is_formed}
 use Rattle.rmt_config.proofs.PrefixRowLaws.{cells-within, key-read, mask-read}
 use Rattle.rmt_update.specs.Fitting.{HasEntry, IsFitting, MaskFits}

@@ -13,7 +13,7 @@ use Rattle.rmt_config.specs.declared.config.Memory.{Memory}
 use Rattle.rmt_config.specs.declared.config.Memory.TheVariants.{Without, Exact, Ternary}
 use Rattle.rmt_config.specs.Commits.{AreFilled}
 use Rattle.rmt_config.specs.Rooms.{PartAt, key_number, parts_of}
-use Rattle.rmt_config.specs.Shapes.{divided_up}
+use Rattle.rmt_config.specs.BlockCounts.{divided_up}
 use Rattle.rmt_cuckoo.specs.declared.layout.Ways.{Ways}
 use Rattle.rmt_cuckoo.specs.Loading.{IsLoading, IsOverfull}
 

@@ -9,7 +9,7 @@ use Rattle.rmt_config.specs.Cells.{index_of}
 use Rattle.rmt_config.specs.LaneForm.{bits_of_lanes}
 use Rattle.rmt_update.specs.declared.book.grid.Grid.{Grid}
 use Rattle.rmt_update.specs.declared.book.grid.Grid.TheVariants.{Ways, Rows}
-use Rattle.rmt_update.specs.declared.book.shape.Shape.{Shape}
+use Rattle.rmt_update.specs.declared.book.shape.PartShape.{PartShape}
 
 -- a memory with cells, so few that each has a number of 32 bits, and whose ways have numbers of a byte
 abbrev pub HasFewCells : Memory → Type 0
@@ -26,7 +26,7 @@ IsGrid (Ternary quanta keys records counters) (Ways w) = ⊥
 IsGrid (Ternary quanta keys records counters) (Rows rows) = rows ≡ 2048 * quanta
 
 -- a slot has keys of so many bits, entries with so many bits of data, and its cells lie so
-pub record IsShape (slot : SlotUnit) (s : Shape) : Type 0 where
+pub record IsShape (slot : SlotUnit) (s : PartShape) : Type 0 where
   pub bits : s.bits ≡ bits_of_lanes slot.keys
   pub held : s.held ≡ slot.held
   pub grid : IsGrid slot.memory s.grid

@@ -1,10 +1,10 @@
 //! The tables as a commit leaves them.
 
-ghost use Rattle.std.specs.Prelude.{◌≡◌, ◌<◌, ◌≤◌, ◌+◌, ℕ, All, AllPairs, IfOk, IsTrue, OnErr, OnOk, Some, filter, length, not, slice_get};
+ghost use Rattle.std.specs.Prelude.{◌≡◌, ◌<◌, ◌≤◌, ◌+◌, ℕ, All, AllPairs, IfOk, IfSome, IsTrue, OnErr, OnOk, Some, filter, length, not, slice_get};
 ghost use Rattle.std.specs.List.{flat_map};
 ghost use Rattle.rmt_ast.specs.Answers.{entry_numbers};
 ghost use Rattle.rmt_ast.specs.Changes.{list_of};
-ghost use Rattle.rmt_ast.specs.declared.entry.Entry.{Entry};
+ghost use Rattle.rmt_ast.specs.declared.entry.Entry.{Entry as EntryOf};
 ghost use Rattle.rmt_update.specs.declared.held.Held.{Held as HeldOf};
 ghost use Rattle.rmt_update.specs.Running.{is_among};
 ghost use Rattle.rmt_update.specs.Settled.{Extends, ExtendsInPart, keeps};
@@ -62,7 +62,7 @@ fn add_each(
     lists: &mut Vec<Sequence<Entry>>,
     come: &[Option<Entry>],
 ) -> Result<(), AllocError>
-    requires tables { All (λ (e : Entry). e.table < length lists.old.items) (somes come.now) }
+    requires tables { All (λ (e : EntryOf). e.table < length lists.old.items) (somes come.now) }
     ensures added { OnOk result (Extends lists.old.items (somes come.now) lists.new.items) }
     ensures some { OnErr result (ExtendsInPart lists.old.items come.now lists.new.items) }
 {
@@ -101,13 +101,58 @@ fn keep_each(alloc: Global, lists: &mut Vec<Sequence<Entry>>, gone: &BTreeSet<u3
     }
 }
 
-/// Whether a list has as many entries as its table holds.
-fn is_whole(list: &Sequence<Entry>, held: &[Held], node: usize) -> bool
-    ensures { IsTrue result → (h : HeldOf) × (slice_get held.now node ≡ Some h) × (h.count ≡ length list.now) }
+/// How many entries of a list go, where what its table holds says it.
+fn going(list: &Sequence<Entry>, held: &[Held], node: usize) -> Option<usize>
+    ensures { IfSome result (λ n. (h : HeldOf) × (slice_get held.now node ≡ Some h) × (h.count + n ≡ length list.now)) }
 {
     match held.get(node) {
-        Some(held) => held.count as usize == list.len(),
-        None => false,
+        Some(held) => list.len().checked_sub(held.count as usize),
+        None => None,
+    }
+}
+
+/// The place of the entry of a number in a list by rising number, where it is found.
+fn place_of(entries: &[Entry], number: u32) -> Option<usize>
+    ensures { IfSome result (λ at. (e : EntryOf) × (slice_get entries.now at ≡ Some e) × (e.number ≡ number)) }
+{
+    let at = entries.partition_point(|entry| entry.number < number);
+    match entries.get(at) {
+        Some(entry) => {
+            if entry.number == number {
+                Some(at)
+            } else {
+                None
+            }
+        }
+        None => None,
+    }
+}
+
+/// The place of an entry that goes in a list by rising number, where one is found.
+fn place_among(entries: &[Entry], gone: &BTreeSet<u32>) -> Option<usize>
+    ensures { IfSome result (λ at. (e : EntryOf) × (slice_get entries.now at ≡ Some e) × IsTrue (is_among gone.now.keys e.number)) }
+{
+    for number in gone {
+        if let Some(at) = place_of(entries, *number) {
+            return Some(at);
+        }
+    }
+    None
+}
+
+/// Takes the one entry of a list away that goes. A number is above all.
+fn take_one(alloc: Global, list: &mut Sequence<Entry>, gone: &BTreeSet<u32>, above: u64)
+    requires one { length (filter (λ (e : EntryOf). not (is_among gone.now.keys e.number)) list.old) + 1 ≡ length list.old }
+    ensures { All (λ (e : EntryOf). e.number < above) list.old →
+        list.new ≡ filter (λ (e : EntryOf). not (is_among gone.now.keys e.number)) list.old }
+{
+    match place_among(list.as_slice(), gone) {
+        Some(at) => {
+            let mut entries = replace(list, Sequence::new(alloc)).into_vec();
+            entries.remove(at);
+            *list = Sequence::from_vec(entries);
+        }
+        None => keep(alloc, list, gone, above),
     }
 }
 
@@ -121,14 +166,15 @@ fn take_from(
     above: u64,
 )
     requires counts { (h : HeldOf) → slice_get held.now node ≡ Some h →
-        h.count ≡ length (filter (λ (e : Entry). not (is_among gone.now.keys e.number)) list.old) }
-    ensures { All (λ (e : Entry). e.number < above) list.old →
-        list.new ≡ filter (λ (e : Entry). not (is_among gone.now.keys e.number)) list.old }
+        h.count ≡ length (filter (λ (e : EntryOf). not (is_among gone.now.keys e.number)) list.old) }
+    ensures { All (λ (e : EntryOf). e.number < above) list.old →
+        list.new ≡ filter (λ (e : EntryOf). not (is_among gone.now.keys e.number)) list.old }
 {
-    if is_whole(list, held, node) {
-        return;
+    match going(list, held, node) {
+        Some(0) => {}
+        Some(1) => take_one(alloc, list, gone, above),
+        _ => keep(alloc, list, gone, above),
     }
-    keep(alloc, list, gone, above);
 }
 
 /// Takes the entries away that go. Lists of which none goes are not gone through. A number is above all.
@@ -140,10 +186,10 @@ fn take_gone(
     above: u64,
 )
     requires counts { (m : ℕ) (h : HeldOf) → slice_get held.now m ≡ Some h →
-        h.count ≡ length (filter (λ (e : Entry). not (is_among gone.now.keys e.number)) (list_of lists.old.items m)) }
+        h.count ≡ length (filter (λ (e : EntryOf). not (is_among gone.now.keys e.number)) (list_of lists.old.items m)) }
     ensures count { length lists.new.items ≡ length lists.old.items }
-    ensures left { (m : ℕ) → All (λ (e : Entry). e.number < above) (list_of lists.old.items m) →
-        list_of lists.new.items m ≡ filter (λ (e : Entry). not (is_among gone.now.keys e.number)) (list_of lists.old.items m) }
+    ensures left { (m : ℕ) → All (λ (e : EntryOf). e.number < above) (list_of lists.old.items m) →
+        list_of lists.new.items m ≡ filter (λ (e : EntryOf). not (is_among gone.now.keys e.number)) (list_of lists.old.items m) }
 {
     for at in 0..lists.len() {
         take_from(alloc, &mut lists[at], gone, held, at, above);

@@ -14,6 +14,7 @@ use Rattle.rmt_ast.specs.declared.entry.Entry.{Entry}
 use Rattle.rmt_ast.specs.EntryLists.{AreEntries}
 use Rattle.rmt_ast.specs.RowOrder.{goes_first}
 use Rattle.rmt_ast.specs.State.{width_of}
+use Rattle.rmt_config.specs.Instructions.{first_code}
 use Rattle.rmt_config.specs.Cells.{Content, candidates, cells_in, content_of, is_seen}
 use Rattle.rmt_config.specs.Commits.{all_entries}
 use Rattle.rmt_config.specs.Form.{Formed, visible_with}
@@ -25,7 +26,7 @@ use Rattle.rmt_config.proofs.RiseLaws.{all_above}
 use Rattle.rmt_config.proofs.SpelledRanks.{listed-distinct}
 use Rattle.rmt_refine.specs.declared.map.Map.{Map}
 use Rattle.rmt_refine.specs.Types.{CellNumber, Config, Program, SlotUnit, Stage, Table}
-use Rattle.rmt_refine.specs.Cells.{CellsCarried, HoldsEntry, IsBefore, IsCandidate, IsSpotOf, IsTold, Spot, TableCellsCarried, first_code}
+use Rattle.rmt_refine.specs.Cells.{CellsCarried, HoldsEntry, IsBefore, IsCandidate, IsSpotOf, IsTold, Spot, TableCellsCarried}
 use Rattle.rmt_refine.specs.Listed.{ListTheirCells, ListsItsCells}
 use Rattle.rmt_refine.specs.Units.{UnitsCarried, nodes_in, table_at}
 use Rattle.rmt_refine.specs.View.{own_content, own_number, own_view, slot_of}

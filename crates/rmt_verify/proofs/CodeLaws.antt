@@ -19,7 +19,7 @@ use Rattle.rmt_vliw.proofs.InstructionLaws.{does, does_with, takes_folded}
 use Rattle.rmt_refine.specs.Code.{CodeCarried, DoesAction, DoesDefault, TableCode}
 use Rattle.rmt_refine.specs.Types.{Config, Node, Stage, Table}
 use Rattle.rmt_refine.specs.Units.{applied}
-use Rattle.rmt_refine.specs.Cells.{first_code}
+use Rattle.rmt_config.specs.Instructions.{first_code}
 use Rattle.rmt_refine.proofs.PartLaws.{then_some}
 use Rattle.rmt_refine.proofs.TheLaw.{its_table}
 use Rattle.rmt_config.specs.Effects.{HasArguments}

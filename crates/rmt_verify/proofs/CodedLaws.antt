@@ -6,12 +6,12 @@ use Rattle.std.proofs.lemmas.Bool.{and_parts, both_ways, cases_eq}
 use Rattle.std.proofs.lemmas.Option.{get_or_from_slice_get, same_Some, slice_get-get_or}
 use Rattle.rmt_bits.specs.declared.lane.Lane.{Lane}
 use Rattle.rmt_bits.proofs.AllLaws.{All-slice_get}
+use Rattle.rmt_config.specs.Instructions.{first_code}
 use Rattle.rmt_config.specs.Form.{Formed}
 use Rattle.rmt_config.specs.LaneForm.{headers_are_formed, ports_are_formed}
 use Rattle.rmt_config.specs.ParserForm.{parser_is_formed}
 use Rattle.rmt_config.specs.StageForm.{stage_is_formed, stages_are_formed, starts_are_formed}
 use Rattle.rmt_config.specs.TailForm.{tails_have_headers}
-use Rattle.rmt_refine.specs.Cells.{first_code}
 use Rattle.rmt_config.specs.Life.{code_at}
 use Rattle.rmt_config.specs.declared.config.Vliw.{Vliw}
 use Rattle.rmt_refine.specs.Types.{Config, Operation, Program, Stage, Table, Unit}

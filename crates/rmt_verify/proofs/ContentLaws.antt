@@ -15,14 +15,14 @@ use Rattle.rmt_bits.proofs.ByteLaws.{length-bytes_of, number_of-append, number_o
 use Rattle.rmt_bits.proofs.FindLaws.{found-lt}
 use Rattle.rmt_bits.proofs.MemberLaws.{Contains-from_any, list_any-Contains}
 use Rattle.rmt_ast.specs.declared.entry.Entry.{Entry}
-use Rattle.rmt_config.specs.declared.form.layout.Layout.{Layout}
+use Rattle.rmt_config.specs.declared.form.layout.CellLayout.{CellLayout}
 use Rattle.rmt_config.specs.declared.config.Memory.TheVariants.{Exact}
 use Rattle.rmt_config.specs.declared.config.TcamRow.{TcamRow}
 use Rattle.rmt_config.specs.Cells.{Blocks, Content, blocks_at, candidates, cell_of, code_of, data_at, entry_at, row_record, tcam_row, unit_row}
 use Rattle.rmt_config.specs.Effects.{HasArguments}
 use Rattle.rmt_config.specs.Layouts.{IsInSram, entry_in, exact_keys, exact_records, local_of, position_of, quantum_of, row_of, ternary_records, unit_of}
 use Rattle.rmt_config.specs.Rooms.{tests_as_one}
-use Rattle.rmt_config.specs.Shapes.{divided_up}
+use Rattle.rmt_config.specs.BlockCounts.{divided_up}
 use Rattle.rmt_config.proofs.CellLayouts.{exact-data, exact-entry, exact_keys-is, exact_records-is, ternary-record, ternary_records-is, up-enough, up-most}
 use Rattle.rmt_config.proofs.SpelledCandidates.{candidate-row}
 use Rattle.rmt_pack.specs.declared.tcam.TcamWord.{TcamWord}
@@ -55,7 +55,7 @@ data_long front bytes bits y zeros is =
 -- ---- what is read of a cell
 
 -- an entry has no more bits than the layout says
-entry-lt : (l : Layout) (held : Blocks) (blocks : List ℕ) (q i : ℕ) → entry_in l held blocks q i < 2 ^ l.entry
+entry-lt : (l : CellLayout) (held : Blocks) (blocks : List ℕ) (q i : ℕ) → entry_in l held blocks q i < 2 ^ l.entry
 entry-lt l held blocks q i = slice-lt (unit_row l.bits held (row_of l i) (blocks_at blocks l.side (unit_of l q i))) (position_of l i * l.entry) l.entry
 
 -- what stands above a head of 8 bits
@@ -65,30 +65,30 @@ above_head x bits lt =
     let small : x / 256 < 2 ^ bits = div_below x 256 (2 ^ bits) (omega arith) (omega (arith, lt, size)) in
     (mod-eq_of_lt small, small)
 
-pub data_is : (sram : Blocks) (rs : List ℕ) (p d n cell b : ℕ) (l : Layout) → 0 < p → 0 < d → l ≡ exact_records p d n
+pub data_is : (sram : Blocks) (rs : List ℕ) (p d n cell b : ℕ) (l : CellLayout) → 0 < p → 0 < d → l ≡ exact_records p d n
     → b ≡ slice (entry_in l sram rs (quantum_of l cell) (local_of l cell)) 0 n → b ≡ data_at sram rs p n (cell_of (1024 * d) p cell)
 data_is sram rs p d n cell b l some_p some_d is read =
-    let m : Layout = exact_records p d n in
+    let m : CellLayout = exact_records p d n in
     let x : ℕ = entry_in m sram rs (quantum_of m cell) (local_of m cell) in
-    let own : b ≡ slice x 0 n = subst (λ (z : Layout). b ≡ slice (entry_in z sram rs (quantum_of z cell) (local_of z cell)) 0 n) is read in
+    let own : b ≡ slice x 0 n = subst (λ (z : CellLayout). b ≡ slice (entry_in z sram rs (quantum_of z cell) (local_of z cell)) 0 n) is read in
     own ∙ slice-whole x n (entry-lt m sram rs (quantum_of m cell) (local_of m cell)) ∙ sym (exact-data sram rs p d n cell some_p some_d)
 
 module _ (sram : Blocks) (ks : List ℕ) (k p d bits cell : ℕ) (some_p : 0 < p) (some_d : 0 < d) where
   abbrev stands : ℕ
   stands = entry_at sram ks k bits (cell_of (1024 * d) p cell)
 
-  exact_read : (l : Layout) → l ≡ exact_keys k p d bits → entry_in l sram ks (quantum_of l cell) (local_of l cell) ≡ stands
-  exact_read l is = at_layout (λ (z : Layout). entry_in z sram ks (quantum_of z cell) (local_of z cell) ≡ stands) l (exact_keys k p d bits) is (sym (exact-entry sram ks k p d bits cell some_p some_d))
+  exact_read : (l : CellLayout) → l ≡ exact_keys k p d bits → entry_in l sram ks (quantum_of l cell) (local_of l cell) ≡ stands
+  exact_read l is = at_layout (λ (z : CellLayout). entry_in z sram ks (quantum_of z cell) (local_of z cell) ≡ stands) l (exact_keys k p d bits) is (sym (exact-entry sram ks k p d bits cell some_p some_d))
 
   stands-lt : stands < 2 ^ (bits + 8)
   stands-lt =
-      let m : Layout = exact_keys k p d bits in
+      let m : CellLayout = exact_keys k p d bits in
       subst (λ n. n < 2 ^ (bits + 8)) (exact_read m refl) (entry-lt m sram ks (quantum_of m cell) (local_of m cell))
 
-  pub exact_head : (l : Layout) (size head : ℕ) → l ≡ exact_keys k p d size → size ≡ bits → head ≡ entry_in l sram ks (quantum_of l cell) (local_of l cell) % 256 → head ≡ stands % 256
+  pub exact_head : (l : CellLayout) (size head : ℕ) → l ≡ exact_keys k p d size → size ≡ bits → head ≡ entry_in l sram ks (quantum_of l cell) (local_of l cell) % 256 → head ≡ stands % 256
   exact_head l size head is same read = read ∙ ap (λ n. n % 256) (exact_read l (is ∙ ap (exact_keys k p d) same))
 
-  pub exact_key : (l : Layout) (size : ℕ) (bytes : List ℕ) → l ≡ exact_keys k p d size → size ≡ bits
+  pub exact_key : (l : CellLayout) (size : ℕ) (bytes : List ℕ) → l ≡ exact_keys k p d size → size ≡ bits
       → bytes ≡ bytes_of (divided_up size 8) (slice (entry_in l sram ks (quantum_of l cell) (local_of l cell)) 8 size) → bytes ≡ bytes_of (divided_up bits 8) (stands / 256)
   exact_key l size bytes is same read =
       read
@@ -118,19 +118,19 @@ key_small bits y n bytes same is lt =
     subst (λ m. number_of bytes < 2 ^ m) same (subst (λ m. m < 2 ^ bits) (sym value) lt)
 
 -- of a ternary part
-pub row_head : (sram : Blocks) (rs : List ℕ) (d held cell head : ℕ) (l : Layout) → cell < 2048 * d → l ≡ ternary_records d (held + 8)
+pub row_head : (sram : Blocks) (rs : List ℕ) (d held cell head : ℕ) (l : CellLayout) → cell < 2048 * d → l ≡ ternary_records d (held + 8)
     → head ≡ entry_in l sram rs (quantum_of l cell) (local_of l cell) % 256 → head ≡ row_record sram rs held cell % 256
 row_head sram rs d held cell head l lt is read =
     read
-    ∙ at_layout (λ (z : Layout). entry_in z sram rs (quantum_of z cell) (local_of z cell) % 256 ≡ row_record sram rs held cell % 256) l (ternary_records d (held + 8)) is
+    ∙ at_layout (λ (z : CellLayout). entry_in z sram rs (quantum_of z cell) (local_of z cell) % 256 ≡ row_record sram rs held cell % 256) l (ternary_records d (held + 8)) is
     (ap (λ n. n % 256) (sym (ternary-record sram rs d held cell lt)))
 
-pub row_data : (sram : Blocks) (rs : List ℕ) (d held cell b : ℕ) (l : Layout) → cell < 2048 * d → l ≡ ternary_records d (held + 8)
+pub row_data : (sram : Blocks) (rs : List ℕ) (d held cell b : ℕ) (l : CellLayout) → cell < 2048 * d → l ≡ ternary_records d (held + 8)
     → b ≡ slice (entry_in l sram rs (quantum_of l cell) (local_of l cell)) 8 held → b ≡ row_record sram rs held cell / 256
 row_data sram rs d held cell b l lt is read =
-    let m : Layout = ternary_records d (held + 8) in
+    let m : CellLayout = ternary_records d (held + 8) in
     let x : ℕ = entry_in m sram rs (quantum_of m cell) (local_of m cell) in
-    let own : b ≡ slice x 8 held = subst (λ (z : Layout). b ≡ slice (entry_in z sram rs (quantum_of z cell) (local_of z cell)) 8 held) is read in
+    let own : b ≡ slice x 8 held = subst (λ (z : CellLayout). b ≡ slice (entry_in z sram rs (quantum_of z cell) (local_of z cell)) 8 held) is read in
     own ∙ (above_head x held (entry-lt m sram rs (quantum_of m cell) (local_of m cell))).0 ∙ ap (λ n. n / 256) (sym (ternary-record sram rs d held cell lt))
 
 -- the blocks of a cell's unit are among those of a ternary part

@@ -7,7 +7,7 @@ use Rattle.rmt_bits.proofs.AllLaws.{All-slice_get}
 use Rattle.rmt_ast.specs.declared.program.What.TheVariants.{Apply, Gate as Test}
 use Rattle.rmt_ast.specs.WellFormed.{IsProgram, IsTable}
 use Rattle.rmt_config.specs.declared.config.Unit.TheVariants.{Gate, Slot}
-use Rattle.rmt_refine.specs.Cells.{first_code}
+use Rattle.rmt_config.specs.Instructions.{first_code}
 use Rattle.rmt_refine.specs.Types.{Config, Node, Program, SlotUnit, Stage, Table, Unit, What}
 use Rattle.rmt_refine.specs.Units.{applied, table_at}
 use Rattle.rmt_refine.specs.View.{as_slot, slot_of}

@@ -2,7 +2,7 @@
 use Rattle.std.specs.Prelude.{◌≡◌, ℕ, List, Some, slice_get}
 use Rattle.rmt_bits.specs.declared.lane.Lane.{Lane}
 use Rattle.rmt_refine.specs.Types.{Program, Table, Config, Stage, SlotUnit}
-use Rattle.rmt_refine.specs.Cells.{first_code}
+use Rattle.rmt_config.specs.Instructions.{first_code}
 use Rattle.rmt_refine.specs.Units.{table_at}
 use Rattle.rmt_refine.specs.View.{slot_of}
 use Rattle.rmt_vliw.specs.Coded.{ActionsFold, TableCoded}

@@ -3,7 +3,7 @@ use Rattle.std.specs.Prelude.{ℕ, List, ⊤, IfSome}
 use Rattle.rmt_bits.specs.declared.lane.Lane.{Lane}
 use Rattle.rmt_ast.specs.WellFormed.{AllNumbered}
 use Rattle.rmt_config.specs.declared.config.Unit.TheVariants.{Gate, Slot}
-use Rattle.rmt_refine.specs.Cells.{first_code}
+use Rattle.rmt_config.specs.Instructions.{first_code}
 use Rattle.rmt_refine.specs.Types.{Program, Stage, Table, Unit}
 use Rattle.rmt_refine.specs.Units.{table_at}
 use Rattle.rmt_vliw.specs.Coded.{TableCoded}

@@ -1,13 +1,12 @@
 //! Look-ups in the cells of an exact part, by the rows of its four ways.
 
 ghost use Rattle.std.specs.Prelude.{◌≡◌, ℕ, ◌+◌, ◌*◌, ◌<◌, ◌≤◌, true, false, length, IfSome};
-ghost use Rattle.rmt_bits.specs.Hash.{hash_row as hash_row_of};
 ghost use Rattle.rmt_chip.specs.Searching.{FirstIn, HasCell, FirstByWays, FirstInWay};
 
 use crate::memory::runs::{Runs, run_at};
 use crate::memory::sight::is_seen;
-use crate::memory::ways::Ways;
-use rmt_bits::hash::hash_row;
+use rmt_config::part_ways::PartWays;
+use rmt_config::way_rows::row_of;
 
 /// Whether a sight shows a cell, and it has a key.
 fn has_key(cells: &Runs, at: usize, sight: u8, key: &[u8]) -> bool
@@ -36,18 +35,15 @@ fn first_with(cells: &Runs, sight: u8, key: &[u8], from: usize, to: usize) -> Op
     None
 }
 
-/// The number of a key's row in a way, among the rows of all ways.
-fn row_of(ways: Ways, seed: u8, key: &[u8], way: u8) -> usize
-    requires { way < 4 }
-    ensures value { result ≡ way * ways.rows + hash_row_of seed (ways.first_way + way) key.now ways.rows }
-    ensures within { result < 4 * ways.rows }
-{
-    let row = hash_row(seed, ways.first_way + way, key, ways.rows);
-    way as usize * ways.rows as usize + row as usize
-}
-
 /// The first cell of a key's row in a way that a sight shows and that has the key.
-fn first_in_way(ways: Ways, cells: &Runs, seed: u8, sight: u8, key: &[u8], way: u8) -> Option<usize>
+fn first_in_way(
+    ways: PartWays,
+    cells: &Runs,
+    seed: u8,
+    sight: u8,
+    key: &[u8],
+    way: u8,
+) -> Option<usize>
     requires way { way < 4 }
     requires sight { sight < 3 }
     requires size { 1 + length key.now ≤ cells.now.size }
@@ -56,12 +52,12 @@ fn first_in_way(ways: Ways, cells: &Runs, seed: u8, sight: u8, key: &[u8], way: 
     ensures within { IfSome result (λ i. i < cells.now.count) }
 {
     let per = ways.per as usize;
-    let from = row_of(ways, seed, key, way) * per;
+    let from = row_of(ways, seed, key, way) as usize * per;
     first_with(cells, sight, key, from, from + per)
 }
 
 /// The cell of a key under a seed, in the first way that has one that a sight shows.
-pub fn place_of(ways: Ways, cells: &Runs, seed: u8, sight: u8, key: &[u8]) -> Option<usize>
+pub fn place_of(ways: PartWays, cells: &Runs, seed: u8, sight: u8, key: &[u8]) -> Option<usize>
     requires sight { sight < 3 }
     requires size { 1 + length key.now ≤ cells.now.size }
     requires within { 4 * ways.rows * ways.per ≤ cells.now.count }

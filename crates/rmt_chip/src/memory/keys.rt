@@ -7,7 +7,7 @@ ghost use Rattle.rmt_chip.specs.Sights.{seen_by};
 
 use crate::memory::sliced::Sliced;
 use crate::memory::ternary::put_row;
-use crate::memory::ways::Ways;
+use rmt_config::part_ways::PartWays;
 
 /// Where the keys of a slot stand.
 #[derive(Drop)]
@@ -15,7 +15,7 @@ pub enum Keys {
     /// Of a slot without memory, and of a gate.
     Nothing,
     /// In the cells of an exact part, by the rows of its four ways.
-    InCells(Ways),
+    InCells(PartWays),
     /// In vectors of bits, which have one for each row of a ternary part.
     InVectors(Sliced),
 }

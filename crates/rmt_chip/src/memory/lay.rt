@@ -5,7 +5,7 @@ ghost use Rattle.rmt_config.specs.declared.config.TcamRow.{TcamRow};
 ghost use Rattle.rmt_config.specs.declared.config.CellNumber.{CellNumber};
 ghost use Rattle.rmt_config.specs.declared.config.Memory.TheVariants.{Exact, Ternary};
 ghost use Rattle.rmt_config.specs.LaneForm.{bits_of_lanes};
-ghost use Rattle.rmt_config.specs.Shapes.{divided_up, record_width, record_units};
+ghost use Rattle.rmt_config.specs.BlockCounts.{divided_up, record_width, record_units};
 ghost use Rattle.rmt_config.specs.Cells.{sram_row, cell_of, data_at};
 ghost use Rattle.rmt_config.specs.MemoryRules.{SramRows, FormedRows, ExactFits, TernaryFits};
 ghost use Rattle.rmt_chip.specs.Searching.{run_of};
@@ -20,10 +20,10 @@ use crate::memory::listed::runs_of;
 use crate::memory::marks::{Marks, marks_of};
 use crate::memory::runs::{Runs, no_runs, run_at, zeros};
 use crate::memory::ternary::sliced_of;
-use crate::memory::ways::Ways;
 use rmt_config::config::{CellNumber, SlotUnit, SramRow, Stage};
 use rmt_config::form::lane::key_bits;
 use rmt_config::form::parts::{exact_keys, exact_records, ternary_records};
+use rmt_config::part_ways::PartWays;
 use std::alloc::{AllocError, Global};
 
 /// A memory without cells.
@@ -169,8 +169,8 @@ pub fn lay_exact(
     let cells = cells_of(alloc, count, numbers, &heads, &found, &held)?;
     let marks = marks_of(alloc, &cells, found.size)?;
     let entries = numbers_by_cell(alloc, slot.counted, numbers, count)?;
-    let ways = Ways {
-        first_way,
+    let ways = PartWays {
+        first: first_way,
         rows: 1024 * quanta as u32,
         per,
     };

@@ -4,14 +4,14 @@ ghost use Rattle.std.specs.Prelude.{◌≡◌, ◌+◌, ◌*◌, ◌<◌, ◌≤
 ghost use Rattle.rmt_bits.specs.Bits.{slice as slice_of};
 ghost use Rattle.rmt_config.specs.Cells.{sram_row};
 ghost use Rattle.rmt_config.specs.Layouts.{IsInSram};
-ghost use Rattle.rmt_config.specs.Shapes.{divided_up};
+ghost use Rattle.rmt_config.specs.BlockCounts.{divided_up};
 ghost use Rattle.rmt_config.specs.declared.config.CellNumber.{CellNumber};
 ghost use Rattle.rmt_config.specs.MemoryRules.{SramRows};
 ghost use Rattle.rmt_chip.specs.Laying.{entry_of, runs_of as runs_of_cells};
 
 use crate::memory::runs::Runs;
 use rmt_config::config::{CellNumber, SramRow};
-use rmt_config::form::layout::Layout;
+use rmt_config::form::layout::CellLayout;
 use rmt_config::form::names::key_bytes::push_entry;
 use rmt_config::form::sram::Near;
 use std::alloc::{AllocError, Global};
@@ -19,7 +19,7 @@ use std::alloc::{AllocError, Global};
 /// For each listed cell `len` bits of its entry, from the bit `from` on.
 pub fn runs_of(
     alloc: Global,
-    layout: &Layout,
+    layout: &CellLayout,
     blocks: &[u8],
     rows: &[SramRow],
     numbers: &[CellNumber],

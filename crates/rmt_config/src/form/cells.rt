@@ -10,13 +10,13 @@ ghost use Rattle.rmt_config.specs.MemoryRules.{SramRows};
 ghost use Rattle.rmt_config.specs.declared.config.CellNumber.{CellNumber};
 
 use crate::config::{CellNumber, SramRow};
-use crate::form::layout::{Layout, joined};
+use crate::form::layout::{CellLayout, joined};
 use crate::form::search::items_rise;
 use crate::form::sram::{Near, byte_of_two, row_bits};
 
 /// The 8 bits from one on of a row of a unit.
 fn head_at(
-    layout: &Layout,
+    layout: &CellLayout,
     blocks: &[u8],
     rows: &[SramRow],
     unit: u64,
@@ -43,7 +43,7 @@ fn head_at(
 }
 
 /// The head of a cell.
-fn head_of(layout: &Layout, blocks: &[u8], rows: &[SramRow], cell: u64, near: &mut Near) -> u8
+fn head_of(layout: &CellLayout, blocks: &[u8], rows: &[SramRow], cell: u64, near: &mut Near) -> u8
     requires heads { HasHeads layout.now }
     requires blocks { length blocks.now ≡ layout.now.quanta * layout.now.units * layout.now.side }
     requires cell { cell < layout.now.ways * layout.now.quanta * layout.now.way }
@@ -74,7 +74,7 @@ fn head_fits(head: u8, visible: u8, first: u32, actions: u8) -> bool
 
 /// Whether the heads of all listed cells are such heads.
 fn heads_fit(
-    layout: &Layout,
+    layout: &CellLayout,
     blocks: &[u8],
     rows: &[SramRow],
     numbers: &[CellNumber],
@@ -114,7 +114,7 @@ fn cells_fit(numbers: &[CellNumber], count: u64) -> bool
 /// Whether the listed cells rise, are cells of the memory, and have the heads of occupied cells with
 /// these visible bits that run one of these instructions.
 pub fn cells_are_formed(
-    layout: &Layout,
+    layout: &CellLayout,
     blocks: &[u8],
     rows: &[SramRow],
     numbers: &[CellNumber],

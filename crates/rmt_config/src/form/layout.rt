@@ -1,12 +1,12 @@
 //! How entries of a memory lie in the blocks that it lists.
 
 ghost use Rattle.std.specs.Prelude.{◌≡◌, ℕ, ◌+◌, ◌-◌, ◌*◌, ◌/◌, ◌^◌, ◌<◌, ◌≤◌};
-ghost use Rattle.rmt_config.specs.Shapes.{divided_up as divided_up_of, record_width as record_width_of, records_a_row as records_a_row_of};
+ghost use Rattle.rmt_config.specs.BlockCounts.{divided_up as divided_up_of, record_width as record_width_of, records_a_row as records_a_row_of};
 
 /// Units of `side` blocks side by side, whose rows have `per` entries of `entry` bits; `units` of them make a quantum.
 /// A block has `rows` rows of `bits` bits. A quantum has `ways` ways of `way` cells each, and there are `quanta` of them.
 #[derive(Clone, Copy)]
-pub struct Layout {
+pub struct CellLayout {
     pub bits: u64,
     pub rows: u64,
     pub side: u64,

@@ -3,14 +3,14 @@
 ghost use Rattle.std.specs.Prelude.{◌≡◌, ℕ, ◌+◌, ◌*◌, ◌<◌, ◌≤◌};
 ghost use Rattle.rmt_config.specs.Layouts.{exact_keys as exact_keys_of, exact_records as exact_records_of, ternary_keys as ternary_keys_of, ternary_records as ternary_records_of};
 
-use crate::form::layout::{Layout, divided_up, record_width, records_a_row};
+use crate::form::layout::{CellLayout, divided_up, record_width, records_a_row};
 
 /// The entries of an exact part, with a key of `bits` bits, `per` of them in a row of units `width` blocks wide.
-pub fn exact_keys(width: u8, per: u16, quanta: u8, bits: u64) -> Layout
+pub fn exact_keys(width: u8, per: u16, quanta: u8, bits: u64) -> CellLayout
     requires { bits ≤ 640 }
     ensures { result ≡ exact_keys_of width per quanta bits }
 {
-    Layout {
+    CellLayout {
         bits: 112,
         rows: 1024,
         side: width as u64,
@@ -24,12 +24,12 @@ pub fn exact_keys(width: u8, per: u16, quanta: u8, bits: u64) -> Layout
 }
 
 /// The records of an exact part, of `held` bits.
-pub fn exact_records(per: u16, quanta: u8, held: u16) -> Layout
+pub fn exact_records(per: u16, quanta: u8, held: u16) -> CellLayout
     requires some { 0 < held }
     ensures { result ≡ exact_records_of per quanta held }
 {
     let in_row = records_a_row(held as u64);
-    Layout {
+    CellLayout {
         bits: 112,
         rows: 1024,
         side: record_width(held as u64),
@@ -43,11 +43,11 @@ pub fn exact_records(per: u16, quanta: u8, held: u16) -> Layout
 }
 
 /// The keys of a ternary part, of `bits` bits.
-pub fn ternary_keys(quanta: u8, bits: u64) -> Layout
+pub fn ternary_keys(quanta: u8, bits: u64) -> CellLayout
     requires { bits ≤ 640 }
     ensures { result ≡ ternary_keys_of quanta bits }
 {
-    Layout {
+    CellLayout {
         bits: 40,
         rows: 2048,
         side: divided_up(bits, 40),
@@ -61,12 +61,12 @@ pub fn ternary_keys(quanta: u8, bits: u64) -> Layout
 }
 
 /// The records of a ternary part: a head of 8 bits, and `held` bits.
-pub fn ternary_records(quanta: u8, held: u16) -> Layout
+pub fn ternary_records(quanta: u8, held: u16) -> CellLayout
     ensures { result ≡ ternary_records_of quanta (held + 8) }
 {
     let bits = held as u64 + 8;
     let in_row = records_a_row(bits);
-    Layout {
+    CellLayout {
         bits: 112,
         rows: 1024,
         side: record_width(bits),

@@ -6,13 +6,13 @@ ghost use Rattle.rmt_config.specs.Order.{rises_from};
 ghost use Rattle.rmt_config.specs.Layouts.{IsLayout, listed_cells, is_told as is_told_of, RowTold, BlocksTold};
 
 use crate::config::CellNumber;
-use crate::form::layout::{Layout, joined};
+use crate::form::layout::{CellLayout, joined};
 use crate::form::search::{MemoryRow, first_from, is_cell_listed};
 use rmt_bits::bits::slice;
 
 /// Whether what stands at a position of a row of a unit is an entry of a listed cell.
 fn is_told(
-    layout: &Layout,
+    layout: &CellLayout,
     numbers: &[CellNumber],
     unit: u64,
     row: u64,
@@ -48,7 +48,7 @@ fn piece(bits: u128, from: u64, to: u64) -> u128
 
 /// Whether each bit that is set in a row of the block at a place of a unit stands in an entry of a listed cell.
 fn row_is_told(
-    layout: &Layout,
+    layout: &CellLayout,
     numbers: &[CellNumber],
     unit: u64,
     place: u64,
@@ -81,7 +81,7 @@ fn row_is_told(
 
 /// The same of each of these rows of the block.
 fn rows_are_told<R: MemoryRow>(
-    layout: &Layout,
+    layout: &CellLayout,
     numbers: &[CellNumber],
     unit: u64,
     place: u64,
@@ -114,7 +114,7 @@ fn run_of<R: MemoryRow>(rows: &[R], first: usize, end: usize) -> &[R]
 
 /// The same of all rows of the block that a list has at a place.
 fn block_is_told<R: MemoryRow>(
-    layout: &Layout,
+    layout: &CellLayout,
     numbers: &[CellNumber],
     at: u64,
     block: u8,
@@ -144,7 +144,7 @@ fn block_is_told<R: MemoryRow>(
 
 /// The same of all rows of the blocks of a list.
 pub fn blocks_are_told<R: MemoryRow>(
-    layout: &Layout,
+    layout: &CellLayout,
     numbers: &[CellNumber],
     blocks: &[u8],
     rows: &[R],

@@ -3,14 +3,14 @@
 ghost use Rattle.std.specs.Prelude.{◌≡◌, ◌<◌, ◌≤◌, ◌+◌, ◌*◌, length, IsTrue, nat_le};
 ghost use Rattle.std.specs.List.{list_all};
 ghost use Rattle.rmt_config.specs.LaneForm.{bits_of_lanes};
-ghost use Rattle.rmt_config.specs.Shapes.{exact_shape as shape_of_exact, ternary_shape as shape_of_ternary};
-ghost use Rattle.rmt_config.specs.UnitForm.{guard_is_formed, test_is_formed, gate_is_formed, number_is_formed, slot_head_is_formed, are_sram_blocks, are_tcam_blocks, has_shape, takes_memory, may_have_memory, format_is_formed, memory_is_formed, slot_is_formed, unit_is_formed};
+ghost use Rattle.rmt_config.specs.BlockCounts.{exact_block_counts as counts_of_exact, ternary_block_counts as counts_of_ternary};
+ghost use Rattle.rmt_config.specs.UnitForm.{guard_is_formed, test_is_formed, gate_is_formed, number_is_formed, slot_head_is_formed, are_sram_blocks, are_tcam_blocks, has_block_counts, takes_memory, may_have_memory, format_is_formed, memory_is_formed, slot_is_formed, unit_is_formed};
 ghost use Rattle.rmt_config.specs.declared.config.Memory.TheVariants.{Without};
 
 use crate::config::{CellNumber, GateTest, GateUnit, Memory, SlotUnit, Unit, UnitGuard};
+use crate::form::block_counts::{BlockCounts, exact_block_counts, ternary_block_counts};
 use crate::form::lane::{count_bits, lane_fits, lanes_fit};
 use crate::form::number::{fits_byte, fits_four_bytes, fits_two_bytes};
-use crate::form::shape::{Shape, exact_shape, ternary_shape};
 use rmt_bits::answer::Bytes;
 
 fn guard_fits(guard: Option<UnitGuard>) -> bool
@@ -111,12 +111,12 @@ fn cells_fit(bits: u32, width: u8, per: u16) -> bool
     per as u32 * (bits + 8) <= 112 * width as u32
 }
 
-fn lists_fit(shape: Shape, keys: &Bytes, records: &Bytes, counters: &Bytes) -> bool
-    ensures { result ≡ has_shape shape keys.now records.now counters.now }
+fn lists_fit(counts: BlockCounts, keys: &Bytes, records: &Bytes, counters: &Bytes) -> bool
+    ensures { result ≡ has_block_counts counts keys.now records.now counters.now }
 {
-    keys.len() as u64 == shape.keys
-        && records.len() as u64 == shape.records
-        && counters.len() as u64 == shape.counters
+    keys.len() as u64 == counts.keys
+        && records.len() as u64 == counts.records
+        && counters.len() as u64 == counts.counters
 }
 
 fn format_fits(slot: &SlotUnit, width: u8, per: u16, quanta: u8, first_way: u8) -> bool
@@ -160,9 +160,9 @@ fn memory_fits(slot: &SlotUnit) -> bool
             records,
             counters,
         } => {
-            let shape = exact_shape(*width, *per, *quanta, slot.held, slot.counted);
+            let counts = exact_block_counts(*width, *per, *quanta, slot.held, slot.counted);
             format_fits(slot, *width, *per, *quanta, *first_way)
-                && lists_fit(shape, keys, records, counters)
+                && lists_fit(counts, keys, records, counters)
                 && sram_blocks_fit(keys)
                 && sram_blocks_fit(records)
                 && sram_blocks_fit(counters)
@@ -175,7 +175,7 @@ fn memory_fits(slot: &SlotUnit) -> bool
         } => {
             can_have_memory(slot, *quanta)
                 && lists_fit(
-                    ternary_shape(
+                    ternary_block_counts(
                         count_bits(slot.keys.as_slice()),
                         *quanta,
                         slot.held,

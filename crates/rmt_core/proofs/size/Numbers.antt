@@ -1,5 +1,5 @@
 -- Where a configuration carries entries, each number that its slots list is that of an entry.
-use Rattle.std.proofs.Common.{◌≡◌, ℕ, ◌<◌, true, List, Some, get_or, refl, sym, ap, ◌∙◌, subst, arith}
+use Rattle.std.proofs.Common.{◌≡◌, ℕ, ◌<◌, true, List, Some, get_or, refl, sym, ap, ◌∙◌, subst}
 use Rattle.std.specs.Prelude.{All, Contains, option_and_then, option_map, slice_get, unwrap_or}
 use Rattle.std.proofs.lemmas.List.Elements.{All-contains_itself, All-map, All-nil, All-contains}
 use Rattle.std.proofs.lemmas.Option.{slice_get-get_or}

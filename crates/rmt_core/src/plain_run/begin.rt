@@ -10,10 +10,10 @@ ghost use Rattle.rmt_core.specs.PlainRunning.{Goes};
 
 use crate::plain_run::PlainRun;
 use crate::texts::Meant;
-use crate::waiting::Waiting;
 use rmt_ast::naming::names_of;
 use rmt_check::laws::one_meaning;
 use rmt_plain::plain::Plain;
+use rmt_runs::waiting::Waiting;
 use rmt_update::lists::Lists;
 use std::alloc::{AllocError, Global};
 

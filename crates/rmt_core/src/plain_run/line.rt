@@ -1,60 +1,52 @@
 //! The lines of a packet text, one after another, in a plain run.
 
-ghost use Rattle.std.specs.Prelude.{◌≡◌, ◌<◌, ◌≤◌, ◌+◌, ◌^◌, ◌⊎◌, ℕ, List, Ok, length, IfOk, IfErr, IsErrOf, IsTrue, OnOk};
+ghost use Rattle.std.specs.Prelude.{◌≡◌, ◌<◌, ◌≤◌, ◌+◌, ◌^◌, ℕ, List, Ok, length, IfOk, IsTrue, OnOk};
 ghost use Rattle.rmt_ast.specs.declared.program.Program.{Program};
 ghost use Rattle.rmt_ast.specs.declared.entry.Entry.{Entry};
-ghost use Rattle.rmt_io.specs.Outside.{SinkState, PrintingFailed, OnlyPrinted};
+ghost use Rattle.rmt_io.specs.Outside.{SinkState};
 ghost use Rattle.rmt_packets.specs.LineKinds.{kind_of};
 ghost use Rattle.rmt_packets.specs.PacketText.{packet_of};
 ghost use Rattle.rmt_update.specs.Running.{is_change, line_change};
 ghost use Rattle.rmt_core.specs.EventText.{EventReading, with_change, with_commit, with_line, with_packet};
-ghost use Rattle.rmt_core.specs.PlainRunning.{Goes, Leaves, event_lines};
-ghost use Rattle.rmt_core.specs.RunEnd.{Cut};
+ghost use Rattle.rmt_core.specs.PlainRunning.{BreaksOver, Goes, Leaves, StandsOver, StopsOver};
 
 use crate::plain_run::PlainRun;
-use crate::run_end::RunFault;
 use rmt_io::sink::Sink;
 use rmt_packets::answer_line::write_answer;
 use rmt_packets::line_kind::{LineKind, kind_of};
 use rmt_packets::packet_line::{PacketFault, read_packet};
+use rmt_runs::fault::RunFault;
+use rmt_runs::taker::TakesLines;
 use rmt_update::fault::ChangeFault;
 use std::alloc::{AllocError, Global};
 
-/// Takes the next line of a text, which is not passed over, and writes the lines that wait where they are many. It answers
-/// the code of a bad line.
-pub fn take_line<O: Sink>(
-    alloc: Global,
-    run: &mut PlainRun,
-    line: &[u8],
-    frame: &mut Vec<u8>,
-    out: &mut O,
-) -> Result<Option<u8>, RunFault>
-    requires goes { (p : Program) × (lists : List (List Entry)) × (said : EventReading)
-        × (before : SinkState) × Goes p lists said run.old before (O.state out.old) }
-    requires few { run.old.answered < 2 ^ 63 }
-    ensures ok { IfOk result
-        (λ code. (p : Program) (lists : List (List Entry)) (said : EventReading) (number : ℕ)
-        (before : SinkState) → Goes p lists said run.old before (O.state out.old) →
-        Leaves p lists number said (with_line number line.now (kind_of line.now) said) run.new
-        before (O.state out.new) code) }
-    ensures cut { IfErr result
-        (λ fault. (p : Program) (lists : List (List Entry)) (said : EventReading) (number : ℕ)
-        (before : SinkState) → Goes p lists said run.old before (O.state out.old) →
-        Cut (event_lines p lists (with_line number line.now (kind_of line.now) said).events)
-        before (O.state out.new) fault) }
-    ensures answered { OnOk result (run.new.answered ≤ run.old.answered + 1) }
-    ensures either { IfErr result
-        (λ fault. (fault ≡ RunFault.NoMemory) ⊎ (fault ≡ RunFault.Write)) }
-    ensures failed { IsErrOf result RunFault.Write →
-        PrintingFailed (O.state out.old) (O.state out.new) }
-    ensures only_printed { OnlyPrinted (O.state out.old) (O.state out.new) }
-{
-    let Ok(code) = take(alloc, run, line, frame) else {
-        return Err(RunFault::NoMemory);
-    };
-    match run.waiting.write_many(out) {
-        Ok(()) => Ok(code),
-        Err(_) => Err(RunFault::Write),
+impl TakesLines for PlainRun {
+    ghost Subject = { Program × List (List Entry) };
+
+    ghost lent = { λ run. tt };
+
+    ghost IsFew = { λ lines run. run.answered ≤ lines };
+
+    ghost Stands = { StandsOver };
+
+    ghost Stops = { StopsOver };
+
+    ghost Breaks = { BreaksOver };
+
+    fn take_line<O: Sink>(
+        &mut self,
+        alloc: Global,
+        line: &[u8],
+        frame: &mut Vec<u8>,
+        out: &mut O,
+    ) -> Result<Option<u8>, RunFault> {
+        let Ok(code) = take(alloc, self, line, frame) else {
+            return Err(RunFault::NoMemory);
+        };
+        match self.waiting.write_many(out) {
+            Ok(()) => Ok(code),
+            Err(_) => Err(RunFault::Write),
+        }
     }
 }
 

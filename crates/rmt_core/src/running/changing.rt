@@ -11,16 +11,16 @@ ghost use Rattle.rmt_io.specs.Outside.{SinkState, PrintingFailed, OnlyPrinted};
 ghost use Rattle.rmt_core.specs.declared.watch.Watch.{Watch};
 ghost use Rattle.rmt_core.specs.ChipEvents.{commit_cycles};
 ghost use Rattle.rmt_core.specs.ChipText.{lines_of};
-ghost use Rattle.rmt_core.specs.RunEnd.{Cut};
+ghost use Rattle.rmt_runs.specs.Cuts.{Cut};
 ghost use Rattle.rmt_core.specs.Running.{Came, Goes};
 
-use crate::run_end::RunFault;
 use crate::running::state::Run;
 use crate::running::turn::{Cycle, turn};
 use crate::running::wait::wait;
 use rmt_chip::chip::Chip;
 use rmt_config::cell_write::CellWrite;
 use rmt_io::sink::Sink;
+use rmt_runs::fault::RunFault;
 
 /// The cycles of a commit: it waits, changes cells, and makes the next version the current one.
 pub fn change_cells<O: Sink>(

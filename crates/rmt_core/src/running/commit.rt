@@ -11,12 +11,12 @@ ghost use Rattle.rmt_core.specs.declared.watch.Watch.{Watch};
 ghost use Rattle.rmt_core.specs.EventText.{EventReading};
 ghost use Rattle.rmt_core.specs.Running.{Follows, HasCome, IsFew, IsPlannedAt, IsUnplannedAt, Leaves, LeftOff};
 
-use crate::run_end::RunFault;
 use crate::running::changing::change_cells;
 use crate::running::commits::Commits;
 use crate::running::state::Run;
 use rmt_chip::chip::Chip;
 use rmt_io::sink::Sink;
+use rmt_runs::fault::RunFault;
 use rmt_update::book::plan::Plan;
 use rmt_update::fault::UpdateFault;
 use std::alloc::Global;

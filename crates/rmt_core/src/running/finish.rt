@@ -11,19 +11,21 @@ ghost use Rattle.rmt_io.specs.Outside.{SinkState, Gained, PrintingFailed, OnlyPr
 ghost use Rattle.rmt_core.specs.declared.watch.Watch.{Watch};
 ghost use Rattle.rmt_core.specs.ChipEvents.{empty_cycles};
 ghost use Rattle.rmt_core.specs.ChipText.{all_cycles, end_of, lines_of, run_text};
-ghost use Rattle.rmt_core.specs.Printing.{GainedFront};
-ghost use Rattle.rmt_core.specs.RunEnd.{Cut, bad_line, status_of_end};
+ghost use Rattle.rmt_runs.specs.Printing.{GainedFront};
+ghost use Rattle.rmt_runs.specs.Cuts.{Cut};
+ghost use Rattle.rmt_core.specs.RunEnd.{bad_line, status_of_end};
 ghost use Rattle.rmt_core.specs.Running.{Came, Goes};
 ghost use Rattle.rmt_core.specs.SimText.{count_line, cycles_line, flight_line};
 
 use crate::count_lines::count_lines;
-use crate::run_end::{Bad, RunFault, bad_text, end_status, fault_status};
+use crate::run_end::{bad_text, end_run, fault_status};
 use crate::running::state::Run;
 use crate::running::wait::wait;
 use crate::status::Status;
 use crate::watch::Watch;
 use rmt_chip::chip::Chip;
 use rmt_io::sink::Sink;
+use rmt_runs::fault::{Bad, RunFault};
 use std::alloc::{AllocError, Global};
 
 /// Runs a chip empty, and prints what is left.
@@ -67,7 +69,7 @@ pub fn finish<O: Sink>(
     let Ok(last) = last_text(alloc, chip, run, bad) else {
         return Status::NoMemory;
     };
-    run.waiting.end(last.as_slice(), end_status(bad), out)
+    end_run(&run.waiting, last.as_slice(), bad, out)
 }
 
 /// Clocks the chip to the end of the run.

@@ -12,7 +12,6 @@ ghost use Rattle.rmt_core.specs.declared.watch.Watch.{Watch};
 ghost use Rattle.rmt_core.specs.EventText.{EventReading};
 ghost use Rattle.rmt_core.specs.Running.{Follows, IsFew, Leaves, LeftOff};
 
-use crate::run_end::RunFault;
 use crate::running::commit::commit;
 use crate::running::commits::Commits;
 use crate::running::state::Run;
@@ -22,6 +21,7 @@ use rmt_chip::frame::Frame;
 use rmt_io::sink::Sink;
 use rmt_packets::line_kind::{LineKind, kind_of};
 use rmt_packets::packet_line::{PacketFault, read_packet};
+use rmt_runs::fault::RunFault;
 use rmt_update::fault::ChangeFault;
 use std::alloc::Global;
 

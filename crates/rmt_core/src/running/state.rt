@@ -7,10 +7,10 @@ ghost use Rattle.rmt_chip.specs.Stands.{Stands};
 ghost use Rattle.rmt_io.specs.Outside.{SinkState};
 ghost use Rattle.rmt_core.specs.Running.{Goes};
 
-use crate::waiting::Waiting;
 use crate::watch::Watch;
 use rmt_chip::fault::ChipFault;
 use rmt_chip::out::Out;
+use rmt_runs::waiting::Waiting;
 use std::alloc::Global;
 
 /// What is printed of a run, the bytes of what leaves, the lines that are not written yet, how many answers and cycles

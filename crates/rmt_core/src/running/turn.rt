@@ -8,10 +8,9 @@ ghost use Rattle.rmt_config.specs.RunInputs.{Input, answer_in};
 ghost use Rattle.rmt_io.specs.Outside.{SinkState, PrintingFailed, OnlyPrinted};
 ghost use Rattle.rmt_core.specs.declared.watch.Watch.{Watch};
 ghost use Rattle.rmt_core.specs.ChipText.{lines_of};
-ghost use Rattle.rmt_core.specs.RunEnd.{Cut};
+ghost use Rattle.rmt_runs.specs.Cuts.{Cut};
 ghost use Rattle.rmt_core.specs.Running.{Goes, MayTurn, input_for, line_if, spent_by};
 
-use crate::run_end::RunFault;
 use crate::running::state::Run;
 use crate::vectors::add_vectors;
 use crate::watch::Watch;
@@ -22,6 +21,7 @@ use rmt_chip::out::Out;
 use rmt_config::cell_write::CellWrite;
 use rmt_io::sink::Sink;
 use rmt_packets::answer_line::write_line;
+use rmt_runs::fault::RunFault;
 use std::alloc::AllocError;
 
 /// What a cycle begins with: nothing, a packet, a changed cell, or a new version with a seed.

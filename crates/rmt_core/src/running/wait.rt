@@ -10,14 +10,14 @@ ghost use Rattle.rmt_io.specs.Outside.{SinkState, PrintingFailed, OnlyPrinted};
 ghost use Rattle.rmt_core.specs.declared.watch.Watch.{Watch};
 ghost use Rattle.rmt_core.specs.ChipEvents.{is_waiting};
 ghost use Rattle.rmt_core.specs.ChipText.{lines_of};
-ghost use Rattle.rmt_core.specs.RunEnd.{Cut};
+ghost use Rattle.rmt_runs.specs.Cuts.{Cut};
 ghost use Rattle.rmt_core.specs.Running.{Came, Goes};
 
-use crate::run_end::RunFault;
 use crate::running::state::Run;
 use crate::running::turn::{Cycle, turn};
 use rmt_chip::chip::Chip;
 use rmt_io::sink::Sink;
+use rmt_runs::fault::RunFault;
 
 /// Clocks the chip until no packet of an older version is in flight, and where `moved` until none is.
 pub fn wait<O: Sink>(

@@ -5,9 +5,10 @@ use Rattle.std.specs.List.{flat_map, sum_by}
 use Rattle.std.proofs.lemmas.List.Elements.{All-from_recursion, All-weaker}
 use Rattle.std.proofs.lemmas.List.Sums.{AllPass-from_list_all}
 use Rattle.rmt_image.specs.Types.{Config, Stage}
+use Rattle.rmt_config.specs.Instructions.{unit_instructions}
 use Rattle.rmt_config.specs.CellForm.{entry_numbers, numbers_of_stage}
 use Rattle.rmt_config.specs.Form.{Formed}
-use Rattle.rmt_config.specs.Resources.{unit_instructions, unit_sram, unit_tcam}
+use Rattle.rmt_config.specs.Resources.{unit_sram, unit_tcam}
 use Rattle.rmt_config.specs.Spelling.{CountsFit, CountsFitHeader, spelled_config, spelled_header, spelled_list8, spelled_parser, spelled_ports, spelled_stage, two_bytes}
 use Rattle.rmt_config.specs.ImageSpelling.{spelled_names, spelled_tails, version_of}
 use Rattle.rmt_config.specs.StageForm.{rows_are_formed, stage_is_formed}

@@ -8,13 +8,14 @@ use Rattle.std.proofs.lemmas.List.Concat.{length-flat_map}
 use Rattle.std.proofs.lemmas.List.Elements.{All-map, All-weaker}
 use Rattle.std.proofs.lemmas.List.Sums.{AllPass-from_list_all, sum_by-le-sum_by}
 use Rattle.rmt_image.specs.Types.{Stage, SramRow, TcamRow, Unit as ChipUnit, Vliw, Operation, Source}
+use Rattle.rmt_config.specs.Instructions.{unit_instructions}
 use Rattle.rmt_config.specs.declared.config.Unit.TheVariants.{Gate, Slot}
 use Rattle.rmt_config.specs.declared.config.Source.TheVariants.{Word, Held, Constant}
 use Rattle.rmt_config.specs.declared.form.code.InstructionRole.{InstructionRole}
 use Rattle.rmt_config.specs.CellForm.{numbers_of_stage, numbers_of_unit}
 use Rattle.rmt_config.specs.CodeForm.{code_is_formed, places_of, unit_places, vliw_is_formed}
 use Rattle.rmt_config.specs.MemoryRules.{FormedRows}
-use Rattle.rmt_config.specs.Resources.{unit_instructions, unit_sram, unit_tcam}
+use Rattle.rmt_config.specs.Resources.{unit_sram, unit_tcam}
 use Rattle.rmt_config.specs.Spelling.{CountsFitStage, CountsFitVliw, spelled_list32, spelled_list8, spelled_operation, spelled_source, spelled_srow, spelled_stage, spelled_trow, spelled_unit, spelled_vliw, two_bytes}
 use Rattle.rmt_config.specs.StageForm.{rows_are_formed, srow_fits, srow_number, stage_is_formed, trow_fits, trow_number}
 use Rattle.rmt_config.specs.UnitForm.{unit_is_formed}

@@ -3,15 +3,15 @@
 ghost use Rattle.std.specs.Prelude.{◌≡◌, ◌<◌, length};
 ghost use Rattle.rmt_config.specs.LaneForm.{bits_of_lanes};
 ghost use Rattle.rmt_image.specs.Readers.{Gives, where_, kept, list_at, byte_at, number_at, at_least};
-ghost use Rattle.rmt_image.specs.Reading.{block_at, blocks_at, quanta_fit, cells_fit, format_at, format_shape, exact_at, ternary_at, exact_of_parts, ternary_of_parts, memory_at};
+ghost use Rattle.rmt_image.specs.Reading.{block_at, blocks_at, quanta_fit, cells_fit, format_at, format_block_counts, exact_at, ternary_at, exact_of_parts, ternary_of_parts, memory_at};
 
 use crate::fault::{ReadError, ReadFault};
 use crate::reading::items::{Item, list_of};
 use crate::reading::number::{byte_of, kept, two_of};
 use rmt_bits::answer::Bytes;
 use rmt_config::config::{Memory, SlotUnit};
+use rmt_config::form::block_counts::{BlockCounts, exact_block_counts, ternary_block_counts};
 use rmt_config::form::lane::count_bits;
-use rmt_config::form::shape::{Shape, exact_shape, ternary_shape};
 use rmt_config::form::unit::{can_take_memory, needs_no_memory};
 use std::alloc::Global;
 
@@ -52,14 +52,14 @@ struct Blocks {
 fn blocks_of(
     alloc: Global,
     most: u8,
-    shape: Shape,
+    counts: BlockCounts,
     bytes: &[u8],
 ) -> Result<(Blocks, &[u8]), ReadError>
-    ensures { Gives (λ x. (x.0, x.1.now)) result (blocks_at most shape bytes.now) }
+    ensures { Gives (λ x. (x.0, x.1.now)) result (blocks_at most counts bytes.now) }
 {
-    let (keys, rest) = list_of(alloc, Below(most), shape.keys, bytes)?;
-    let (records, rest) = list_of(alloc, Below(106), shape.records, rest)?;
-    let (counters, rest) = list_of(alloc, Below(106), shape.counters, rest)?;
+    let (keys, rest) = list_of(alloc, Below(most), counts.keys, bytes)?;
+    let (records, rest) = list_of(alloc, Below(106), counts.records, rest)?;
+    let (counters, rest) = list_of(alloc, Below(106), counts.counters, rest)?;
     let blocks = Blocks {
         keys,
         records,
@@ -96,7 +96,7 @@ fn per_of<'a>(slot: &SlotUnit, width: u8, bytes: &'a [u8]) -> Result<(u16, &'a [
 
 /// The numbers of exact memory before its lists.
 #[derive(Clone, Copy)]
-struct Format {
+struct ExactFormat {
     width: u8,
     per: u16,
     quanta: u8,
@@ -104,7 +104,7 @@ struct Format {
 }
 
 #[tactic(auto, unfolding(crate::specs::Reading::format_at))]
-fn format_of<'a>(slot: &SlotUnit, bytes: &'a [u8]) -> Result<(Format, &'a [u8]), ReadError>
+fn format_of<'a>(slot: &SlotUnit, bytes: &'a [u8]) -> Result<(ExactFormat, &'a [u8]), ReadError>
     requires { length slot.now.keys < 65536 }
     ensures { Gives (λ x. (x.0, x.1.now)) result (format_at slot.now bytes.now) }
 {
@@ -112,7 +112,7 @@ fn format_of<'a>(slot: &SlotUnit, bytes: &'a [u8]) -> Result<(Format, &'a [u8]),
     let (per, rest) = per_of(slot, width, rest)?;
     let (quanta, rest) = quanta_of(rest)?;
     let (first_way, rest) = byte_of(rest)?;
-    let format = Format {
+    let format = ExactFormat {
         width,
         per,
         quanta,
@@ -128,7 +128,7 @@ fn exact_of<'a>(
     alloc: Global,
     slot: &SlotUnit,
     bytes: &'a [u8],
-) -> Result<((Format, Blocks), &'a [u8]), ReadError>
+) -> Result<((ExactFormat, Blocks), &'a [u8]), ReadError>
     requires { length slot.now.keys < 65536 }
     ensures { Gives (λ x. (x.0, x.1.now)) result (exact_at slot.now bytes.now) }
 {
@@ -136,14 +136,14 @@ fn exact_of<'a>(
         return Err(ReadError::Fault(ReadFault::Form));
     }
     let (format, rest) = format_of(slot, bytes)?;
-    let shape = exact_shape(
+    let counts = exact_block_counts(
         format.width,
         format.per,
         format.quanta,
         slot.held,
         slot.counted,
     );
-    let (blocks, rest) = blocks_of(alloc, 106, shape, rest)?;
+    let (blocks, rest) = blocks_of(alloc, 106, counts, rest)?;
     Ok(((format, blocks), rest))
 }
 
@@ -160,17 +160,17 @@ fn ternary_of<'a>(
         return Err(ReadError::Fault(ReadFault::Form));
     }
     let (quanta, rest) = quanta_of(bytes)?;
-    let shape = ternary_shape(
+    let counts = ternary_block_counts(
         count_bits(slot.keys.as_slice()),
         quanta,
         slot.held,
         slot.counted,
     );
-    let (blocks, rest) = blocks_of(alloc, 16, shape, rest)?;
+    let (blocks, rest) = blocks_of(alloc, 16, counts, rest)?;
     Ok(((quanta, blocks), rest))
 }
 
-fn exact_memory(format: Format, blocks: Blocks) -> Memory
+fn exact_memory(format: ExactFormat, blocks: Blocks) -> Memory
     ensures { result ≡ exact_of_parts (format, blocks) }
 {
     let Blocks {

@@ -6,7 +6,7 @@ ghost use Rattle.rmt_config.specs.Cells.{blocks_at, cell_of, data_at, exact_cont
 ghost use Rattle.rmt_config.specs.LaneForm.{bits_of_lanes};
 ghost use Rattle.rmt_config.specs.MemoryRules.{ExactFits, FormedRows, SramRows, TernaryFits};
 ghost use Rattle.rmt_config.specs.PrefixRow.{PrefixRows};
-ghost use Rattle.rmt_config.specs.Shapes.{divided_up as divided_up_of, record_units, record_width};
+ghost use Rattle.rmt_config.specs.BlockCounts.{divided_up as divided_up_of, record_units, record_width};
 ghost use Rattle.rmt_config.specs.declared.config.Memory.TheVariants.{Exact, Ternary};
 ghost use Rattle.rmt_config.specs.declared.config.TcamRow.{TcamRow as TcamRowOf};
 ghost use Rattle.rmt_update.specs.Kept.{IsKept};

@@ -6,7 +6,7 @@ ghost use Rattle.rmt_ast.specs.EntryLists.{IsEntry};
 ghost use Rattle.rmt_ast.specs.NameRules.{table_is_formed, terms_of_name};
 ghost use Rattle.rmt_ast.specs.declared.names.ActionName.{ActionName as ActionOf};
 ghost use Rattle.rmt_config.specs.Rooms.{args_as_one, tests_as_one};
-ghost use Rattle.rmt_config.specs.Shapes.{divided_up};
+ghost use Rattle.rmt_config.specs.BlockCounts.{divided_up};
 ghost use Rattle.rmt_update.specs.Coming.{HasSizes, KeepsEntry};
 ghost use Rattle.rmt_config.specs.Rooms.{mask_or_value};
 ghost use Rattle.rmt_update.specs.Told.{is_whole};

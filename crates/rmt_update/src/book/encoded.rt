@@ -5,7 +5,7 @@ ghost use Rattle.std.specs.List.{AllZip};
 ghost use Rattle.rmt_bits.specs.Bits.{number_of};
 ghost use Rattle.rmt_ast.specs.WellFormed.{Fits, IsTest};
 ghost use Rattle.rmt_config.specs.Rooms.{args_as_one, tests_as_one};
-ghost use Rattle.rmt_config.specs.Shapes.{divided_up as divided_up_of};
+ghost use Rattle.rmt_config.specs.BlockCounts.{divided_up as divided_up_of};
 ghost use Rattle.rmt_config.specs.Rooms.{mask_or_value};
 
 use rmt_ast::program::Test;

@@ -8,7 +8,7 @@ ghost use Rattle.rmt_update.specs.Kept.{Tells};
 
 use crate::book::rows::sram_words;
 use rmt_config::config::SramRow;
-use rmt_config::form::layout::Layout;
+use rmt_config::form::layout::CellLayout;
 use rmt_config::form::names::key_bytes::{piece_at, spot_of};
 use std::alloc::{AllocError, Global};
 
@@ -22,7 +22,7 @@ pub struct EntryWords {
 /// The words in which the entry of a cell stands. The only fault is want of memory.
 pub fn entry_words(
     alloc: Global,
-    layout: &Layout,
+    layout: &CellLayout,
     blocks: &[u8],
     rows: &[SramRow],
     cell: u64,

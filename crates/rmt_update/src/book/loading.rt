@@ -11,7 +11,7 @@ ghost use Rattle.rmt_ast.specs.declared.names.Names.{Names as NamesOf};
 ghost use Rattle.rmt_ast.specs.declared.program.Kind.TheVariants as kind;
 ghost use Rattle.rmt_config.specs.declared.config.Config.{Config as ConfigOf};
 ghost use Rattle.rmt_config.specs.Rooms.{key_number};
-ghost use Rattle.rmt_config.specs.Shapes.{divided_up};
+ghost use Rattle.rmt_config.specs.BlockCounts.{divided_up};
 ghost use Rattle.rmt_cuckoo.specs.declared.layout.Ways.{Ways as WaysOf};
 ghost use Rattle.rmt_cuckoo.specs.Loading.{cells_in, cells_of};
 ghost use Rattle.rmt_update.specs.FirstFull.{keys_of as keys_as_bytes};
@@ -73,7 +73,7 @@ fn put_ways(layout: &mut Layout, grid: Grid) -> Result<(), AllocError>
     match grid {
         Grid::Ways(ways) => layout.push(Ways {
             rows: ways.rows,
-            per: ways.per,
+            per: ways.per as u32,
         }),
         Grid::Rows(_) => Ok(()),
     }

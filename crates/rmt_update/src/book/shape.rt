@@ -7,20 +7,21 @@ ghost use Rattle.rmt_config.specs.Cells.{candidates, cells_in};
 ghost use Rattle.rmt_config.specs.KeysSeen.{WaysLow};
 ghost use Rattle.rmt_config.specs.LaneForm.{bits_of_lanes};
 ghost use Rattle.rmt_config.specs.Life.{has_memory};
-ghost use Rattle.rmt_config.specs.Shapes.{divided_up};
+ghost use Rattle.rmt_config.specs.BlockCounts.{divided_up};
 ghost use Rattle.rmt_config.specs.UnitForm.{slot_is_formed};
 ghost use Rattle.rmt_config.specs.declared.config.SlotUnit.{SlotUnit as SlotOf};
 ghost use Rattle.rmt_update.specs.PartShape.{HasFewCells, IsGrid, IsShape, cell_count, cells_for, row_cells};
 
-use crate::book::grid::{Grid, PartWays};
-use rmt_bits::hash::hash_row;
+use crate::book::grid::Grid;
 use rmt_config::config::{Memory, SlotUnit};
 use rmt_config::form::lane::key_bits;
+use rmt_config::part_ways::PartWays;
+use rmt_config::way_rows::row_of;
 use std::alloc::{AllocError, Global};
 
 /// What is kept of the memory of a part.
 #[derive(Clone, Copy)]
-pub struct Shape {
+pub struct PartShape {
     /// The bits of a key, at most 640.
     pub bits: u64,
     /// The bits of an entry's data.
@@ -44,20 +45,20 @@ fn grid_of(memory: &Memory) -> Grid
         } => Grid::Ways(PartWays {
             first: *first_way,
             rows: 1024 * u32::from(*quanta),
-            per: u32::from(*per),
+            per: *per,
         }),
         Memory::Ternary { quanta, .. } => Grid::Rows(2048 * u32::from(*quanta)),
     }
 }
 
 /// The shape of the memory of a slot.
-pub fn shape_of(slot: &SlotUnit) -> Shape
+pub fn shape_of(slot: &SlotUnit) -> PartShape
     requires formed { IsTrue (slot_is_formed slot.now) }
     requires memory { IsTrue (has_memory slot.now.memory) }
     requires ways { WaysLow slot.now.memory }
     ensures { IsShape slot.now result }
 {
-    Shape {
+    PartShape {
         bits: key_bits(slot.keys.as_slice()),
         held: slot.held,
         grid: grid_of(&slot.memory),
@@ -75,10 +76,8 @@ fn put_row(
     requires { way < 4 }
     ensures { OnOk result (cells.new.items ≡ cells.old.items ++ row_cells seed key.now ways.first ways.rows ways.per way) }
 {
-    let row = hash_row(seed, ways.first + way, key, ways.rows);
-    let first = way as u32 * ways.rows;
-    let start = (first + row) * ways.per;
-    let end = start + ways.per;
+    let start = row_of(ways, seed, key, way) * ways.per as u32;
+    let end = start + ways.per as u32;
     for cell in start..end {
         cells.push(cell)?;
     }
@@ -107,14 +106,14 @@ fn all_rows(alloc: Global, rows: u32) -> Result<Vec<u32>, AllocError>
     Ok(cells)
 }
 
-impl Shape {
+impl PartShape {
     /// How many cells the part has.
     pub fn cells(&self) -> u32
         ensures count { result ≡ cell_count self.now.grid }
         ensures memory { (slot : SlotOf) → IsShape slot self.now → result ≡ cells_in slot.memory }
     {
         match self.grid {
-            Grid::Ways(ways) => 4 * (ways.rows * ways.per),
+            Grid::Ways(ways) => 4 * (ways.rows * ways.per as u32),
             Grid::Rows(rows) => rows,
         }
     }

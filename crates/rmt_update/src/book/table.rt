@@ -16,7 +16,7 @@ ghost use Rattle.rmt_update.specs.Listed.{AreListed, IsListed};
 use crate::book::kept::Kept;
 use crate::book::parts::cell_of;
 use crate::book::ranks::{rank_of, ranks_told};
-use crate::book::shape::{Shape, shape_of};
+use crate::book::shape::{PartShape, shape_of};
 use rmt_ast::names::TableName;
 use rmt_config::config::Config;
 use rmt_config::form::names::part_list::{Part, parts_of};
@@ -33,7 +33,7 @@ pub struct PartCells {
     /// The number of the slot's first instruction in the stage.
     pub first: u128,
     /// What is kept of the slot's memory.
-    pub shape: Shape,
+    pub shape: PartShape,
     /// The occupied cells, found by their numbers in the part.
     pub cells: BTreeMap<u32, Kept>,
 }

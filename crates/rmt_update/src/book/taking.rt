@@ -7,7 +7,7 @@ ghost use Rattle.rmt_ast.specs.NameRules.{table_is_formed};
 ghost use Rattle.rmt_ast.specs.WellFormed.{IsTest};
 ghost use Rattle.rmt_config.specs.LaneForm.{bits_of_lanes};
 ghost use Rattle.rmt_config.specs.Rooms.{PartAt};
-ghost use Rattle.rmt_config.specs.Shapes.{divided_up};
+ghost use Rattle.rmt_config.specs.BlockCounts.{divided_up};
 ghost use Rattle.rmt_update.specs.Loads.{HasShape};
 ghost use Rattle.rmt_update.specs.Taking.{HaveRoom, IsGiven, MayGive, TakesFrom, TakesOpen, TakesRow, candidates_at};
 

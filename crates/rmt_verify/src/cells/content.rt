@@ -9,7 +9,7 @@ ghost use Rattle.rmt_config.specs.LaneForm.{bits_of_lanes};
 ghost use Rattle.rmt_config.specs.MemoryRules.{ExactFits, FormedRows, SramRows, TernaryFits};
 ghost use Rattle.rmt_config.specs.PrefixRow.{PrefixRows};
 ghost use Rattle.rmt_config.specs.Rooms.{tests_as_one};
-ghost use Rattle.rmt_config.specs.Shapes.{divided_up as divided_up_of, record_units, record_width};
+ghost use Rattle.rmt_config.specs.BlockCounts.{divided_up as divided_up_of, record_units, record_width};
 ghost use Rattle.rmt_config.specs.declared.config.Memory.TheVariants.{Exact};
 ghost use Rattle.rmt_config.specs.declared.config.TcamRow.{TcamRow as TcamRowOf};
 ghost use Rattle.rmt_verify.specs.Wanted.{IsWanted, Matches};

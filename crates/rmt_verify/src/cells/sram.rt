@@ -5,10 +5,10 @@ ghost use Rattle.rmt_bits.specs.Bits.{bytes_of, number_of, slice as slice_of};
 ghost use Rattle.rmt_config.specs.Cells.{sram_row};
 ghost use Rattle.rmt_config.specs.Layouts.{IsInSram, entry_in, local_of, quantum_of};
 ghost use Rattle.rmt_config.specs.MemoryRules.{SramRows};
-ghost use Rattle.rmt_config.specs.Shapes.{divided_up};
+ghost use Rattle.rmt_config.specs.BlockCounts.{divided_up};
 
 use rmt_config::config::SramRow;
-use rmt_config::form::layout::Layout;
+use rmt_config::form::layout::CellLayout;
 use rmt_config::form::names::key_bytes::push_entry;
 use rmt_config::form::sram::Near;
 use std::alloc::{AllocError, Global};
@@ -16,7 +16,7 @@ use std::alloc::{AllocError, Global};
 /// Some bits of the entry of a cell as bytes, the highest first.
 pub fn entry_bytes(
     alloc: Global,
-    layout: &Layout,
+    layout: &CellLayout,
     blocks: &[u8],
     rows: &[SramRow],
     cell: u64,
@@ -40,7 +40,7 @@ pub fn entry_bytes(
 /// The head of the entry of a cell: its lowest 8 bits.
 pub fn head_of(
     alloc: Global,
-    layout: &Layout,
+    layout: &CellLayout,
     blocks: &[u8],
     rows: &[SramRow],
     cell: u64,
@@ -59,7 +59,7 @@ pub fn head_of(
 /// Some bits of the entry of a cell as bytes, the highest first, behind 256 bytes that are 0.
 pub fn data_bytes(
     alloc: Global,
-    layout: &Layout,
+    layout: &CellLayout,
     blocks: &[u8],
     rows: &[SramRow],
     cell: u64,

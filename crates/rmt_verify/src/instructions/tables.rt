@@ -5,7 +5,7 @@ ghost use Rattle.rmt_ast.specs.WellFormed.{IsProgram, IsTable};
 ghost use Rattle.rmt_config.specs.Life.{code_at as code_at_of};
 ghost use Rattle.rmt_phv.specs.Places.{KeepsApart};
 ghost use Rattle.rmt_refine.specs.Units.{table_at as table_at_of};
-ghost use Rattle.rmt_config.specs.Resources.{unit_instructions};
+ghost use Rattle.rmt_config.specs.Instructions.{unit_instructions};
 ghost use Rattle.rmt_config.specs.StageForm.{stage_is_formed};
 ghost use Rattle.rmt_vliw.specs.Coded.{IsCodeOf, TableCoded};
 ghost use Rattle.rmt_verify.specs.StageCode.{AreFoldings, StageCoded, UnitCoded};

@@ -2,7 +2,7 @@ use Rattle.std.proofs.Common.{◌≡◌, ℕ, ◌+◌, ◌*◌, ◌^◌, ◌<◌
 use Rattle.std.specs.Prelude.{sum}
 use Rattle.rmt_build.specs.Types.{Test}
 use Rattle.rmt_bits.specs.Bits.{bytes_of, number_of}
-use Rattle.rmt_config.specs.Shapes.{divided_up}
+use Rattle.rmt_config.specs.BlockCounts.{divided_up}
 use Rattle.rmt_pack.specs.Cells.{PutsEntry, PutsRecord}
 use Rattle.rmt_pack.specs.Rows.{blocks_of}
 use Rattle.rmt_config.specs.Rooms.{args_as_one, tests_as_one}

@@ -9,7 +9,7 @@ use Rattle.rmt_ast.specs.EntryLists.{params_of}
 use Rattle.rmt_ast.specs.State.{width_of}
 use Rattle.rmt_ast.specs.WellFormed.{Fits, IsTest}
 use Rattle.rmt_config.specs.Cells.{blocks_at}
-use Rattle.rmt_config.specs.Shapes.{divided_up}
+use Rattle.rmt_config.specs.BlockCounts.{divided_up}
 use Rattle.rmt_pack.specs.Cells.{PutsRecord}
 use Rattle.rmt_pack.specs.Placements.{data_bits, key_bits}
 use Rattle.rmt_pack.specs.Rows.{blocks_of}

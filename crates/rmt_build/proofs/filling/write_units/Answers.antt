@@ -1,7 +1,7 @@
 use Rattle.std.proofs.Common.{◌≡◌, ◌+◌, Some, ◌∙◌, refl, subst, sym, ap, arith}
 use Rattle.std.specs.Prelude.{slice_get}
 use Rattle.rmt_bits.proofs.ListLaws.{slice_get-seen}
-use Rattle.rmt_config.specs.Resources.{unit_instructions}
+use Rattle.rmt_config.specs.Instructions.{unit_instructions}
 use Rattle.rmt_pack.specs.declared.rows.Rows.{Rows}
 use Rattle.rmt_pack.specs.Rows.{blocks_of}
 use Rattle.rmt_build.specs.declared.tcam.TcamRows.{TcamRows}

@@ -1,6 +1,6 @@
 use Rattle.std.proofs.Common.{◌≡◌, take}
 use Rattle.std.specs.Prelude.{sum_by}
-use Rattle.rmt_config.specs.Resources.{unit_instructions}
+use Rattle.rmt_config.specs.Instructions.{unit_instructions}
 use Rattle.rmt_pack.specs.Rows.{blocks_of}
 use Rattle.rmt_build.specs.Listing.{masks_of, values_of}
 use Rattle.rmt_build.specs.Written.{UnitsWritten}

@@ -1,7 +1,7 @@
 use Rattle.std.proofs.Common.{List, length, sym, subst}
 use Rattle.std.specs.Prelude.{All, AllPairs, sum_by, ◌≤◌}
 use Rattle.rmt_build.specs.Types.{Stage, Unit}
-use Rattle.rmt_config.specs.Resources.{unit_instructions}
+use Rattle.rmt_config.specs.Instructions.{unit_instructions}
 use Rattle.rmt_pack.specs.Rows.{blocks_of}
 use Rattle.rmt_build.specs.Holding.{Held}
 use Rattle.rmt_build.specs.Listing.{masks_of, values_of}

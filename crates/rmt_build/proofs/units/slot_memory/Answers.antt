@@ -1,7 +1,7 @@
 use Rattle.std.proofs.Common.{rules, ◌≡◌, ◌∙◌, ap, sym, subst}
 use Rattle.std.specs.Prelude.{OnOk}
 use Rattle.rmt_ast.specs.declared.program.Kind.TheVariants.{Keyless}
-use Rattle.rmt_build.specs.declared.memory.Need.{Need}
+use Rattle.rmt_build.specs.declared.memory.PartNeed.{PartNeed}
 use Rattle.rmt_build.specs.declared.memory.Taken.{Taken}
 use Rattle.rmt_build.specs.Memories.{HasRoom, taken_behind}
 use Rattle.rmt_build.specs.Plans.{need_in}
@@ -15,14 +15,14 @@ returns-then-eq-clause-taken c =
 
 pub memory_of-requires : goal.memory_of-requires
 memory_of-requires c = λ keyed.
-    subst (λ (n : Need). HasRoom c.args.table.now.kind n c.args.taken.now) (sym c.need_of-need.ensures)
+    subst (λ (n : PartNeed). HasRoom c.args.table.now.kind n c.args.taken.now) (sym c.need_of-need.ensures)
     (subst (λ (x : Taken). HasRoom c.args.table.now.kind (need_in c.args.planned.now.program.now c.args.planned.now.plan.now.placement.parts c.args.table.now c.args.node c.args.planned.now.stage) x) (sym c.requires.taken)
     (has_room c.args.planned.now.program.now c.requires.program c.args.node c.args.table.now c.requires.table c.args.planned.now.plan.now.placement.parts c.args.planned.now.stage c.requires.parts keyed c.requires.stage))
 
 pub returns-clause-taken : goal.returns-clause-taken
 returns-clause-taken c =
     let kind = c.args.table.now.kind in
-    let same = ap (λ (n : Need). taken_behind kind n c.args.taken.now) c.need_of-need.ensures
+    let same = ap (λ (n : PartNeed). taken_behind kind n c.args.taken.now) c.need_of-need.ensures
     ∙ (ap (taken_behind kind (need_in c.args.planned.now.program.now c.args.planned.now.plan.now.placement.parts c.args.table.now c.args.node c.args.planned.now.stage)) c.requires.taken
     ∙ taken_next c.args.planned.now.program.now c.requires.program c.args.node c.args.table.now c.requires.table c.args.planned.now.plan.now.placement.parts c.args.planned.now.stage) in
     subst (λ (x : Taken). OnOk c.memory_of.result (c.memory_of.new.taken ≡ x)) same c.memory_of.ensures.taken

@@ -1,7 +1,7 @@
 use Rattle.std.proofs.Common.{◌≡◌, ◌+◌, ◌*◌, ◌/◌, ◌%◌, ◌≤◌, List, length, map, ◌∙◌, sym, ap, subst, arith}
 use Rattle.std.specs.Prelude.{sum, All}
 use Rattle.std.proofs.lemmas.List.{length-map}
-use Rattle.rmt_config.specs.Shapes.{divided_up}
+use Rattle.rmt_config.specs.BlockCounts.{divided_up}
 use Rattle.rmt_pack.specs.declared.tcam.TcamWord.{TcamWord}
 use Rattle.rmt_build.specs.Listing.{values_of, masks_of}
 use Rattle.rmt_build.specs.Words.{IsMaskedWord, WordsSo}

@@ -17,7 +17,7 @@ test_is : (slot : SlotUnit) (acts : Acts) (outcomes : List ℕ) (ran : Bool) →
 test_is slot acts outcomes ran is on same = ap (λ (os : List ℕ). runs slot.node slot.guard os) (sym same) ∙ sym is ∙ on
 
 pub returns-then-one-clause-done : goal.returns-then-one-clause-done
-returns-then-one-clause-done c = λ stage found d first acts finds low was.
+returns-then-one-clause-done c = λ stage found d first acts finds was.
     let slot = c.args.slot.now in
     let looked = c.args.looked.now in
     let unit = c.args.at.unit in
@@ -34,14 +34,14 @@ returns-then-one-clause-done c = λ stage found d first acts finds low was.
     c.push_reserved.ensures.items ∙ ap (λ (n : ℕ). c.args.running.now.items ++ record { code = n; unit = unit; found = true } ∷ []) code in
     let counts = subst (λ (l : Looked). CountsAlso before counters (one_if slot.counted l.number c.args.bytes)) same c.count.ensures.counts in
     let done = slot_found stage slot found looked unit d c.args.bytes base first before counters acts c.args.outcomes.now c.args.running.now.items
-    c.requires.inside finds (ap (λ (l : Looked). l.hit) (sym same) ∙ c.if-one.true) low counts was in
+    c.requires.inside finds (ap (λ (l : Looked). l.hit) (sym same) ∙ c.if-one.true) counts was in
     let test = test_is slot acts c.args.outcomes.now c.runs_now.result c.runs_now.ensures c.if-not-runs_now.false was.outcomes_are in
-    done_if stage looked c.args.bytes first counters (slot_acts stage slot found acts) acts _ c.push_reserved.new.self.items (runs slot.node slot.guard acts.outcomes) true test
-    (subst (λ (os : List ℕ). HaveDone stage looked c.args.bytes first (slot_acts stage slot found acts) os c.push_reserved.new.self.items counters) (sym outcomes)
-    (subst (λ (rs : List Ran). HaveDone stage looked c.args.bytes first (slot_acts stage slot found acts) (set c.args.outcomes.now slot.node (2 + (one.code - base))) rs counters) (sym running) done))
+    done_if stage looked c.args.bytes first counters (slot_acts stage c.args.at.base slot found acts) acts _ c.push_reserved.new.self.items (runs slot.node slot.guard acts.outcomes) true test
+    (subst (λ (os : List ℕ). HaveDone stage looked c.args.bytes first (slot_acts stage c.args.at.base slot found acts) os c.push_reserved.new.self.items counters) (sym outcomes)
+    (subst (λ (rs : List Ran). HaveDone stage looked c.args.bytes first (slot_acts stage c.args.at.base slot found acts) (set c.args.outcomes.now slot.node (2 + (one.code - base))) rs counters) (sym running) done))
 
 pub returns-then-slot-clause-done : goal.returns-then-slot-clause-done
-returns-then-slot-clause-done c = λ stage found d first acts finds low was.
+returns-then-slot-clause-done c = λ stage found d first acts finds was.
     let slot = c.args.slot.now in
     let outcomes : set c.args.outcomes.now c.from-node.result 1 ≡ set c.args.outcomes.now slot.node 1 = ap (λ (n : ℕ). set c.args.outcomes.now n 1) c.from-node.ensures in
     let one : Ran = record { code = c.args.at.base + slot.actions; unit = c.args.at.unit; found = false } in
@@ -49,17 +49,17 @@ returns-then-slot-clause-done c = λ stage found d first acts finds low was.
     c.push_reserved-then-slot.ensures.items ∙ ap (λ (n : ℕ). c.args.running.now.items ++ record { code = n; unit = c.args.at.unit; found = false } ∷ []) c.default_code-code.ensures.value in
     let same = read_is c.args.looked.now c.args.at.unit c.from.result c.index-looked-from.result d c.requires.inside c.index-looked-from.is c.from.ensures in
     let done = slot_missed stage slot found c.args.looked.now (get_or c.args.looked.now c.args.at.unit d) c.args.at.unit c.args.bytes c.args.at.base first c.args.counters.now.counts acts c.args.outcomes.now c.args.running.now.items
-    finds (ap (λ (l : Looked). l.hit) (sym same) ∙ c.if-one.false) c.if-slot.true low was in
+    finds (ap (λ (l : Looked). l.hit) (sym same) ∙ c.if-one.false) c.if-slot.true was in
     let test = test_is slot acts c.args.outcomes.now c.runs_now.result c.runs_now.ensures c.if-not-runs_now.false was.outcomes_are in
-    done_if stage c.args.looked.now c.args.bytes first c.args.counters.now.counts (slot_acts stage slot found acts) acts _ c.push_reserved-then-slot.new.self.items (runs slot.node slot.guard acts.outcomes) true test
-    (subst (λ (os : List ℕ). HaveDone stage c.args.looked.now c.args.bytes first (slot_acts stage slot found acts) os c.push_reserved-then-slot.new.self.items c.args.counters.now.counts) (sym outcomes)
-    (subst (λ (rs : List Ran). HaveDone stage c.args.looked.now c.args.bytes first (slot_acts stage slot found acts) (set c.args.outcomes.now slot.node 1) rs c.args.counters.now.counts) (sym running) done))
+    done_if stage c.args.looked.now c.args.bytes first c.args.counters.now.counts (slot_acts stage c.args.at.base slot found acts) acts _ c.push_reserved-then-slot.new.self.items (runs slot.node slot.guard acts.outcomes) true test
+    (subst (λ (os : List ℕ). HaveDone stage c.args.looked.now c.args.bytes first (slot_acts stage c.args.at.base slot found acts) os c.push_reserved-then-slot.new.self.items c.args.counters.now.counts) (sym outcomes)
+    (subst (λ (rs : List Ran). HaveDone stage c.args.looked.now c.args.bytes first (slot_acts stage c.args.at.base slot found acts) (set c.args.outcomes.now slot.node 1) rs c.args.counters.now.counts) (sym running) done))
 
 pub returns-else-slot-clause-done : goal.returns-else-slot-clause-done
-returns-else-slot-clause-done c = λ stage found d first acts finds low was.
+returns-else-slot-clause-done c = λ stage found d first acts finds was.
     let same = read_is c.args.looked.now c.args.at.unit c.from.result c.index-looked-from.result d c.requires.inside c.index-looked-from.is c.from.ensures in
     let slot = c.args.slot.now in
     let test = test_is slot acts c.args.outcomes.now c.runs_now.result c.runs_now.ensures c.if-not-runs_now.false was.outcomes_are in
-    done_if stage c.args.looked.now c.args.bytes first c.args.counters.now.counts (slot_acts stage slot found acts) acts c.args.outcomes.now c.args.running.now.items (runs slot.node slot.guard acts.outcomes) true test
-    (slot_rests stage slot found c.args.looked.now (get_or c.args.looked.now c.args.at.unit d) c.args.bytes first c.args.counters.now.counts acts c.args.outcomes.now c.args.running.now.items
+    done_if stage c.args.looked.now c.args.bytes first c.args.counters.now.counts (slot_acts stage c.args.at.base slot found acts) acts c.args.outcomes.now c.args.running.now.items (runs slot.node slot.guard acts.outcomes) true test
+    (slot_rests stage slot found c.args.looked.now (get_or c.args.looked.now c.args.at.unit d) c.args.bytes c.args.at.base first c.args.counters.now.counts acts c.args.outcomes.now c.args.running.now.items
     finds (ap (λ (l : Looked). l.hit) (sym same) ∙ c.if-one.false) c.if-slot.false was)

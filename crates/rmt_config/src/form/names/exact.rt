@@ -11,7 +11,7 @@ ghost use Rattle.rmt_config.specs.NamesForm.{has_parts, is_filled_so, is_made_so
 ghost use Rattle.rmt_config.specs.PartStands.{PartStands};
 ghost use Rattle.rmt_config.specs.PartsTold.{listed_numbers, part_at, parts_at};
 ghost use Rattle.rmt_config.specs.Rooms.{parts_of};
-ghost use Rattle.rmt_config.specs.Shapes.{divided_up as divided_up_of};
+ghost use Rattle.rmt_config.specs.BlockCounts.{divided_up as divided_up_of};
 
 use crate::config::{Config, Memory};
 use crate::form::layout::divided_up;

@@ -7,7 +7,7 @@ ghost use Rattle.rmt_config.specs.Cells.{cell_of, entry_at, sram_row};
 ghost use Rattle.rmt_config.specs.KeyPrints.{KeysAdded};
 ghost use Rattle.rmt_config.specs.KeysSeen.{key_in, stands_there};
 ghost use Rattle.rmt_config.specs.MemoryRules.{SramRows};
-ghost use Rattle.rmt_config.specs.Shapes.{divided_up as divided_up_of};
+ghost use Rattle.rmt_config.specs.BlockCounts.{divided_up as divided_up_of};
 ghost use Rattle.rmt_config.specs.declared.config.CellNumber.{CellNumber};
 
 use crate::config::{CellNumber, SramRow};

@@ -5,10 +5,10 @@ ghost use Rattle.rmt_bits.specs.Bits.{slice as slice_of, bytes_of};
 ghost use Rattle.rmt_config.specs.Cells.{sram_row, unit_row, blocks_at};
 ghost use Rattle.rmt_config.specs.Layouts.{IsInSram, quantum_of, local_of, unit_of, row_of, position_of, entry_in};
 ghost use Rattle.rmt_config.specs.MemoryRules.{SramRows};
-ghost use Rattle.rmt_config.specs.Shapes.{divided_up};
+ghost use Rattle.rmt_config.specs.BlockCounts.{divided_up};
 
 use crate::config::SramRow;
-use crate::form::layout::{Layout, joined};
+use crate::form::layout::{CellLayout, joined};
 use crate::form::sram::{Near, row_bits};
 use rmt_bits::bits::slice;
 use std::alloc::AllocError;
@@ -22,7 +22,7 @@ pub struct Spot {
 }
 
 /// Where the entry of a cell stands.
-pub fn spot_of(layout: &Layout, cell: u64) -> Spot
+pub fn spot_of(layout: &CellLayout, cell: u64) -> Spot
     requires layout { IsInSram layout.now }
     requires cell { cell < layout.now.ways * layout.now.quanta * layout.now.way }
     ensures unit { let l = layout.now in result.unit ≡ unit_of l (quantum_of l cell) (local_of l cell) }
@@ -131,7 +131,7 @@ pub fn piece_at(bytes: &[u8], size: u64, at: u64) -> &[u8]
 /// Adds `len` bits of the entry of a cell, from the bit `from` on, as bytes, the highest first.
 pub fn push_entry(
     into: &mut Vec<u8>,
-    layout: &Layout,
+    layout: &CellLayout,
     blocks: &[u8],
     rows: &[SramRow],
     cell: u64,

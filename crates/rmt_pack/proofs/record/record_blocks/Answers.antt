@@ -2,7 +2,7 @@ use Rattle.std.proofs.Common.{◌≢◌, ℕ, ◌<◌, List, take, drop, ap, ◌
 use Rattle.std.specs.Prelude.{All, AllPairs}
 use Rattle.rmt_bits.proofs.AllLaws.{All-right}
 use Rattle.rmt_bits.proofs.PairLaws.{AllPairs-right}
-use Rattle.rmt_config.specs.Shapes.{record_width}
+use Rattle.rmt_config.specs.BlockCounts.{record_width}
 use Rattle.rmt_pack.proofs.record.record_blocks.Goals as goal
 
 pub blocks_from-requires-clause-in_sram : goal.blocks_from-requires-clause-in_sram

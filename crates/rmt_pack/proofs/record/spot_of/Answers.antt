@@ -1,5 +1,5 @@
 use Rattle.std.proofs.Common.{◌≡◌, ◌+◌, ◌*◌, ◌/◌, ◌%◌, ◌<◌, ◌≤◌, length, sym, ap, ◌∙◌, subst, arith}
-use Rattle.rmt_config.specs.Shapes.{divided_up, record_width, record_units}
+use Rattle.rmt_config.specs.BlockCounts.{divided_up, record_width, record_units}
 use Rattle.rmt_config.proofs.CellLayouts.{up-most}
 use Rattle.rmt_pack.specs.Cells.{thousands_in}
 use Rattle.rmt_pack.proofs.RecordLaws.{records-length, record-there, record-room, unit-below, unit-small}

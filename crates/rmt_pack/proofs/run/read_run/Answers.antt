@@ -1,7 +1,7 @@
 use Rattle.std.proofs.Common.{◌≡◌, ◌-◌, ◌+◌, ◌*◌, length, sym, ap, ◌∙◌, arith}
 use Rattle.rmt_bits.specs.Bits.{slice, deposit, number_of, bytes_of}
 use Rattle.rmt_bits.proofs.ByteLaws.{bytes_of-number_of, number_of-zeros}
-use Rattle.rmt_config.specs.Shapes.{divided_up}
+use Rattle.rmt_config.specs.BlockCounts.{divided_up}
 use Rattle.rmt_config.specs.Cells.{unit_row}
 use Rattle.rmt_pack.specs.Rows.{blocks_of}
 use Rattle.rmt_pack.proofs.RowLaws.{blocks-within}

@@ -2,7 +2,7 @@ use Rattle.std.proofs.Common.{◌≡◌, ◌*◌, ◌/◌, ◌^◌, ◌≤◌, l
 use Rattle.rmt_bits.specs.Bits.{slice, number_of}
 use Rattle.rmt_bits.proofs.ByteLaws.{AreBytes}
 use Rattle.rmt_config.specs.Cells.{unit_row}
-use Rattle.rmt_config.specs.Shapes.{divided_up}
+use Rattle.rmt_config.specs.BlockCounts.{divided_up}
 use Rattle.rmt_pack.specs.Rows.{blocks_of}
 use Rattle.rmt_pack.proofs.run.read_run.Given as goal
 

@@ -1,8 +1,9 @@
 use Rattle.std.proofs.Common.{◌≡◌, refl, ap, sym, ◌∙◌, length, arith}
 use Rattle.std.specs.List.{flat_map, count_by, sum_by}
 use Rattle.std.proofs.lemmas.List.Concat.{length-flat_map}
+use Rattle.rmt_config.specs.Instructions.{unit_instructions}
 use Rattle.rmt_config.specs.declared.limits.total.Resource.TheVariants as resource
-use Rattle.rmt_config.specs.Resources.{is_slot, is_gate, unit_instructions, unit_data, unit_sram, unit_tcam, exact_words, ternary_words, crossbar_bits}
+use Rattle.rmt_config.specs.Resources.{is_slot, is_gate, unit_data, unit_sram, unit_tcam, exact_words, ternary_words, crossbar_bits}
 use Rattle.rmt_report.proofs.ReportLaws.{of_total}
 use Rattle.rmt_report.proofs.stage_use.stage_use.Goals as goal
 

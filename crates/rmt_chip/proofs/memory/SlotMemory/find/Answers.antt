@@ -5,7 +5,7 @@ use Rattle.std.proofs.Math.Seq.{drop-append_seam}
 use Rattle.rmt_bits.specs.Bits.{bytes_of, number_of}
 use Rattle.rmt_bits.proofs.ByteLaws.{length-bytes_of, number_of-bytes_of}
 use Rattle.rmt_config.specs.LaneForm.{bits_of_lanes}
-use Rattle.rmt_config.specs.Shapes.{divided_up}
+use Rattle.rmt_config.specs.BlockCounts.{divided_up}
 use Rattle.rmt_config.specs.Cells.{Found, candidates, code_of}
 use Rattle.rmt_config.specs.RunCells.{found_at, is_hit}
 use Rattle.rmt_chip.specs.declared.looked.Looked.{Looked}

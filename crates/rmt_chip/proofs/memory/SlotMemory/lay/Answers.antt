@@ -4,7 +4,7 @@ use Rattle.rmt_config.specs.declared.config.Memory.TheVariants.{Without, Exact, 
 use Rattle.rmt_config.specs.MemoryRules.{ExactFits, TernaryFits}
 use Rattle.rmt_config.specs.LaneForm.{bits_of_lanes}
 use Rattle.rmt_config.specs.Cells.{cells_in, content_of}
-use Rattle.rmt_config.specs.Shapes.{divided_up}
+use Rattle.rmt_config.specs.BlockCounts.{divided_up}
 use Rattle.rmt_chip.specs.declared.memory.keys.Keys.{Keys}
 use Rattle.rmt_chip.specs.Laid.{Laid}
 use Rattle.rmt_chip.specs.Memories.{VectorsHold, keys_fit}

@@ -3,9 +3,9 @@ use Rattle.std.proofs.lemmas.Bool.{and_from, eq-eqb}
 use Rattle.std.proofs.lemmas.Nat.{mod_below}
 use Rattle.rmt_bits.specs.Bits.{bytes_of}
 use Rattle.rmt_chip.specs.Types.{SramRow, CellNumber}
-use Rattle.rmt_config.specs.declared.form.layout.Layout.{Layout}
+use Rattle.rmt_config.specs.declared.form.layout.CellLayout.{CellLayout}
 use Rattle.rmt_config.specs.LaneForm.{bits_of_lanes}
-use Rattle.rmt_config.specs.Shapes.{divided_up}
+use Rattle.rmt_config.specs.BlockCounts.{divided_up}
 use Rattle.rmt_config.specs.Cells.{sram_row, cell_of, data_at, entry_at}
 use Rattle.rmt_chip.specs.Laying.{runs_of, cell_at}
 use Rattle.rmt_chip.specs.Laid.{CellsLaid, NumbersLaid}
@@ -15,14 +15,14 @@ use Rattle.rmt_chip.proofs.memory.lay.lay_exact.Goals as goal
 pub runs_of-requires-clause-cells : goal.runs_of-requires-clause-cells
 runs_of-requires-clause-cells c =
     let e : c.exact_keys-layout.result.ways * c.exact_keys-layout.result.quanta * c.exact_keys-layout.result.way ≡ 4 * c.args.quanta * (1024 * c.args.per) =
-    ap (λ (l : Layout). l.ways * l.quanta * l.way) c.exact_keys-layout.ensures in
+    ap (λ (l : CellLayout). l.ways * l.quanta * l.way) c.exact_keys-layout.ensures in
     let same : 4 * c.args.quanta * (1024 * c.args.per) ≡ 4096 * c.args.quanta * c.args.per = omega arith in
     cells-below c.args.slot.now.numbers c.as_slice-numbers.result.now _ _ c.as_slice-numbers.ensures (e ∙ same) c.requires.numbers.below
 
 pub runs_of-requires-2-clause-cells : goal.runs_of-requires-2-clause-cells
 runs_of-requires-2-clause-cells c =
     let e : c.exact_keys-layout.result.ways * c.exact_keys-layout.result.quanta * c.exact_keys-layout.result.way ≡ 4 * c.args.quanta * (1024 * c.args.per) =
-    ap (λ (l : Layout). l.ways * l.quanta * l.way) c.exact_keys-layout.ensures in
+    ap (λ (l : CellLayout). l.ways * l.quanta * l.way) c.exact_keys-layout.ensures in
     let same : 4 * c.args.quanta * (1024 * c.args.per) ≡ 4096 * c.args.quanta * c.args.per = omega arith in
     cells-below c.args.slot.now.numbers c.as_slice-numbers.result.now _ _ c.as_slice-numbers.ensures (e ∙ same) c.requires.numbers.below
 

@@ -4,7 +4,7 @@ use Rattle.std.proofs.lemmas.Nat.{mod_below}
 use Rattle.rmt_bits.specs.Bits.{bytes_of}
 use Rattle.rmt_chip.specs.Types.{TcamRow, CellNumber}
 use Rattle.rmt_config.specs.LaneForm.{bits_of_lanes}
-use Rattle.rmt_config.specs.Shapes.{divided_up}
+use Rattle.rmt_config.specs.BlockCounts.{divided_up}
 use Rattle.rmt_config.specs.Cells.{Content, content_of, row_record, sram_row}
 use Rattle.rmt_config.specs.declared.config.Memory.TheVariants.{Ternary}
 use Rattle.rmt_bits.specs.Grouping.{Compared}

@@ -1,6 +1,6 @@
 use Rattle.std.proofs.Common.{◌≡◌, take}
 use Rattle.rmt_bits.specs.Bits.{slice}
-use Rattle.rmt_config.specs.Shapes.{divided_up}
+use Rattle.rmt_config.specs.BlockCounts.{divided_up}
 use Rattle.rmt_config.specs.Cells.{sram_row}
 use Rattle.rmt_chip.specs.Laying.{entry_of, runs_of}
 use Rattle.rmt_chip.proofs.memory.listed.runs_of.Given as goal

@@ -13,10 +13,10 @@ use Rattle.rmt_refine.proofs.NamedLaws.{entries_named}
 use Rattle.rmt_update.specs.Running.{fresh}
 use Rattle.rmt_update.specs.Stands.{Stands}
 use Rattle.rmt_core.specs.EventText.{most_additions}
-use Rattle.rmt_core.specs.Waiting.{Written}
+use Rattle.rmt_runs.specs.Waiting.{Written}
 use Rattle.rmt_core.proofs.EditedLaws.{edited_first}
 use Rattle.rmt_core.proofs.ImageSize.{can_be_named}
-use Rattle.rmt_core.proofs.WaitingLaws.{written_none}
+use Rattle.rmt_runs.proofs.WaitingLaws.{written_none}
 use Rattle.rmt_core.proofs.plain_run.begin.begin.Goals as goal
 use Rattle.rmt_core.proofs.plain_run.begin.begin.Goals.{In-Ok-copy}
 

@@ -9,7 +9,7 @@ use Rattle.rmt_chip.specs.Inputs.{packets_of}
 use Rattle.rmt_chip.specs.Stands.{entered_of, version_of}
 use Rattle.rmt_core.specs.ChipEvents.{commit_cycles}
 use Rattle.rmt_core.specs.ChipText.{lines_of}
-use Rattle.rmt_core.specs.RunEnd.{Cut}
+use Rattle.rmt_runs.specs.Cuts.{Cut}
 use Rattle.rmt_core.specs.Running.{Goes}
 use Rattle.rmt_core.proofs.FlyingLaws.{version_is, versions_in}
 use Rattle.rmt_core.proofs.LineLaws.{ok_then}

@@ -13,7 +13,7 @@ use Rattle.rmt_chip.specs.Inputs.{packets_of}
 use Rattle.rmt_chip.specs.Stands.{entered_of, spare_of}
 use Rattle.rmt_chip.specs.Writable.{IsTaken}
 use Rattle.rmt_core.specs.ChipText.{lines_of}
-use Rattle.rmt_core.specs.RunEnd.{Cut}
+use Rattle.rmt_runs.specs.Cuts.{Cut}
 use Rattle.rmt_core.specs.Running.{Goes}
 use Rattle.rmt_core.proofs.TurnLaws.{few_numbered}
 use Rattle.rmt_core.proofs.WaitLaws.{none_in_writes, packets-append, write_more, writes_parted}

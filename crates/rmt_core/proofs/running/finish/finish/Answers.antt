@@ -5,10 +5,10 @@ use Rattle.rmt_config.specs.RunInputs.{Input}
 use Rattle.rmt_chip.specs.Stands.{Stands}
 use Rattle.rmt_core.specs.ChipEvents.{empty_cycles}
 use Rattle.rmt_core.specs.ChipText.{all_cycles}
-use Rattle.rmt_core.specs.RunEnd.{bad_line}
+use Rattle.rmt_core.specs.RunEnd.{bad_line, status_of_end}
 use Rattle.rmt_core.proofs.DrainLaws.{all_written, ended_as, ended_done, ran_whole, text_begins, write_alone}
 use Rattle.rmt_core.proofs.RunLaws.{cut_begins, front_begins}
-use Rattle.rmt_core.proofs.WaitingLaws.{all_on, front_on, some_lines, written_front}
+use Rattle.rmt_runs.proofs.WaitingLaws.{all_on, front_on, some_lines, written_front}
 use Rattle.rmt_core.proofs.running.finish.finish.Goals as goal
 
 pub returns-in-Err-clause-front : goal.returns-in-Err-clause-front
@@ -29,7 +29,7 @@ returns-clause-printed g c = λ e w k events made r before h.
     let all = all_cycles w made (empty_cycles r) (bad_line c.args.bad) in
     let written = all_written w k made (empty_cycles r) (bad_line c.args.bad) c.run_out.new.run c.run_out.new.chip before (g.O.Sink.state c.run_out.new.out)
     c.as_slice.result.now goes (c.as_slice.ensures.value ∙ c.in-Ok-last_text.ensures k all goes.stands goes.clocked goes.flies) in
-    all_on written (g.O.Sink.state c.end.new.out) (c.end.ensures.printed (e ∙ sym c.end_status.ensures))
+    all_on written (g.O.Sink.state c.end_run.new.out) (c.end_run.ensures.printed e)
 
 pub returns-clause-front : goal.returns-clause-front
 returns-clause-front g c = λ w k events made r before h.
@@ -37,7 +37,7 @@ returns-clause-front g c = λ w k events made r before h.
     let all = all_cycles w made (empty_cycles r) (bad_line c.args.bad) in
     let written = all_written w k made (empty_cycles r) (bad_line c.args.bad) c.run_out.new.run c.run_out.new.chip before (g.O.Sink.state c.run_out.new.out)
     c.as_slice.result.now goes (c.as_slice.ensures.value ∙ c.in-Ok-last_text.ensures k all goes.stands goes.clocked goes.flies) in
-    front_on written (g.O.Sink.state c.end.new.out) c.end.ensures.front
+    front_on written (g.O.Sink.state c.end_run.new.out) c.end_run.ensures.front
 
 pub returns-clause-some : goal.returns-clause-some
 returns-clause-some g c = λ e w k events made r before h.
@@ -45,13 +45,13 @@ returns-clause-some g c = λ e w k events made r before h.
     let all = all_cycles w made (empty_cycles r) (bad_line c.args.bad) in
     let written = all_written w k made (empty_cycles r) (bad_line c.args.bad) c.run_out.new.run c.run_out.new.chip before (g.O.Sink.state c.run_out.new.out)
     c.as_slice.result.now goes (c.as_slice.ensures.value ∙ c.in-Ok-last_text.ensures k all goes.stands goes.clocked goes.flies) in
-    some_lines written (c.end.ensures.some e)
+    some_lines written (c.end_run.ensures.some e)
 
 pub returns-clause-clocked : goal.returns-clause-clocked
 returns-clause-clocked g c = λ e w k events made r before h.
     let goes = c.in-Ok.ensures.ok w k events made r before h in
-    let none : bad_line c.args.bad ≡ None = ended_done c.args.bad (sym c.end_status.ensures ∙ ended_as c.end.result c.end_status.result e c.end.ensures.status) in
+    let none : bad_line c.args.bad ≡ None = ended_done c.args.bad (ended_as c.end_run.result (status_of_end c.args.bad) e c.end_run.ensures.status) in
     subst (λ (l : List Input). Stands k l c.run_out.new.chip) (ap (λ b. all_cycles w made (empty_cycles r) b) none ∙ ran_whole w made (empty_cycles r)) goes.stands
 
 pub returns-clause-only_printed : goal.returns-clause-only_printed
-returns-clause-only_printed g c = only_printed_trans c.run_out.ensures.only_printed c.end.ensures.only_printed
+returns-clause-only_printed g c = only_printed_trans c.run_out.ensures.only_printed c.end_run.ensures.only_printed

@@ -5,7 +5,8 @@ use Rattle.std.specs.Prelude.{replicate}
 use Rattle.rmt_config.specs.RunInputs.{Idle, Input}
 use Rattle.rmt_core.specs.ChipEvents.{empty_cycles}
 use Rattle.rmt_core.specs.ChipText.{lines_of}
-use Rattle.rmt_core.specs.RunEnd.{Cut, bad_line}
+use Rattle.rmt_runs.specs.Cuts.{Cut}
+use Rattle.rmt_core.specs.RunEnd.{bad_line}
 use Rattle.rmt_core.specs.Running.{Goes}
 use Rattle.rmt_core.proofs.DrainLaws.{idles_begin, ran_as, waits_all}
 use Rattle.rmt_core.proofs.LineLaws.{ok_then}

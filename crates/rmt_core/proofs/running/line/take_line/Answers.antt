@@ -1,8 +1,8 @@
 -- A line by its kind.
 use Rattle.std.proofs.Common.{◌≡◌, inl, inr, sym, ◌∙◌}
 use Rattle.std.proofs.lemmas.Result.{IfErr-weaker, IfOk-weaker}
-use Rattle.rmt_core.specs.declared.run_end.RunFault.{RunFault}
-use Rattle.rmt_core.specs.declared.run_end.RunFault.TheVariants as fault
+use Rattle.rmt_runs.specs.declared.fault.RunFault.{RunFault}
+use Rattle.rmt_runs.specs.declared.fault.RunFault.TheVariants as fault
 use Rattle.rmt_core.proofs.EventTextLaws.{addition_changes, removal_changes}
 use Rattle.rmt_core.proofs.FollowsLaws.{left_ahead}
 use Rattle.rmt_core.proofs.running.line.take_line.Goals as goal

@@ -4,7 +4,7 @@ use Rattle.rmt_core.specs.Running.{input_for}
 use Rattle.rmt_core.proofs.ChipTextLaws.{lines_begin, starts}
 use Rattle.rmt_core.proofs.RunLaws.{front_begins}
 use Rattle.rmt_core.proofs.TurnLaws.{goes_written}
-use Rattle.rmt_core.proofs.WaitingLaws.{front_on, some_lines, written_front}
+use Rattle.rmt_runs.proofs.WaitingLaws.{front_on, some_lines, written_front}
 use Rattle.rmt_core.proofs.running.turn.turn.Goals as goal
 
 pub returns-in_default-clause-cut : goal.returns-in_default-clause-cut

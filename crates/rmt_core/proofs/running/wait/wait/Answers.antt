@@ -7,7 +7,7 @@ use Rattle.rmt_config.specs.RunInputs.{Idle, Input}
 use Rattle.rmt_chip.specs.Inputs.{packets_of}
 use Rattle.rmt_chip.specs.Stands.{entered_of}
 use Rattle.rmt_core.specs.ChipText.{lines_of}
-use Rattle.rmt_core.specs.RunEnd.{Cut}
+use Rattle.rmt_runs.specs.Cuts.{Cut}
 use Rattle.rmt_core.specs.Running.{Goes}
 use Rattle.rmt_core.proofs.TurnLaws.{few_numbered}
 use Rattle.rmt_core.proofs.WaitLaws.{idle_more, no_packets, packets-append, waits_few, waits_no_more, waits_on}

@@ -2,9 +2,9 @@ use Rattle.std.proofs.Common.{◌≡◌, ℕ, List, ◌+◌, ◌*◌, ◌/◌, �
 use Rattle.rmt_bits.specs.Bits.{bytes_of, number_of, slice}
 use Rattle.rmt_bits.proofs.BitLaws.{slice-lt}
 use Rattle.rmt_bits.proofs.ByteLaws.{length-bytes_of}
-use Rattle.rmt_config.specs.declared.form.layout.Layout.{Layout}
+use Rattle.rmt_config.specs.declared.form.layout.CellLayout.{CellLayout}
 use Rattle.rmt_config.specs.LaneForm.{bits_of_lanes}
-use Rattle.rmt_config.specs.Shapes.{divided_up}
+use Rattle.rmt_config.specs.BlockCounts.{divided_up}
 use Rattle.rmt_config.specs.Cells.{sram_row, cell_of, data_at, entry_at}
 use Rattle.rmt_config.specs.Layouts.{IsInSram, entry_in, exact_keys, local_of, quantum_of}
 use Rattle.rmt_config.proofs.CellLayouts.{exact-entry}
@@ -59,7 +59,7 @@ returns-clause-kept c = λ w cs.
     let value = entry_at sram keys k bits (cell_of (1024 * d) p n) in
     let told : Tells words low (bits + 8) value =
     subst (λ v. Tells words low (bits + 8) v) (sym (exact-entry sram keys k p d bits n fits.some_p fits.some_d))
-    (subst (λ (l : Layout). Tells words low l.entry (entry_in l sram keys (quantum_of l n) (local_of l n))) layout c.in_ok-entry.ensures) in
+    (subst (λ (l : CellLayout). Tells words low l.entry (entry_in l sram keys (quantum_of l n) (local_of l n))) layout c.in_ok-entry.ensures) in
     let head : c.bits_at-head.result ≡ value % 256 =
     c.bits_at-head.ensures ∙ ap (λ (ws : List ℕ). slice (joined 112 ws) low 8) c.as_slice-words.ensures.value ∙ tells-low words low (bits + 8) value (omega arith) told in
     let held = data_at sram c.args.part.now.records.now p slot.held (cell_of (1024 * d) p n) in

@@ -1,8 +1,8 @@
 use Rattle.std.proofs.Common.{◌≡◌, ℕ, List, [], rules, ◌*◌, ◌<◌, length, sym, ap, ◌∙◌, subst, arith}
 use Rattle.std.specs.Prelude.{IfOk}
 use Rattle.rmt_bits.specs.Bits.{bytes_of, slice}
-use Rattle.rmt_config.specs.declared.form.layout.Layout.{Layout}
-use Rattle.rmt_config.specs.Shapes.{divided_up}
+use Rattle.rmt_config.specs.declared.form.layout.CellLayout.{CellLayout}
+use Rattle.rmt_config.specs.BlockCounts.{divided_up}
 use Rattle.rmt_config.specs.Cells.{sram_row, cell_of, data_at}
 use Rattle.rmt_config.specs.Layouts.{IsInSram, entry_in, exact_records, local_of, quantum_of}
 use Rattle.rmt_config.proofs.CellLayouts.{exact-data}
@@ -38,7 +38,7 @@ tells c =
     let records = c.args.records.now in
     let n = c.args.cell in
     subst (λ v. Tells c.in_ok-entry.entry.words.items c.in_ok-entry.entry.low c.args.held v) (sym (exact-data sram records c.args.per c.args.quanta c.args.held n c.requires.per c.requires.quanta))
-    (subst (λ (l : Layout). Tells c.in_ok-entry.entry.words.items c.in_ok-entry.entry.low l.entry (entry_in l sram records (quantum_of l n) (local_of l n))) c.exact_records-layout.ensures c.in_ok-entry.ensures)
+    (subst (λ (l : CellLayout). Tells c.in_ok-entry.entry.words.items c.in_ok-entry.entry.low l.entry (entry_in l sram records (quantum_of l n) (local_of l n))) c.exact_records-layout.ensures c.in_ok-entry.ensures)
 
 pub returns : goal.returns
 returns c =

@@ -2,11 +2,11 @@ use Rattle.std.proofs.Common.{◌≡◌, ℕ, List, ◌+◌, ◌*◌, ◌/◌, �
 use Rattle.std.specs.Prelude.{All}
 use Rattle.rmt_bits.specs.Bits.{bytes_of, slice}
 use Rattle.rmt_bits.proofs.ByteLaws.{length-bytes_of}
-use Rattle.rmt_config.specs.declared.form.layout.Layout.{Layout}
+use Rattle.rmt_config.specs.declared.form.layout.CellLayout.{CellLayout}
 use Rattle.rmt_config.specs.declared.config.SramRow.{SramRow}
 use Rattle.rmt_config.specs.declared.config.TcamRow.{TcamRow}
 use Rattle.rmt_config.specs.LaneForm.{bits_of_lanes}
-use Rattle.rmt_config.specs.Shapes.{divided_up}
+use Rattle.rmt_config.specs.BlockCounts.{divided_up}
 use Rattle.rmt_config.specs.Cells.{blocks_at, row_record, sram_row, tcam_row, unit_row}
 use Rattle.rmt_config.specs.Layouts.{IsInSram, entry_in, local_of, quantum_of, ternary_records}
 use Rattle.rmt_config.specs.MemoryRules.{SramRows}
@@ -79,7 +79,7 @@ returns-clause-kept c = λ cs.
     let value = row_record (sram_row stage.srows) records slot.held n in
     let told : Tells words low (slot.held + 8) value =
     subst (λ v. Tells words low (slot.held + 8) v) (sym (ternary-record (sram_row stage.srows) records d slot.held n c.requires.cell))
-    (subst (λ (l : Layout). Tells words low l.entry (entry_in l (sram_row stage.srows) records (quantum_of l n) (local_of l n))) c.ternary_records-layout.ensures
+    (subst (λ (l : CellLayout). Tells words low l.entry (entry_in l (sram_row stage.srows) records (quantum_of l n) (local_of l n))) c.ternary_records-layout.ensures
     (subst (λ (rs : List SramRow). Tells words low c.ternary_records-layout.result.entry (entry_in c.ternary_records-layout.result (sram_row rs) records (quantum_of c.ternary_records-layout.result n) (local_of c.ternary_records-layout.result n)))
     c.as_slice-rows.ensures c.in_ok-entry.ensures)) in
     let head : c.bits_at-head.result ≡ value % 256 =

@@ -3,7 +3,7 @@ use Rattle.std.specs.Prelude.{All}
 use Rattle.std.proofs.lemmas.List.{length-map}
 use Rattle.rmt_bits.proofs.ByteLaws.{length-bytes_of}
 use Rattle.rmt_config.specs.declared.config.TcamRow.{TcamRow}
-use Rattle.rmt_config.specs.Shapes.{divided_up}
+use Rattle.rmt_config.specs.BlockCounts.{divided_up}
 use Rattle.rmt_config.specs.Cells.{blocks_at, tcam_row}
 use Rattle.rmt_config.proofs.CellLayouts.{up-enough}
 use Rattle.rmt_config.proofs.PrefixRowLaws.{values-within}

@@ -15,7 +15,7 @@ use Rattle.rmt_config.specs.PartStands.{PartStands}
 use Rattle.rmt_config.specs.PrefixRow.{PrefixRows}
 use Rattle.rmt_config.specs.Rooms.{PartAt}
 use Rattle.rmt_config.specs.RunCells.{own_content}
-use Rattle.rmt_config.specs.Shapes.{divided_up}
+use Rattle.rmt_config.specs.BlockCounts.{divided_up}
 use Rattle.rmt_config.specs.UnitForm.{memory_is_formed, slot_head_is_formed}
 use Rattle.rmt_config.proofs.PrefixRowLaws.{mask-read, mask-small, prefix-rows}
 use Rattle.rmt_config.proofs.SlotLaws.{exact-fits, ternary-fits}

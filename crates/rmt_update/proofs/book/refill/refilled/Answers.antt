@@ -7,7 +7,7 @@ use Rattle.rmt_bits.proofs.AllLaws.{All-slice_get}
 use Rattle.rmt_bits.proofs.ListLaws.{AllZip-slice_get, slice_get-seen}
 use Rattle.rmt_ast.specs.EntryLists.{IsEntry}
 use Rattle.rmt_ast.specs.NameRules.{terms_of_name}
-use Rattle.rmt_update.specs.declared.book.shape.Shape.{Shape}
+use Rattle.rmt_update.specs.declared.book.shape.PartShape.{PartShape}
 use Rattle.rmt_update.specs.declared.book.spots.Spot.{Spot}
 use Rattle.rmt_update.specs.declared.book.table.PartCells.{PartCells}
 use Rattle.rmt_update.specs.Refill.{AreRefilled, FitsInto, IsCleared, SamePart}
@@ -85,7 +85,7 @@ put_entry-requires-clause-room c =
     let many = AllZip-long SamePart x.parts.items parts c.loop-at.invariant.same in
     let here = slice_get-seen parts parts s.part y refl (omega (arith, within, many)) c.index_mut.ensures.value in
     let same = AllZip-slice_get SamePart x.parts.items parts s.part f.part y c.loop-at.invariant.same f.there here in
-    λ a at. subst (λ h. sum a.params ≤ h) (sym (ap (λ (z : Shape). z.held) same.shape)) (f.room a at)
+    λ a at. subst (λ h. sum a.params ≤ h) (sym (ap (λ (z : PartShape). z.held) same.shape)) (f.room a at)
 
 pub returns : goal.returns
 returns c =

@@ -3,7 +3,7 @@ use Rattle.std.proofs.lemmas.Result.{IfOk-weaker}
 use Rattle.rmt_bits.specs.Bits.{number_of, slice}
 use Rattle.rmt_config.specs.Cells.{cell_of, data_at, sram_row}
 use Rattle.rmt_config.specs.Layouts.{entry_in, exact_records, local_of, quantum_of}
-use Rattle.rmt_config.specs.declared.form.layout.Layout.{Layout}
+use Rattle.rmt_config.specs.declared.form.layout.CellLayout.{CellLayout}
 use Rattle.rmt_verify.proofs.ContentLaws.{data_is}
 use Rattle.rmt_verify.proofs.cells.content.exact_data.Goals as goal
 use Rattle.rmt_refine.proofs.LayoutLaws.{at_layout}
@@ -12,12 +12,12 @@ pub data_bytes-requires-clause-cell : goal.data_bytes-requires-clause-cell
 data_bytes-requires-clause-cell c =
     let memory = c.args.memory.now in
     let low = c.requires.cell in
-    at_layout (λ (l : Layout). c.args.cell < l.ways * l.quanta * l.way) c.exact_records-layout.result (exact_records memory.per memory.quanta c.args.held) c.exact_records-layout.ensures (omega (arith, low))
+    at_layout (λ (l : CellLayout). c.args.cell < l.ways * l.quanta * l.way) c.exact_records-layout.result (exact_records memory.per memory.quanta c.args.held) c.exact_records-layout.ensures (omega (arith, low))
 
 pub returns-clause-number : goal.returns-clause-number
 returns-clause-number c =
     let memory = c.args.memory.now in
-    let l : Layout = c.exact_records-layout.result in
+    let l : CellLayout = c.exact_records-layout.result in
     let sram = sram_row c.args.rows.now in
     IfOk-weaker c.data_bytes.result (λ bytes. number_of bytes.items ≡ slice (entry_in l sram memory.records.now (quantum_of l c.args.cell) (local_of l c.args.cell)) 0 c.args.held)
     (λ bytes. number_of bytes.items ≡ data_at sram memory.records.now memory.per c.args.held (cell_of (1024 * memory.quanta) memory.per c.args.cell))

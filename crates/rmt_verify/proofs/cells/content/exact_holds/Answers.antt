@@ -5,9 +5,9 @@ use Rattle.rmt_config.specs.Cells.{candidates, cell_of, data_at, entry_at, exact
 use Rattle.rmt_config.specs.LaneForm.{bits_of_lanes}
 use Rattle.rmt_config.specs.Layouts.{exact_keys}
 use Rattle.rmt_config.specs.Rooms.{tests_as_one}
-use Rattle.rmt_config.specs.Shapes.{divided_up}
+use Rattle.rmt_config.specs.BlockCounts.{divided_up}
 use Rattle.rmt_config.specs.declared.config.Memory.TheVariants.{Exact}
-use Rattle.rmt_config.specs.declared.form.layout.Layout.{Layout}
+use Rattle.rmt_config.specs.declared.form.layout.CellLayout.{CellLayout}
 use Rattle.rmt_config.specs.Rooms.{mask_or_value}
 use Rattle.rmt_verify.proofs.ContentLaws.{args_along, code_told, exact_all, exact_head, exact_key, exact_key-lt, key_few, key_room, key_small, stands_told, told_along, way_low}
 use Rattle.rmt_verify.proofs.cells.content.exact_holds.Goals as goal
@@ -17,13 +17,13 @@ pub head_of-requires-clause-cell : goal.head_of-requires-clause-cell
 head_of-requires-clause-cell c =
     let memory = c.args.memory.now in
     let low = c.requires.cell in
-    at_layout (λ (l : Layout). c.args.cell < l.ways * l.quanta * l.way) c.exact_keys-layout.result (exact_keys memory.width memory.per memory.quanta c.key_bits-bits.result) c.exact_keys-layout.ensures (omega (arith, low))
+    at_layout (λ (l : CellLayout). c.args.cell < l.ways * l.quanta * l.way) c.exact_keys-layout.result (exact_keys memory.width memory.per memory.quanta c.key_bits-bits.result) c.exact_keys-layout.ensures (omega (arith, low))
 
 pub entry_bytes-requires-clause-cell : goal.entry_bytes-requires-clause-cell
 entry_bytes-requires-clause-cell c =
     let memory = c.args.memory.now in
     let low = c.requires.cell in
-    at_layout (λ (l : Layout). c.args.cell < l.ways * l.quanta * l.way) c.exact_keys-layout.result (exact_keys memory.width memory.per memory.quanta c.key_bits-bits.result) c.exact_keys-layout.ensures (omega (arith, low))
+    at_layout (λ (l : CellLayout). c.args.cell < l.ways * l.quanta * l.way) c.exact_keys-layout.result (exact_keys memory.width memory.per memory.quanta c.key_bits-bits.result) c.exact_keys-layout.ensures (omega (arith, low))
 
 -- what stands above the head is what is read as the key
 abbrev above : goal.After-as_slice-3 → ℕ

@@ -4,9 +4,9 @@ use Rattle.rmt_config.specs.Cells.{blocks_at, row_record, sram_row, ternary_cont
 use Rattle.rmt_config.specs.LaneForm.{bits_of_lanes}
 use Rattle.rmt_config.specs.Layouts.{IsInSram, entry_in, local_of, quantum_of, ternary_records}
 use Rattle.rmt_config.specs.Rooms.{tests_as_one}
-use Rattle.rmt_config.specs.Shapes.{divided_up}
+use Rattle.rmt_config.specs.BlockCounts.{divided_up}
 use Rattle.rmt_config.specs.declared.config.SramRow.{SramRow}
-use Rattle.rmt_config.specs.declared.form.layout.Layout.{Layout}
+use Rattle.rmt_config.specs.declared.form.layout.CellLayout.{CellLayout}
 use Rattle.rmt_pack.specs.declared.tcam.TcamWord.{TcamWord}
 use Rattle.rmt_verify.proofs.ContentLaws.{args_along, blocks_there, code_told, row_data, row_head, ternary_all, words_along, words_told}
 use Rattle.rmt_verify.proofs.cells.content.ternary_holds.Goals as goal
@@ -16,7 +16,7 @@ pub data_bytes-requires-clause-layout : goal.data_bytes-requires-clause-layout
 data_bytes-requires-clause-layout c =
     let held = c.args.slot.now.held in
     let most = c.requires.fits.most_held in
-    at_layout (λ (l : Layout). IsInSram l) c.ternary_records-layout.result (ternary_records c.args.quanta (held + 8)) c.ternary_records-layout.ensures
+    at_layout (λ (l : CellLayout). IsInSram l) c.ternary_records-layout.result (ternary_records c.args.quanta (held + 8)) c.ternary_records-layout.ensures
     (rows_in c.args.quanta (held + 8) c.requires.fits.some_d c.requires.fits.most_d (omega arith) (omega (arith, most)))
 
 pub piece_at-blocks-requires : goal.piece_at-blocks-requires
@@ -37,7 +37,7 @@ returns c =
     let rs : List ℕ = c.args.records.now in
     let ws : List ℕ = c.args.widths.now in
     let ps : List ℕ = c.args.params.now in
-    let l : Layout = c.ternary_records-layout.result in
+    let l : CellLayout = c.ternary_records-layout.result in
     let stands : ℕ = row_record sram rs slot.held cell in
     let words : List TcamWord = c.in_ok-words.words in
     let blocks : List ℕ = blocks_at ks (divided_up bits 40) (cell / 2048) in

@@ -1,7 +1,7 @@
 use Rattle.std.proofs.Common.{length, refl, sym, ap, subst, arith}
 use Rattle.std.proofs.lemmas.Option.{slice_get_within}
 use Rattle.rmt_bits.proofs.ListLaws.{slice_get-seen}
-use Rattle.rmt_refine.proofs.StageLaws.{first_code_next}
+use Rattle.rmt_config.proofs.InstructionLaws.{first_code_next}
 use Rattle.rmt_verify.specs.StageCode.{UnitCoded}
 use Rattle.rmt_verify.proofs.CodedLaws.{units_more}
 use Rattle.rmt_verify.proofs.RisingLaws.{stage_rises}

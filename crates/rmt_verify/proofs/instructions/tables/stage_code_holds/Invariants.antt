@@ -1,6 +1,6 @@
 use Rattle.std.proofs.Common.{◌≡◌, ℕ, ◌*◌, ◌<◌, ◌≤◌, Some}
 use Rattle.std.specs.Prelude.{slice_get}
-use Rattle.rmt_refine.specs.Cells.{first_code}
+use Rattle.rmt_config.specs.Instructions.{first_code}
 use Rattle.rmt_refine.specs.Types.{Unit}
 use Rattle.rmt_verify.specs.StageCode.{UnitCoded}
 use Rattle.rmt_verify.proofs.instructions.tables.stage_code_holds.Given as goal

@@ -4,7 +4,7 @@ use Rattle.std.specs.List.{list_all}
 use Rattle.std.proofs.lemmas.Bool.{false≢true, le-leb, lt-leb}
 use Rattle.std.proofs.lemmas.Result.{IfOk-weaker}
 use Rattle.rmt_config.specs.LaneForm.{bits_of_lanes}
-use Rattle.rmt_config.specs.Shapes.{divided_up}
+use Rattle.rmt_config.specs.BlockCounts.{divided_up}
 use Rattle.rmt_config.specs.PartsTold.{listed_numbers, parts_at}
 use Rattle.rmt_config.specs.KeyPrints.{kept_of_keys}
 use Rattle.rmt_config.specs.KeysSeen.{keys_listed, news}

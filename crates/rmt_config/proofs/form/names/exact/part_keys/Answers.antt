@@ -3,7 +3,7 @@ use Rattle.std.specs.Prelude.{All, IfOk}
 use Rattle.std.proofs.lemmas.Result.{IfOk-weaker}
 use Rattle.rmt_config.specs.Types.{CellNumber, SramRow}
 use Rattle.rmt_config.specs.LaneForm.{bits_of_lanes}
-use Rattle.rmt_config.specs.Shapes.{divided_up}
+use Rattle.rmt_config.specs.BlockCounts.{divided_up}
 use Rattle.rmt_config.specs.KeyPrints.{KeysAdded}
 use Rattle.rmt_config.specs.KeysSeen.{key_in, stands_there}
 use Rattle.rmt_config.proofs.SpelledTable.{exact-fit, exact-found, exact-keys, exact-within}

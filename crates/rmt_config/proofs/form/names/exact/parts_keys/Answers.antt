@@ -2,7 +2,7 @@ use Rattle.std.proofs.Common.{true, false, sym, subst}
 use Rattle.std.specs.Prelude.{sum}
 use Rattle.std.proofs.lemmas.List.{drop_all}
 use Rattle.rmt_config.specs.LaneForm.{bits_of_lanes}
-use Rattle.rmt_config.specs.Shapes.{divided_up}
+use Rattle.rmt_config.specs.BlockCounts.{divided_up}
 use Rattle.rmt_config.specs.PartsTold.{part_at}
 use Rattle.rmt_config.specs.KeyPrints.{KeysAdded}
 use Rattle.rmt_config.specs.KeysSeen.{key_held, stands_in}

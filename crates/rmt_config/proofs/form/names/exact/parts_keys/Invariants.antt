@@ -1,6 +1,6 @@
 use Rattle.std.proofs.Common.{ℕ, List, Bool, drop}
 use Rattle.std.specs.Prelude.{sum}
-use Rattle.rmt_config.specs.Shapes.{divided_up}
+use Rattle.rmt_config.specs.BlockCounts.{divided_up}
 use Rattle.rmt_config.specs.KeyPrints.{PartKeys}
 use Rattle.rmt_config.specs.PartsTold.{parts_at}
 use Rattle.rmt_config.proofs.form.names.exact.parts_keys.Given as goal

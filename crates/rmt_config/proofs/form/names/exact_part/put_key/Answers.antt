@@ -3,7 +3,7 @@ use Rattle.std.specs.Prelude.{OnOk}
 use Rattle.std.proofs.lemmas.Nat.{div_below, mul-le}
 use Rattle.rmt_bits.specs.Bits.{slice, bytes_of}
 use Rattle.rmt_config.specs.Cells.{blocks_at, sram_row, unit_row}
-use Rattle.rmt_config.specs.Shapes.{divided_up}
+use Rattle.rmt_config.specs.BlockCounts.{divided_up}
 use Rattle.rmt_config.proofs.SpelledCandidates.{key-read}
 use Rattle.rmt_config.proofs.form.names.exact_part.put_key.Goals as goal
 

@@ -4,7 +4,7 @@ use Rattle.rmt_bits.specs.Bits.{bytes_of, number_of}
 use Rattle.rmt_bits.proofs.ByteLaws.{length-bytes_of}
 use Rattle.rmt_config.specs.Cells.{Cell, entry_at, sram_row}
 use Rattle.rmt_config.specs.Types.{CellNumber}
-use Rattle.rmt_config.specs.Shapes.{divided_up}
+use Rattle.rmt_config.specs.BlockCounts.{divided_up}
 use Rattle.rmt_config.specs.KeyPrints.{kept_of}
 use Rattle.rmt_config.specs.KeysSeen.{key_in, stands_there}
 use Rattle.rmt_config.proofs.SpelledCandidates.{cell-stands, place-same}

@@ -1,5 +1,5 @@
 use Rattle.std.proofs.Common.{ℕ, List, Bool, drop}
-use Rattle.rmt_config.specs.Shapes.{divided_up}
+use Rattle.rmt_config.specs.BlockCounts.{divided_up}
 use Rattle.rmt_config.specs.KeyPrints.{KeysAdded}
 use Rattle.rmt_config.specs.KeysSeen.{key_in, stands_there}
 use Rattle.rmt_config.proofs.form.names.exact_part.put_short_keys.Given as goal

@@ -1,7 +1,7 @@
 use Rattle.std.proofs.Common.{◌≡◌, ◌-◌, ◌*◌, ◌/◌, ◌^◌, ◌≤◌, ◌++◌}
 use Rattle.rmt_bits.specs.Bits.{slice, bytes_of}
 use Rattle.rmt_config.specs.Cells.{sram_row, unit_row}
-use Rattle.rmt_config.specs.Shapes.{divided_up}
+use Rattle.rmt_config.specs.BlockCounts.{divided_up}
 use Rattle.rmt_config.proofs.form.names.key_bytes.push_bits.Given as goal
 
 abbrev pub invariant-loop-left : goal.invariant-loop-left

@@ -2,7 +2,7 @@ use Rattle.std.proofs.Common.{◌≡◌, ◌+◌, ◌*◌, ◌/◌, ◌%◌, ◌
 use Rattle.std.specs.Prelude.{OnOk}
 use Rattle.std.proofs.lemmas.Nat.{mod_below}
 use Rattle.rmt_bits.specs.Bits.{slice, bytes_of}
-use Rattle.rmt_config.specs.Shapes.{divided_up}
+use Rattle.rmt_config.specs.BlockCounts.{divided_up}
 use Rattle.rmt_config.specs.Cells.{sram_row, unit_row, blocks_at}
 use Rattle.rmt_config.specs.Layouts.{quantum_of, local_of, unit_of, row_of, position_of, entry_in}
 use Rattle.rmt_config.proofs.CellPlaces.{mod-div_rows, unit_below, blocks_there}

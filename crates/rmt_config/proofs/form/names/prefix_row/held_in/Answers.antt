@@ -4,7 +4,7 @@ use Rattle.rmt_config.specs.Types.{Stage}
 use Rattle.rmt_config.specs.LaneForm.{bits_of_lanes}
 use Rattle.rmt_config.specs.PartsTold.{part_at}
 use Rattle.rmt_config.specs.PrefixRow.{PrefixRows}
-use Rattle.rmt_config.specs.Shapes.{divided_up}
+use Rattle.rmt_config.specs.BlockCounts.{divided_up}
 use Rattle.rmt_config.proofs.PrefixRowLaws.{key-read, key-small, mask-read, mask-small, prefix-rows, short-fits}
 use Rattle.rmt_config.proofs.form.names.prefix_row.held_in.Goals as goal
 
