@@ -122,9 +122,14 @@ seconds, peak, lines = printed("verify", "large.rmt", "large.ent", "large.img", 
 print(f"large: verified in {seconds:.2f} s, {peak:.0f} MiB: {lines[0]}")
 packets("large", 1_000_000, lambda k: f"{k % 512} {wide(k):012x}{wide(k * 7 % 1_000_000):012x}\n")
 
-# One reading of an image, a run over no packet, and runs with a thousand commits of one change each: additions to a table that has
-# room, removals of entries all over one, and both in turn.
+# One reading of an image, runs over no line and over one commit of nothing, for which what changes entries is made, and runs with a
+# thousand commits of one change each behind it: additions to a table that has room, removals of entries all over one, and both in turn.
 write("none.pkt", [])
+write("nothing.pkt", ["commit\n"])
+seconds, peak = run("sim", "large.img", "none.pkt")
+print(f"large: sim of no line in {seconds:.2f} s, {peak:.0f} MiB")
+seconds, peak = run("sim", "large.img", "nothing.pkt")
+print(f"large: sim of a commit of nothing in {seconds:.2f} s, {peak:.0f} MiB")
 write("room.rmt", [large])
 write("room.ent", (f"{table} {wide(i)} go {i % 512}\n" for table in ("first", "second") for i in range(999_000)))
 compiled("room")
@@ -134,9 +139,9 @@ thousand = {
     "removals and additions": ("large", (f"- first {wide(k)}\ncommit\n+ first {wide(k)} go 1\ncommit\n" for k in range(0, 1_000_000, 2000))),
 }
 for what, (name, lines) in thousand.items():
-    write("changes.pkt", lines)
+    write("changes.pkt", ["commit\n", *lines])
     reading, _ = run("report", f"{name}.img")
-    without, _ = run("sim", f"{name}.img", "none.pkt")
+    without, _ = run("sim", f"{name}.img", "nothing.pkt")
     seconds, peak = run("sim", f"{name}.img", "changes.pkt")
     print(f"{name}: 1,000 commits of one change each, {what}, in {seconds - without:.2f} s, {peak:.0f} MiB; the image is read in {reading:.2f} s")
 

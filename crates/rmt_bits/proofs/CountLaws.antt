@@ -1,17 +1,17 @@
 -- Counters, a hit and a number at a time.
 use Rattle.std.proofs.Common.{◌≡◌, ◌≢◌, ℕ, zero, suc, ◌+◌, ◌%◌, ◌^◌, ◌<◌, ◌≤◌, ◌++◌, Bool, true, false, ◌==◌, nat_lt, cond, List, [], ◌∷◌, length, map, take, drop, get_or, Err, ◌⊎◌, inl, inr, ⊎_elim, zero-add, refl, sym, ap, subst, ◌∙◌, tests, arith}
-use Rattle.std.specs.Prelude.{All, count_by, sum_by, slice_set}
+use Rattle.std.specs.Prelude.{All, count_by, sum_by, insert, slice_set}
 use Rattle.std.specs.Ordering.{nat_cmp}
 use Rattle.std.specs.List.Sorted.{IsBinarySearchResult}
 use Rattle.std.proofs.lemmas.Bool.{cases_eq, cases_order, ltb-true}
 use Rattle.std.proofs.lemmas.List.{same_lists, length-map, length-set, map-append, take-append-drop, get_or-map, get_or-set_same, get_or-set_other, get_or_default}
-use Rattle.std.proofs.lemmas.List.Elements.{All-cons, All-head, All-tail}
+use Rattle.std.proofs.lemmas.List.Elements.{All-cons, All-head, All-nil, All-tail}
 use Rattle.std.proofs.lemmas.List.Kept.{AllPairs-cons}
 use Rattle.std.proofs.lemmas.List.Sums.{sum_by-append}
 use Rattle.std.proofs.Math.Nat.{mod-add-mod}
 use Rattle.rmt_bits.specs.declared.answer.Count.{Count}
 use Rattle.rmt_bits.specs.Counts.{Hit, count_for}
-use Rattle.rmt_bits.specs.Counting.{with_packet, with_hit, counted, AreRising, zero_count, with_count}
+use Rattle.rmt_bits.specs.Counting.{BeginsWith, with_packet, with_hit, counted, AreRising, zero_count, with_count}
 use Rattle.rmt_bits.proofs.PairLaws.{AllPairs-head, AllPairs-tail}
 use Rattle.rmt_bits.proofs.SearchLaws.{parted}
 
@@ -32,6 +32,21 @@ pub counted_absent : (cs : List Count) (n b : ℕ) → ((k : ℕ) (d : Count) �
 counted_absent [] n b h = refl
 counted_absent (c ∷ cs) n b h =
     ap (λ (x : Count). x ∷ cs) (sym (hit_other n b c (h 0 c (omega arith)))) ∙ ap (λ (xs : List Count). with_hit n b c ∷ xs) (counted_absent cs n b (λ k d lt. h (suc k) d (omega arith)))
+
+-- counters begin with the same number where one is set that has the number that stood there
+pub begins_set : (cs : List Count) (i n : ℕ) (x d : Count) → i < length cs → x.entry ≡ (get_or cs i d).entry → BeginsWith n cs → BeginsWith n (slice_set cs i x)
+begins_set [] i n x d inside own begins = begins
+begins_set (c ∷ cs) zero n x d inside own begins = All-cons (λ (first : Count). n ≡ first.entry) x [] (All-head (λ (first : Count). n ≡ first.entry) c [] begins ∙ sym own) (All-tail (λ (first : Count). n ≡ first.entry) c [] begins)
+begins_set (c ∷ cs) (suc i) n x d inside own begins = begins
+
+-- and where one is put in behind the first, or is the first and has the number
+pub begins_here : (cs : List Count) (x : Count) → BeginsWith x.entry (insert cs 0 x)
+begins_here cs x = All-cons (λ (first : Count). x.entry ≡ first.entry) x [] refl (All-nil (λ (first : Count). x.entry ≡ first.entry))
+
+pub begins_later : (cs : List Count) (i n : ℕ) (x : Count) → 0 < i → i ≤ length cs → BeginsWith n cs → BeginsWith n (insert cs i x)
+begins_later [] i n x later inside begins = absurd (omega (arith, later, inside))
+begins_later (c ∷ cs) zero n x later inside begins = absurd (omega (arith, later))
+begins_later (c ∷ cs) (suc i) n x later inside begins = begins
 
 -- the counter of the entry alone changes
 pub counted_found : (cs : List Count) (i n b : ℕ) (d : Count) → AreRising cs → i < length cs → (get_or cs i d).entry ≡ n → slice_set cs i (with_packet b (get_or cs i d)) ≡ counted b cs n

@@ -1,7 +1,9 @@
 -- Known values.
 use Rattle.std.specs.Prelude.{◌≡◌, [], ◌∷◌, true, false, codes, map, refl}
+use Rattle.std.proofs.Common.{arith}
+use Rattle.std.proofs.lemmas.List.Elements.{All-cons, All-head, All-nil}
 use Rattle.rmt_bits.specs.Counts.{counts, in_order}
-use Rattle.rmt_bits.specs.Counting.{counted, with_count, hits_among}
+use Rattle.rmt_bits.specs.Counting.{BeginsWith, counted, with_count, hits_among}
 use Rattle.rmt_bits.specs.Bits.{slice, deposit, bits_of_bytes, bytes_of}
 use Rattle.rmt_bits.specs.Digits.{is_digit, is_hex, is_hex_number, number_of_digits}
 use Rattle.rmt_bits.specs.Hash.{fnv}
@@ -68,3 +70,13 @@ between_two = refl
 
 pub hits_before_it : hits_among (9 ∷ 3 ∷ []) (record { number = 4; bytes = 60 } ∷ record { number = 9; bytes = 70 } ∷ []) ≡ record { number = 9; bytes = 70 } ∷ []
 hits_before_it = refl
+
+-- counters begin with the number of the first, and none begin with any
+pub begins_with_three : BeginsWith 3 (counts (9 ∷ 3 ∷ []) [])
+begins_with_three = All-cons (λ first. 3 ≡ first.entry) _ [] refl (All-nil (λ first. 3 ≡ first.entry))
+
+pub begins_with_nine : BeginsWith 9 (counts (9 ∷ 3 ∷ []) []) → ⊥
+begins_with_nine begins = let three : 9 ≡ 3 = All-head (λ first. 9 ≡ first.entry) _ [] begins in omega (arith, three)
+
+pub begins_with_any : BeginsWith 7 []
+begins_with_any = All-nil (λ first. 7 ≡ first.entry)

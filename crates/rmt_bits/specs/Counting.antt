@@ -1,5 +1,5 @@
 -- Counters, a hit and a number at a time, and the runs in which they are kept.
-use Rattle.std.specs.Prelude.{ℕ, ◌+◌, ◌-◌, ◌*◌, ◌%◌, ◌^◌, ◌<◌, ◌≤◌, ◌==◌, nat_lt, if◌then◌else◌, List, [], ◌∷◌, map, length, drop, filter, All, AllPairs}
+use Rattle.std.specs.Prelude.{ℕ, ◌≡◌, ◌+◌, ◌-◌, ◌*◌, ◌%◌, ◌^◌, ◌<◌, ◌≤◌, ◌==◌, nat_lt, if◌then◌else◌, List, [], ◌∷◌, map, length, take, drop, filter, All, AllPairs}
 use Rattle.std.specs.List.{flat_map, list_any, sum_by}
 use Rattle.rmt_bits.specs.declared.answer.Count.{Count}
 use Rattle.rmt_bits.specs.Counts.{Hit}
@@ -19,6 +19,10 @@ counted bytes counts number = map (with_hit number bytes) counts
 -- counters by rising entry
 abbrev pub AreRising : List Count → Type 0
 AreRising counts = AllPairs (λ (a b : Count). a.entry < b.entry) counts
+
+-- the first of these counters, if there is one, is that of this number
+abbrev pub BeginsWith : ℕ → List Count → Type 0
+BeginsWith n counts = All (λ (first : Count). n ≡ first.entry) (take 1 counts)
 
 -- the counter of an entry that no packet hit
 abbrev pub zero_count : ℕ → Count

@@ -52,6 +52,30 @@ pub fn deposit(v: u128, low: u8, len: u8, x: u128) -> u128
     high + moved_up(x, low) + (v & ones(low))
 }
 
+/// The `len` bits of a word from the bit `low` up, where `low + len` is at most 32.
+pub fn word_slice(v: u32, low: u8, len: u8) -> u32
+    requires { low + len ≤ 32 }
+    ensures value { result ≡ slice_of v low len }
+    ensures within { result < 2 ^ len }
+{
+    let mask: u64 = (1 << len) - 1;
+    ((u64::from(v) >> low) & mask) as u32
+}
+
+/// A word with `x` in place of its `len` bits from the bit `low` up, where `low + len` is at most 32 and `x` has no more
+/// than `len` bits.
+pub fn word_deposit(v: u32, low: u8, len: u8, x: u32) -> u32
+    requires within { low + len ≤ 32 }
+    requires small { x < 2 ^ len }
+    ensures { result ≡ deposit_of v low len x }
+{
+    let above = low + len;
+    let below: u64 = (1 << low) - 1;
+    let old = u64::from(v);
+    let high = (old >> above) << above;
+    (high + (u64::from(x) << low) + (old & below)) as u32
+}
+
 /// The bits of one byte that a longer run of bits begins with: `len` bits from the bit `low` up.
 #[derive(Clone, Copy)]
 struct Piece {
@@ -102,6 +126,19 @@ fn byte_at(bytes: &[u8], at: usize) -> u8
     bytes[at]
 }
 
+/// A byte with bits in place of those of a piece. A whole byte is these bits.
+fn byte_with(old: u8, piece: Piece, bits: u128) -> u8
+    requires within { piece.low + piece.len ≤ 8 }
+    requires small { bits < 2 ^ piece.len }
+    ensures { result ≡ deposit_of old piece.low piece.len bits }
+{
+    if piece.len == 8 {
+        bits as u8
+    } else {
+        deposit(u128::from(old), piece.low, piece.len, bits) as u8
+    }
+}
+
 /// Puts `value`, of no more than `len` bits, into these bytes, as the `len` bits from the bit
 /// `from` on; every other bit stays. At most 128 bits, all of them in the bytes.
 pub fn bytes_of_bits(value: u128, len: u8, into: &mut [u8], from: u32)
@@ -116,7 +153,7 @@ pub fn bytes_of_bits(value: u128, len: u8, into: &mut [u8], from: u32)
         let piece = first_piece(from as usize + usize::from(len - left), left);
         let bits = slice(value, left - piece.len, piece.len);
         let old = byte_at(into, piece.byte);
-        into[piece.byte] = deposit(u128::from(old), piece.low, piece.len, bits) as u8;
+        into[piece.byte] = byte_with(old, piece, bits);
         left -= piece.len;
     }
 }

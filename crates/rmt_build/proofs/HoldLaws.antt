@@ -1,12 +1,10 @@
 -- What the cells of a part hold, from what was written.
 use Rattle.std.proofs.Common.{◌≡◌, ℕ, zero, suc, ◌+◌, ◌-◌, ◌*◌, ◌/◌, ◌%◌, ◌^◌, ◌<◌, ◌≤◌, List, [], ◌∷◌, Some, None, length, get_or, map, true, ◌&&◌, refl, sym, ap, ◌∙◌, subst, arith}
-use Rattle.std.specs.Prelude.{All, Option, IsSomeAnd, ◌==◌, slice_get, slice_index, sum}
+use Rattle.std.specs.Prelude.{All, Option, IsSomeAnd, ◌==◌, slice_get, slice_index}
 use Rattle.std.specs.List.{AllZip}
-use Rattle.std.proofs.lemmas.List.Sums.{sum_by-cons}
-use Rattle.std.proofs.lemmas.Nat.{pow-add, pow_pos}
 use Rattle.std.proofs.lemmas.Option.{none-some, same_Some}
 use Rattle.rmt_bits.proofs.AllLaws.{All-slice_get}
-use Rattle.rmt_build.specs.Types.{Program, Test, Table, Kind}
+use Rattle.rmt_build.specs.Types.{Program, Table, Kind}
 use Rattle.rmt_ast.specs.declared.program.Kind.TheVariants as kind
 use Rattle.rmt_ast.specs.declared.entry.Entry.{Entry}
 use Rattle.rmt_ast.specs.EntryLists.{HasRank, IsEntry, IsWhole, params_of, terms_of}
@@ -14,7 +12,6 @@ use Rattle.rmt_ast.specs.State.{width_of}
 use Rattle.rmt_ast.specs.WellFormed.{Fits, bits_of}
 use Rattle.rmt_config.specs.declared.config.Memory.TheVariants.{Exact, Ternary}
 use Rattle.rmt_config.specs.Cells.{code_of, is_seen, row_record, visible_bits}
-use Rattle.rmt_config.specs.Rooms.{tests_as_one}
 use Rattle.rmt_config.specs.Effects.{HasArguments}
 use Rattle.rmt_build.specs.declared.stands.Stand.{Stand}
 use Rattle.rmt_build.specs.Holding.{ExactHolds, ExactSo, Held, HoldsIn, PartHolds, TernaryHolds, TernarySo, content_in, data_for, exact_part, head_for, ternary_part, value_for}

@@ -13,7 +13,7 @@ use Rattle.rmt_chip.specs.Types.{Stage, Unit, SlotUnit}
 use Rattle.rmt_config.specs.declared.config.Unit.TheVariants.{Gate, Slot}
 use Rattle.rmt_config.specs.Cells.{Found}
 use Rattle.rmt_config.specs.Instructions.{first_code, unit_instructions}
-use Rattle.rmt_config.specs.Life.{Look, Words, Acts, Running, Counted, unit_acts, slot_acts, code_at, runs}
+use Rattle.rmt_config.specs.Life.{Look, Words, Acts, Running, Counted, unit_acts, slot_acts, code_at}
 use Rattle.rmt_chip.specs.declared.looked.Looked.{Looked}
 use Rattle.rmt_chip.specs.declared.ran.Ran.{Ran}
 use Rattle.rmt_chip.specs.Looked.{Finds, LookedFor, AllLooked}

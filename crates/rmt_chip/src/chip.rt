@@ -103,6 +103,13 @@ impl Chip {
         Ok(())
     }
 
+    /// Its configuration.
+    pub fn config(&self) -> &Config
+        ensures { (c : Config) (inputs : List Input) → Stands c inputs self.now → result.now ≡ c }
+    {
+        &self.config
+    }
+
     /// How many packets have entered.
     pub fn entered(&self) -> u64
         ensures { result ≡ entered_of self.now }

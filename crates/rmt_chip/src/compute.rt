@@ -6,7 +6,7 @@ ghost use Rattle.rmt_config.specs.Life.{source_of, computed as computed_of, writ
 ghost use Rattle.rmt_chip.specs.Runnable.{source_fits, OperationFits};
 
 use crate::write::Write;
-use rmt_bits::bits::{bits_of_bytes, deposit, slice};
+use rmt_bits::bits::{bits_of_bytes, word_deposit, word_slice};
 use rmt_config::config::{OpKind, Operation, Source};
 use rmt_config::vector::Vector;
 
@@ -35,7 +35,7 @@ fn source(vector: &Vector, held: &[u8], len: u8, from: Source) -> u32
     ensures within { result < 2 ^ len }
 {
     match from {
-        Source::Word { word, low } => slice(u128::from(vector.get(word)), low, len) as u32,
+        Source::Word { word, low } => word_slice(vector.get(word), low, len),
         Source::Held { low } => held_bits(held, low, len),
         Source::Constant { value } => value,
     }
@@ -76,6 +76,6 @@ pub fn written(vector: &Vector, held: &[u8], op: Operation) -> Write
     let old = vector.get(op.word);
     Write {
         word: op.word,
-        value: deposit(u128::from(old), op.low, op.len, u128::from(value)) as u32,
+        value: word_deposit(old, op.low, op.len, value),
     }
 }

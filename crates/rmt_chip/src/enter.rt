@@ -28,7 +28,7 @@ fn begin(place: &mut PacketSlot, config: &Config, port: u16, bytes: &[u8])
 {
     let parsed = parse_chip(&config.parser, bytes, &mut place.vector, &mut place.tails);
     if is_accepted(parsed) {
-        put(&mut place.vector, config.in_port, u128::from(port));
+        put(&mut place.vector, config.in_port, u32::from(port));
     }
     place.parsed = parsed;
 }

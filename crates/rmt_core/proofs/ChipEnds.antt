@@ -45,7 +45,7 @@ pub small_chip : (c : Config) (inputs : List Input) (chip : Chip) → Stands c i
 small_chip c inputs chip s = subst IsWithinLimits s.config_is (no_limit chip.config chip.limits)
 
 commits_first : (c : Config) (commits : Option Commits) → AreCommitsOf c commits → AreCommitsAt c (unread_by c) (at_start c (lists_in c)) commits
-commits_first c None h = h
+commits_first c None h = (refl, refl, refl)
 commits_first c (Some commits) h = h
 
 pub follows_first : (w : Watch) (c : Config) (run : Run) (chip : Chip) (commits : Option Commits) (now : SinkState) → Stands c [] chip → AreCommitsOf c commits → Goes w c [] run chip now now

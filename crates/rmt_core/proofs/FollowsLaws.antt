@@ -67,8 +67,8 @@ not_packet text (inr e) h = cc
 pub has_names : (c : Config) (said : EventReading) (r : RunState) (commits : Commits) → AreCommitsAt c said r (Some commits) → is_some c.names ≡ true
 has_names c said r commits at = ap is_some at.0
 
-pub no_names : (c : Config) (said : EventReading) (r : RunState) → AreCommitsAt c said r None → is_some c.names ≡ false
-no_names c said r at = ap is_some at
+pub no_names : (c : Config) → c.names ≡ None → is_some c.names ≡ false
+no_names c none = ap is_some none
 
 -- ---- a line more
 

@@ -2,6 +2,7 @@ pub mod AbsenceLaws
 pub mod AlikeInputs
 pub mod AnswerLaws
 pub mod AnswersFormed
+pub mod BegunLaws
 pub mod BudgetLaws
 pub mod CallLaws
 pub mod ChipEnds

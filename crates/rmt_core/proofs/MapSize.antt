@@ -1,5 +1,5 @@
 -- The map of what was built, with its joins, fits the places that a map has for its numbers, and is spelled with few bytes.
-use Rattle.std.proofs.Common.{◌≡◌, ℕ, ◌+◌, ◌*◌, ◌^◌, ◌<◌, ◌≤◌, List, ◌++◌, None, Ok, length, get_or, map, length-append, sym, ap, subst, ◌∙◌, arith}
+use Rattle.std.proofs.Common.{◌≡◌, ℕ, ◌+◌, ◌*◌, ◌^◌, ◌<◌, ◌≤◌, List, ◌++◌, None, length, get_or, length-append, sym, ap, subst, arith}
 use Rattle.std.specs.Prelude.{All, codes, true}
 use Rattle.std.proofs.lemmas.Bool.{ltb-true}
 use Rattle.std.proofs.lemmas.List.{length-map}
@@ -19,7 +19,6 @@ use Rattle.rmt_config.proofs.LimitLaws.{limits_kept}
 use Rattle.rmt_entries.proofs.LawLists.{entries_law}
 use Rattle.rmt_ptcam.specs.Joins.{joins}
 use Rattle.rmt_ptcam.specs.Needs.{refusal}
-use Rattle.rmt_ptcam.specs.Plain.{plain}
 use Rattle.rmt_ptcam.proofs.JoinsCount.{joins_few}
 use Rattle.rmt_ptcam.proofs.PlainForm.{plain_keeps}
 use Rattle.rmt_refine.specs.declared.map.CellOf.{CellOf}

@@ -1,5 +1,5 @@
 -- What calls leave that first read a program text and an entry text.
-use Rattle.std.proofs.Common.{◌≡◌, ◌⊎◌, ⊎_elim, inl, inr, ℕ, List, refl, ◌∙◌}
+use Rattle.std.proofs.Common.{◌≡◌, ◌⊎◌, ⊎_elim, inl, inr, ℕ, List, ◌∙◌}
 use Rattle.std.specs.Prelude.{IsTrue}
 use Rattle.rmt_io.specs.Outside.{ShelfState, SinkState, OnlyRead, ReadingFailed}
 use Rattle.rmt_io.proofs.OutsideLaws.{only_printed_refl, only_read_trans, reading_failed_later, tells_later, writing_failed_later}

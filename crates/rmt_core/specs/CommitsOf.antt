@@ -9,8 +9,8 @@ use Rattle.rmt_core.specs.declared.running.commits.Commits.{Commits}
 use Rattle.rmt_core.specs.ChipReading.{lists_in, names_in}
 use Rattle.rmt_core.specs.EventText.{most_additions}
 
--- of a configuration with names its entries and its cells, and of one without them nothing
+-- the entries and the cells of a configuration, which has names; or nothing is made yet
 abbrev pub AreCommitsOf : Config → Option Commits → Type 0
-AreCommitsOf c None = c.names ≡ None
+AreCommitsOf c None = Unit {0}
 AreCommitsOf c (Some commits) =
     (c.names ≡ Some (names_in c)) × BookStands c (own_cells c) (lists_in c) commits.book × Stands (fresh (names_in c) (lists_in c) most_additions) commits.lists

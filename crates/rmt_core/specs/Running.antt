@@ -9,7 +9,7 @@ use Rattle.rmt_config.specs.declared.cell_write.CellWrite.{CellWrite}
 use Rattle.rmt_config.specs.Commits.{AreWrites, Makes, RunState, behind_commit}
 use Rattle.rmt_config.specs.Form.{Formed}
 use Rattle.rmt_config.specs.Limits.{IsWithinLimits}
-use Rattle.rmt_config.specs.RunCells.{RunCells}
+use Rattle.rmt_config.specs.RunCells.{RunCells, own_cells}
 use Rattle.rmt_config.specs.RunInputs.{Idle, Input, Turns, Writes, flight_in}
 use Rattle.rmt_chip.specs.declared.chip.Chip.{Chip}
 use Rattle.rmt_chip.specs.Inputs.{MayEnter, input_from}
@@ -21,6 +21,7 @@ use Rattle.rmt_packets.specs.LineKinds.{kind_of}
 use Rattle.rmt_packets.specs.PacketText.{BadLine}
 use Rattle.rmt_refine.specs.EventRuns.{outcomes_in}
 use Rattle.rmt_update.specs.BookStands.{BookStands}
+use Rattle.rmt_update.specs.Running.{fresh}
 use Rattle.rmt_update.specs.Stands.{Stands as ListsStand}
 use Rattle.rmt_update.specs.declared.book.plan.Plan.{Plan}
 use Rattle.rmt_update.specs.declared.fault.UpdateFault.{UpdateFault}
@@ -37,7 +38,7 @@ use Rattle.rmt_core.specs.ChipEvents.{Comes, IsRefused, commit_cycles}
 use Rattle.rmt_core.specs.ChipReading.{by_chip, lists_in, names_in, read_by, with_chip_line}
 use Rattle.rmt_core.specs.ChipRuns.{EndsFull, RunsChip}
 use Rattle.rmt_core.specs.ChipText.{lines_of}
-use Rattle.rmt_core.specs.EventText.{EventReading, with_bad, with_commit}
+use Rattle.rmt_core.specs.EventText.{EventReading, most_additions, with_bad, with_commit}
 use Rattle.rmt_core.specs.Files.{Files, packets_limit}
 use Rattle.rmt_core.specs.Given.{Given, Opens}
 use Rattle.rmt_runs.specs.Printing.{GainedFront}
@@ -96,10 +97,15 @@ pub record IsFew (lines : ℕ) (run : Run) (chip : Chip) : Type 0 where
   pub versions : version_of chip ≤ lines
   pub cycles : run.cycles ≤ lines * 8589934592
 
--- what changes entries stands for the cells and the entries of a run, and for what the lines since its last commit change; of a configuration
--- without names there is nothing
+-- a run whose lines changed no entry and made no commit yet
+abbrev pub IsUnchanged : Config → EventReading → RunState → Type 0
+IsUnchanged c said r =
+    (r.cells ≡ own_cells c) × (r.entries.lists ≡ lists_in c) × (said.run ≡ fresh (names_in c) (lists_in c) most_additions)
+
+-- what changes entries stands for the cells and the entries of a run, and for what the lines since its last commit change; nothing is made
+-- while a run is unchanged
 abbrev pub AreCommitsAt : Config → EventReading → RunState → Option Commits → Type 0
-AreCommitsAt c said r None = c.names ≡ None
+AreCommitsAt c said r None = IsUnchanged c said r
 AreCommitsAt c said r (Some commits) =
     (c.names ≡ Some (names_in c)) × BookStands c r.cells r.entries.lists commits.book × ListsStand said.run commits.lists
 

@@ -9,6 +9,7 @@ ghost use Rattle.rmt_core.specs.ChipRuns.{RanWhole, RunsChip};
 ghost use Rattle.rmt_core.specs.CommitsOf.{AreCommitsOf};
 ghost use Rattle.rmt_core.specs.Ends.{Answered, outside};
 
+mod begin;
 mod changing;
 mod commit;
 pub mod commits;
@@ -34,8 +35,9 @@ use std::alloc::Global;
 
 /// Reads the packet text from the place in the shelf's open file on, of which `limit` bytes may be read, clocks the chip,
 /// changes its entries, and prints the answers, the counters, the cycles and the flight, or the last line of a bad line.
-/// The text is empty where no file is open. `commits` has the entries and the cells of the chip's configuration where it
-/// has names.
+/// The text is empty where no file is open. `commits` may have the entries and the cells of the chip's configuration; where
+/// it has none, they are made at the first line that changes entries or commits, if there are names, so that a run of
+/// packets alone takes no time and no memory for them.
 ///
 /// The answers are `Done`, `ReadFault`, `TooLong`, `BadPackets`, `WriteFault` and `NoMemory`.
 pub fn run_chip<F: Shelf, O: Sink>(

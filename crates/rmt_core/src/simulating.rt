@@ -7,7 +7,6 @@ ghost use Rattle.rmt_core.specs.Simulating.{GivesRun};
 
 use crate::bad_image::tell_bad_image;
 use crate::loading::{IMAGE_LIMIT, PACKETS_LIMIT, open_file, read_file};
-use crate::running::commits::commits_of;
 use crate::running::{run_chip, run_watched};
 use crate::status::Status;
 use crate::watch::Watch;
@@ -43,13 +42,11 @@ pub fn simulate<F: Shelf, O: Sink>(
         Ok(config) => config,
         Err(fault) => return tell_bad_image(alloc, fault, out),
     };
-    let Ok(mut commits) = commits_of(alloc, &config) else {
-        return Status::NoMemory;
-    };
     let Ok(mut chip) = Chip::open(alloc, config) else {
         return Status::NoMemory;
     };
     let limit = PACKETS_LIMIT;
+    let mut commits = None;
     match watch {
         Watch::Answers => run_chip(alloc, shelf, limit, &mut chip, &mut commits, out),
         Watch::Vectors { .. } => {

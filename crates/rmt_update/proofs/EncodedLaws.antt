@@ -1,5 +1,5 @@
 -- The value and the mask of a test fit its width.
-use Rattle.std.proofs.Common.{ℕ, ◌^◌, ◌<◌, Bool, true, false, List, length, get_or}
+use Rattle.std.proofs.Common.{ℕ, ◌^◌, ◌<◌, Bool, List, length, get_or}
 use Rattle.std.specs.List.{AllZip}
 use Rattle.rmt_ast.specs.declared.program.Test.{Test}
 use Rattle.rmt_ast.specs.WellFormed.{IsTest}

@@ -1,5 +1,5 @@
--- A book from which its index is taken.
-use Rattle.std.proofs.Common.{◌≡◌, List, None, sym, subst}
+-- A book from which its index is taken, or that gets one.
+use Rattle.std.proofs.Common.{◌≡◌, List, None, Some, sym, subst}
 use Rattle.rmt_ast.specs.declared.entry.Entry.{Entry}
 use Rattle.rmt_config.specs.declared.config.Config.{Config}
 use Rattle.rmt_config.specs.RunCells.{RunCells}
@@ -19,6 +19,19 @@ without-index c cells lists b h = record {
   readable = h.readable;
   lists = h.lists;
   index = tt;
+}
+
+pub with-index : (c : Config) (cells : RunCells) (lists : List (List Entry)) (b : Book) (ix : BookIndex) → BookStands c cells lists b → IsBookIndex b.odd b.tables.items ix → BookStands c cells lists (record b { index = Some ix })
+with-index c cells lists b ix h is = record {
+  formed = h.formed;
+  names = h.names;
+  version = h.version;
+  seed = h.seed;
+  tables = h.tables;
+  numbers = h.numbers;
+  readable = h.readable;
+  lists = h.lists;
+  index = is;
 }
 
 module _ (b taken : Book) (is : taken ≡ record b { index = None }) where

@@ -99,7 +99,7 @@ pub struct Book {
     nodes: u32,
     /// The tables with a key, by rising node.
     tables: Vec<TableCells>,
-    /// Where their cells are found, once a commit needed it; None behind a commit that moves cells, or one that failed.
+    /// Where their cells are found; None behind a commit that moves cells, or one that failed.
     index: Option<BookIndex>,
 }
 
@@ -118,13 +118,15 @@ impl Book {
     {
         let names = names_of(config).copy(alloc)?;
         let tables = tables_of(alloc, config, names)?;
-        Ok(Book {
+        let mut book = Book {
             odd: false,
             seed: config.seed,
             nodes: node_count(config),
             tables,
             index: None,
-        })
+        };
+        book.keep_index(alloc)?;
+        Ok(book)
     }
 
     /// The entries that its version sees, a list by rising number for each node.

@@ -1,5 +1,5 @@
 -- What the seven parts say together.
-use Rattle.std.proofs.Common.{◌≡◌, ℕ, ◌<◌, List, sym, ap, subst, ◌∙◌}
+use Rattle.std.proofs.Common.{◌≡◌, ℕ, List, sym, ap, subst, ◌∙◌}
 use Rattle.std.specs.Prelude.{All, IfSome, length}
 use Rattle.std.proofs.lemmas.List.{length-map}
 use Rattle.rmt_bits.specs.declared.lane.Lane.{Lane}

@@ -7,11 +7,11 @@ use Rattle.std.proofs.lemmas.Simd.{map-map}
 use Rattle.std.proofs.lemmas.List.Elements.{All-head, All-map, All-tail}
 use Rattle.std.proofs.lemmas.Nat.{div-mul-add, div_below, mod-mul-add, mul-le}
 use Rattle.std.proofs.Math.Nat.{mod-eq_of_lt}
-use Rattle.std.proofs.Math.Pow.{pow-add, pow_mono}
+use Rattle.std.proofs.Math.Pow.{pow-add}
 use Rattle.rmt_bits.specs.Bits.{bytes_of, number_of, slice}
 use Rattle.rmt_bits.specs.Hash.{hash_row}
 use Rattle.rmt_bits.proofs.BitLaws.{slice-lt, slice-whole}
-use Rattle.rmt_bits.proofs.ByteLaws.{length-bytes_of, number_of-append, number_of-bytes_of, number_of-zeros}
+use Rattle.rmt_bits.proofs.ByteLaws.{length-bytes_of, number_of-append, number_of-zeros}
 use Rattle.rmt_bits.proofs.FindLaws.{found-lt}
 use Rattle.rmt_bits.proofs.MemberLaws.{Contains-from_any, list_any-Contains}
 use Rattle.rmt_ast.specs.declared.entry.Entry.{Entry}
@@ -20,10 +20,10 @@ use Rattle.rmt_config.specs.declared.config.Memory.TheVariants.{Exact}
 use Rattle.rmt_config.specs.declared.config.TcamRow.{TcamRow}
 use Rattle.rmt_config.specs.Cells.{Blocks, Content, blocks_at, candidates, cell_of, code_of, data_at, entry_at, row_record, tcam_row, unit_row}
 use Rattle.rmt_config.specs.Effects.{HasArguments}
-use Rattle.rmt_config.specs.Layouts.{IsInSram, entry_in, exact_keys, exact_records, local_of, position_of, quantum_of, row_of, ternary_records, unit_of}
+use Rattle.rmt_config.specs.Layouts.{entry_in, exact_keys, exact_records, local_of, position_of, quantum_of, row_of, ternary_records, unit_of}
 use Rattle.rmt_config.specs.Rooms.{tests_as_one}
 use Rattle.rmt_config.specs.BlockCounts.{divided_up}
-use Rattle.rmt_config.proofs.CellLayouts.{exact-data, exact-entry, exact_keys-is, exact_records-is, ternary-record, ternary_records-is, up-enough, up-most}
+use Rattle.rmt_config.proofs.CellLayouts.{exact-data, exact-entry, ternary-record, up-enough, up-most}
 use Rattle.rmt_config.proofs.SpelledCandidates.{candidate-row}
 use Rattle.rmt_pack.specs.declared.tcam.TcamWord.{TcamWord}
 use Rattle.rmt_pack.specs.Tcam.{FillsRow, IsWords, joined_words}

@@ -1,28 +1,23 @@
 -- What is known of tables and of their parts, from the parts of a map that were looked at before.
-use Rattle.std.proofs.Common.{◌≡◌, ℕ, zero, suc, ◌+◌, ◌-◌, ◌*◌, ◌^◌, ◌<◌, ◌≤◌, List, [], ◌∷◌, ◌++◌, take, Option, Some, None, length, map, get_or, All, refl, sym, ap, ◌∙◌, subst, arith}
+use Rattle.std.proofs.Common.{◌≡◌, ℕ, ◌+◌, ◌-◌, ◌<◌, ◌≤◌, List, [], ◌∷◌, ◌++◌, take, Option, Some, length, map, get_or, All, sym, ap, ◌∙◌, subst, arith}
 use Rattle.std.specs.Prelude.{option_map, unwrap_or, slice_get, sum}
-use Rattle.std.specs.List.{AllZip}
 use Rattle.std.proofs.lemmas.Bool.{and_parts, ltb-true}
 use Rattle.std.proofs.lemmas.List.{map-append, take_more}
-use Rattle.std.proofs.lemmas.List.Elements.{All-map, All-nil}
-use Rattle.std.proofs.lemmas.List.Sums.{sum_by-cons}
-use Rattle.std.proofs.lemmas.Nat.{pow-add, pow_pos}
+use Rattle.std.proofs.lemmas.List.Elements.{All-map}
 use Rattle.std.proofs.lemmas.Option.{slice_get-get_or, slice_get_within}
 use Rattle.rmt_bits.specs.declared.lane.Lane.{Lane}
-use Rattle.rmt_bits.proofs.AllLaws.{All-slice_get}
 use Rattle.rmt_ast.specs.declared.entry.Entry.{Entry}
 use Rattle.rmt_ast.specs.declared.program.Kind.TheVariants as kind
 use Rattle.rmt_ast.specs.declared.program.What.TheVariants as what
-use Rattle.rmt_ast.specs.EntryLists.{AreEntries, IsWhole}
+use Rattle.rmt_ast.specs.EntryLists.{AreEntries}
 use Rattle.rmt_ast.specs.State.{width_of}
 use Rattle.rmt_ast.specs.WellFormed.{HasKey, IsProgram, bits_of}
 use Rattle.rmt_ast.proofs.WellFormedLemmas.{narrow_field}
 use Rattle.rmt_config.specs.declared.config.Unit.TheVariants.{Slot}
 use Rattle.rmt_config.specs.Form.{Formed}
 use Rattle.rmt_config.specs.LaneForm.{bits_of_lanes}
-use Rattle.rmt_config.specs.MemoryRules.{MemoryIsFormed}
 use Rattle.rmt_config.specs.PartStands.{PartStands}
-use Rattle.rmt_config.specs.Rooms.{PartAt, parts_of, tests_as_one}
+use Rattle.rmt_config.specs.Rooms.{PartAt, parts_of}
 use Rattle.rmt_config.specs.UnitForm.{memory_is_formed, slot_head_is_formed}
 use Rattle.rmt_config.proofs.SpelledParts.{parts-stand}
 use Rattle.rmt_config.proofs.SpelledWays.{PartFollows, parts-follow, ways-low}
@@ -30,7 +25,7 @@ use Rattle.rmt_pack.specs.declared.placement.Part.{Part}
 use Rattle.rmt_pack.specs.Placements.{quanta_in}
 use Rattle.rmt_phv.specs.Places.{KeepsApart}
 use Rattle.rmt_ptcam.proofs.PlainLaws.{lanes_bits}
-use Rattle.rmt_refine.specs.Types.{Config, Field, Kind, Node, Program, SlotUnit, Table, Test, What}
+use Rattle.rmt_refine.specs.Types.{Config, Field, Kind, Node, Program, SlotUnit, Table, What}
 use Rattle.rmt_refine.specs.Units.{DoesAs, TableCarried, UnitsCarried, applied, table_at}
 use Rattle.rmt_refine.proofs.PartLaws.{and_at, then_some, unit_of_part}
 use Rattle.rmt_refine.proofs.RoomLaws.{PartIs, stages_there}

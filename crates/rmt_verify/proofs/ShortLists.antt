@@ -3,11 +3,10 @@ use Rattle.std.proofs.Common.{◌≡◌, ◌≢◌, ◌⊎◌, ℕ, suc, ◌≤�
 use Rattle.std.specs.Prelude.{AllPairs}
 use Rattle.std.specs.List.{list_any}
 use Rattle.std.proofs.lemmas.Bool.{both_ways, eq-eqb, eqb-true}
-use Rattle.std.proofs.lemmas.List.Elements.{All-cons, All-head, All-tail, Contains-get_or}
+use Rattle.std.proofs.lemmas.List.Elements.{All-cons, Contains-get_or}
 use Rattle.std.proofs.lemmas.List.Kept.{AllPairs-cons}
 use Rattle.rmt_bits.proofs.ListLaws.{filter-short}
-use Rattle.rmt_bits.proofs.MemberLaws.{Contains-filter, Contains-from_any, Contains-split, list_any-Contains}
-use Rattle.rmt_bits.proofs.PairLaws.{AllPairs-head, AllPairs-tail}
+use Rattle.rmt_bits.proofs.MemberLaws.{Contains-from_any, Contains-split, list_any-Contains}
 use Rattle.rmt_refine.proofs.ShortLaws.{at_most}
 
 abbrev differs : ℕ → ℕ → Bool

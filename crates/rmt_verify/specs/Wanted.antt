@@ -1,8 +1,7 @@
 -- An entry that is looked for in a cell.
-use Rattle.std.specs.Prelude.{◌≡◌, ◌≤◌, ℕ, List, Bool, All, if◌then◌else◌, sum}
+use Rattle.std.specs.Prelude.{◌≡◌, ◌≤◌, ℕ, List, All, sum}
 use Rattle.std.specs.List.{AllZip}
 use Rattle.rmt_ast.specs.declared.entry.Entry.{Entry}
-use Rattle.rmt_ast.specs.declared.program.Test.{Test}
 use Rattle.rmt_ast.specs.WellFormed.{Fits, IsTest}
 use Rattle.rmt_config.specs.Cells.{Content, code_of, tcam_row}
 use Rattle.rmt_config.specs.Effects.{HasArguments}

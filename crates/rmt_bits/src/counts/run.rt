@@ -1,7 +1,7 @@
 //! A run of counters.
 
-ghost use Rattle.std.specs.Prelude.{◌≡◌, ◌+◌, ◌<◌, ◌≤◌, ◌++◌, [], length, insert, slice_index_or, vec_len, vec_capacity, IfOk};
-ghost use Rattle.rmt_bits.specs.Counting.{with_packet, counted, AreRising, zero_count, with_count};
+ghost use Rattle.std.specs.Prelude.{◌≡◌, ◌+◌, ◌<◌, ◌≤◌, ◌++◌, ℕ, [], length, insert, slice_index_or, vec_len, vec_capacity, IfOk};
+ghost use Rattle.rmt_bits.specs.Counting.{BeginsWith, with_packet, counted, AreRising, zero_count, with_count};
 
 use crate::answer::Count;
 use std::alloc::{AllocError, Global};
@@ -13,18 +13,21 @@ pub const LENGTH: usize = 256;
 /// Some counters by rising number, with memory for 256. Contracts see them as a list.
 #[derive(Drop)]
 pub struct Run {
+    /// The least number, where there is one; kept here too, so that a search over runs reads no counter.
+    first: u32,
     counts: Vec<Count>,
 }
 
 impl Model for Run {
     ghost use Rattle.std.specs.Prelude.{List, ◌≤◌, vec_capacity};
     ghost use Rattle.rmt_bits.specs.declared.answer.Count.{Count};
+    ghost use Rattle.rmt_bits.specs.Counting.{BeginsWith};
 
     ghost Value = { List Count };
 
     ghost view = { λ r. r.counts.items };
 
-    ghost invariant = { λ r. 256 ≤ vec_capacity r.counts };
+    ghost invariant = { λ r. (256 ≤ vec_capacity r.counts) × BeginsWith r.first r.counts.items };
 }
 
 impl Run {
@@ -35,7 +38,7 @@ impl Run {
         ensures { IfOk result (λ run. run ≡ []) }
     {
         let counts = Vec::with_capacity(alloc, LENGTH)?;
-        Ok(Run { counts })
+        Ok(Run { first: 0, counts })
     }
 
     /// Its counters.
@@ -57,14 +60,14 @@ impl Run {
         requires { 0 < length self.now }
         ensures { (d : CountOf) → result ≡ (slice_index_or self.now 0 d).entry }
     {
-        self.counts[0].entry
+        self.first
     }
 
     /// Counts a hit of the entry of a number, where it has a counter.
     pub fn hit(&mut self, number: u32, bytes: u64)
         ensures { AreRising self.old → self.new ≡ counted bytes self.old number }
     {
-        count_hit(&mut self.counts, number, bytes);
+        count_hit(&mut self.counts, self.first, number, bytes);
     }
 
     /// Adds a counter for a number that has none, for which there is memory.
@@ -77,6 +80,9 @@ impl Run {
             .binary_search_by_key(&number, |count| count.entry);
         if let Err(place) = found {
             insert_count(&mut self.counts, place, number);
+            if place == 0 {
+                self.first = number;
+            }
         }
     }
 
@@ -89,6 +95,7 @@ impl Run {
     {
         upper.counts.truncate(0);
         fill_from(&mut upper.counts, &self.counts[128..]);
+        upper.first = upper.counts[0].entry;
         self.counts.truncate(128);
     }
 }
@@ -104,10 +111,17 @@ fn count_packet(count: Count, bytes: u64) -> Count
     }
 }
 
-/// Counts a hit of the entry of a number, where it has a counter.
-fn count_hit(counts: &mut [Count], number: u32, bytes: u64)
-    ensures { AreRising counts.old → counts.new ≡ counted bytes counts.old number }
+/// Counts a hit of the entry of a number, where it has a counter. Where the numbers go on from the first without a gap, as
+/// they mostly do, the counter stands as far behind the first as its number is above it; else it is searched for.
+fn count_hit(counts: &mut [Count], first: u32, number: u32, bytes: u64)
+    ensures counts { AreRising counts.old → counts.new ≡ counted bytes counts.old number }
+    ensures begins { (n : ℕ) → BeginsWith n counts.old → BeginsWith n counts.new }
 {
+    let near = number.saturating_sub(first) as usize;
+    if near < counts.len() && counts[near].entry == number {
+        counts[near] = count_packet(counts[near], bytes);
+        return;
+    }
     if let Ok(place) = counts.binary_search_by_key(&number, |count| count.entry) {
         counts[place] = count_packet(counts[place], bytes);
     }

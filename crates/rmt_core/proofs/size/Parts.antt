@@ -1,7 +1,6 @@
 -- The nodes of a program have few parts, one for a node and a stage, each of few quanta.
 use Rattle.std.proofs.Common.{◌≡◌, ℕ, ◌+◌, ◌*◌, ◌/◌, ◌==◌, ◌<◌, ◌≤◌, cond, eqb, false, List, length, get_or, map, refl, ap, subst, arith}
-use Rattle.std.specs.Prelude.{All, AllPairs, IfSome, Ok, slice_get}
-use Rattle.std.specs.List.{sum_by}
+use Rattle.std.specs.Prelude.{All, AllPairs, IfSome, Ok}
 use Rattle.std.proofs.lemmas.Bool.{eq-eqb, ne_eqb}
 use Rattle.std.proofs.lemmas.List.{length-map}
 use Rattle.std.proofs.lemmas.List.Elements.{All-map}

@@ -1,6 +1,6 @@
 //! What changes entries in a run.
 
-ghost use Rattle.std.specs.Prelude.{IfOk};
+ghost use Rattle.std.specs.Prelude.{◌≡◌, IfOk, None};
 ghost use Rattle.rmt_config.specs.Form.{Formed};
 ghost use Rattle.rmt_core.specs.CommitsOf.{AreCommitsOf};
 
@@ -19,10 +19,11 @@ pub struct Commits {
     pub book: Book,
 }
 
-/// The entries and the cells of a configuration before the first line; None where it has no names.
+/// The entries and the cells of a configuration before a line changed any; None where it has no names.
 pub fn commits_of(alloc: Global, config: &Config) -> Result<Option<Commits>, AllocError>
     requires { Formed config.now }
-    ensures { IfOk result (λ commits. AreCommitsOf config.now commits) }
+    ensures commits { IfOk result (λ commits. AreCommitsOf config.now commits) }
+    ensures unnamed { IfOk result (λ commits. commits ≡ None → config.now.names ≡ None) }
 {
     let Some(names) = &config.names else {
         return Ok(None);

@@ -1,7 +1,6 @@
 //! The lines of a packet text, one after another, in a run of the chip.
 
 ghost use Rattle.std.specs.Prelude.{◌≡◌, ◌<◌, ◌⊎◌, ◌^◌, ◌+◌, ℕ, List, Option, IsErrOf, IfErr, IfOk, IsTrue, OnOk};
-ghost use Rattle.rmt_chip.specs.declared.chip.Chip.{Chip};
 ghost use Rattle.rmt_config.specs.declared.config.Config.{Config};
 ghost use Rattle.rmt_io.specs.Outside.{SinkState, PrintingFailed, OnlyPrinted};
 ghost use Rattle.rmt_packets.specs.declared.line_kind.LineKind.TheVariants as kind;
@@ -12,6 +11,7 @@ ghost use Rattle.rmt_core.specs.declared.watch.Watch.{Watch};
 ghost use Rattle.rmt_core.specs.EventText.{EventReading};
 ghost use Rattle.rmt_core.specs.Running.{Follows, IsFew, Leaves, LeftOff};
 
+use crate::running::begin::begin;
 use crate::running::commit::commit;
 use crate::running::commits::Commits;
 use crate::running::state::Run;
@@ -58,8 +58,8 @@ pub fn take_line<O: Sink>(
     ensures only_printed { OnlyPrinted (O.state out.old) (O.state out.new) }
 {
     match kind_of(line) {
-        LineKind::Addition => take_change(alloc, commits, line),
-        LineKind::Removal => take_change(alloc, commits, line),
+        LineKind::Addition => take_change(alloc, chip, commits, line),
+        LineKind::Removal => take_change(alloc, chip, commits, line),
         LineKind::Commit => take_commit(alloc, chip, commits, run, out),
         LineKind::Packet => take_packet(chip, run, line, frame, out),
     }
@@ -114,21 +114,25 @@ fn take_packet<O: Sink>(
 /// Makes a change, or answers the code of its line.
 fn take_change(
     alloc: Global,
+    chip: &Chip,
     commits: &mut Option<Commits>,
     line: &[u8],
 ) -> Result<Option<u8>, RunFault>
     requires change { IsTrue (is_change line.now) }
     requires follows { (w : Watch) × (c : Config) × (said : EventReading) × (run : Run)
-        × (chip : Chip) × (before : SinkState) × (now : SinkState)
-        × Follows w c said run chip commits.old before now }
+        × (before : SinkState) × (now : SinkState)
+        × Follows w c said run chip.now commits.old before now }
     ensures ok { IfOk result
         (λ code. (w : Watch) (c : Config) (said : EventReading) (number : ℕ) (run : Run)
-        (chip : Chip) (before now : SinkState) →
+        (before now : SinkState) →
         (kind_of line.now ≡ kind.Addition) ⊎ (kind_of line.now ≡ kind.Removal) →
-        Follows w c said run chip commits.old before now →
-        Leaves w c number line.now said run chip commits.new before now code) }
+        Follows w c said run chip.now commits.old before now →
+        Leaves w c number line.now said run chip.now commits.new before now code) }
     ensures memory { IfErr result (λ fault. fault ≡ RunFault.NoMemory) }
 {
+    let Ok(()) = begin(alloc, chip, commits) else {
+        return Err(RunFault::NoMemory);
+    };
     match commits {
         None => Ok(Some(4)),
         Some(commits) => match commits.lists.change(alloc, line) {
@@ -169,6 +173,9 @@ fn take_commit<O: Sink>(
         PrintingFailed (O.state out.old) (O.state out.new) }
     ensures only_printed { OnlyPrinted (O.state out.old) (O.state out.new) }
 {
+    let Ok(()) = begin(alloc, chip, commits) else {
+        return Err(RunFault::NoMemory);
+    };
     match commits {
         None => Ok(Some(4)),
         Some(commits) => commit(alloc, chip, commits, run, out),

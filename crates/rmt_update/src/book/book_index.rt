@@ -129,6 +129,16 @@ pub fn index_of_book(
 }
 
 impl Book {
+    /// Keeps an index, so that the next commit has none to make. The only fault is want of memory.
+    pub fn keep_index(&mut self, alloc: Global) -> Result<(), AllocError>
+        requires { (c : ConfigOf) × (cells : RunCells) × (lists : List (List EntryOf)) × BookStands c cells lists self.old }
+        ensures { OnOk result ((c : ConfigOf) (cells : RunCells) (lists : List (List EntryOf)) → BookStands c cells lists self.old → BookStands c cells lists self.new) }
+    {
+        let index = self.take_index(alloc)?;
+        self.index = Some(index);
+        Ok(())
+    }
+
     /// The index of the book, which it no longer has: the one that is kept, or one that is made. The only fault is want of
     /// memory.
     pub fn take_index(&mut self, alloc: Global) -> Result<BookIndex, AllocError>

@@ -1,6 +1,5 @@
-use Rattle.std.proofs.Common.{◌≡◌, List, ap, subst, sym}
+use Rattle.std.proofs.Common.{List, subst, sym}
 use Rattle.rmt_pack.specs.declared.placement.Part.{Part}
-use Rattle.rmt_pack.specs.declared.placement.Placement.{Placement}
 use Rattle.rmt_build.specs.Loads.{AreNotLoaded}
 use Rattle.rmt_build.specs.Stages.{ArePlaced}
 use Rattle.rmt_build.proofs.RefusalLaws.{parts_there, stuck_alone}

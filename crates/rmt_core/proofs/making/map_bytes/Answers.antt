@@ -1,5 +1,5 @@
 -- The joins are those of the program's parser.
-use Rattle.std.proofs.Common.{◌≡◌, List, Option, Some, None, Result, Ok, Err, sym, ap, subst, ◌∙◌}
+use Rattle.std.proofs.Common.{◌≡◌, List, Option, Some, None, Result, Ok, sym, ap, subst, ◌∙◌}
 use Rattle.rmt_bits.proofs.OptionLaws.{same_Ok}
 use Rattle.rmt_ptcam.specs.declared.fault.ParserFault.{ParserFault}
 use Rattle.rmt_ptcam.specs.declared.joins.Join.{Join}

@@ -1,5 +1,5 @@
 -- The image is read, the packets' file is opened, the bytes are an image, and the chip runs; or the call ends at one of these steps.
-use Rattle.std.proofs.Common.{◌≢◌, List, ℕ, Ok, Err, ap, refl, ◌∙◌}
+use Rattle.std.proofs.Common.{List, ℕ, Ok, Err, ap, refl, ◌∙◌}
 use Rattle.std.specs.Prelude.{string_bytes}
 use Rattle.rmt_config.specs.Spells.{Spells}
 use Rattle.rmt_image.specs.Reading.{Answers}
@@ -42,10 +42,10 @@ module _ (w : Watch) (before : Outside) (image packets bytes : List ℕ) (read :
         (λ answered. spelled_answered (outside opening before.sink) after bytes (λ x. RunsChip w opening.files x packets_limit opening.rest) k s spells answers answered) h)
 
 pub run_chip-requires-clause-stands : goal.run_chip-requires-clause-stands
-run_chip-requires-clause-stands g c = (c.in-Ok-read_image.config, c.in-Ok-open.ensures, c.in-Ok-commits_of.ensures)
+run_chip-requires-clause-stands g c = (c.in-Ok-read_image.config, c.in-Ok-open.ensures, tt)
 
 pub run_watched-requires-clause-stands : goal.run_watched-requires-clause-stands
-run_watched-requires-clause-stands g c = (c.in-Ok-read_image.config, c.in-Ok-open.ensures, c.in-Ok-commits_of.ensures)
+run_watched-requires-clause-stands g c = (c.in-Ok-read_image.config, c.in-Ok-open.ensures, tt)
 
 pub returns-in-Err-clause-call : goal.returns-in-Err-clause-call
 returns-in-Err-clause-call g c =
@@ -83,15 +83,6 @@ returns-in_default-clause-call g c =
     c.read_file.ensures.only_read c.in-Ok.ensures.found opening c.open_file.ensures.only_read c.in-Ok-open_file.ensures.opened (outside opening out) _
     (ends_at_once (outside opening out) (λ files. OfOpen c.args.watch files bytes opening.rest))
 
-pub returns-in_default-open-clause-call : goal.returns-in_default-open-clause-call
-returns-in_default-open-clause-call g c =
-    let out = g.O.Sink.state c.args.out.now in
-    let bytes = c.in-Ok.bytes.items in
-    let opening = g.F.Shelf.state c.open_file.new.shelf in
-    opened_then c.args.watch (outside (g.F.Shelf.state c.args.shelf.now) out) (string_bytes c.args.image.now) (string_bytes c.args.packets.now) bytes (g.F.Shelf.state c.read_file.new.shelf)
-    c.read_file.ensures.only_read c.in-Ok.ensures.found opening c.open_file.ensures.only_read c.in-Ok-open_file.ensures.opened (outside opening out) _
-    (ends_at_once (outside opening out) (λ files. OfOpen c.args.watch files bytes opening.rest))
-
 pub returns-in-Answers-clause-call : goal.returns-in-Answers-clause-call
 returns-in-Answers-clause-call g c =
     let bytes = c.in-Ok.bytes.items in
@@ -104,7 +95,7 @@ returns-in-Answers-clause-call g c =
     (outside (g.F.Shelf.state c.run_chip.new.shelf) (g.O.Sink.state c.run_chip.new.out)) c.run_chip.result k
     (rw c.as_slice.ensures.value at c.in-Ok-read_image.ensures.found) (rw c.as_slice.ensures.value at (c.in-Ok-read_image.ensures.exact (λ e. cc)))
     (record {
-      answered = λ tells. e.answered tells k c.in-Ok-open.ensures c.in-Ok-commits_of.ensures;
+      answered = λ tells. e.answered tells k c.in-Ok-open.ensures tt;
       read_fault = e.read_fault;
       write_fault = e.write_fault;
       only_read = e.only_read;
@@ -122,7 +113,7 @@ returns-clause-call g c =
     (outside (g.F.Shelf.state c.run_watched.new.shelf) (g.O.Sink.state c.run_watched.new.out)) c.run_watched.result k
     (rw c.as_slice.ensures.value at c.in-Ok-read_image.ensures.found) (rw c.as_slice.ensures.value at (c.in-Ok-read_image.ensures.exact (λ e. cc)))
     (record {
-      answered = λ tells. e.answered tells k c.in-Ok-open.ensures c.in-Ok-commits_of.ensures;
+      answered = λ tells. e.answered tells k c.in-Ok-open.ensures tt;
       read_fault = e.read_fault;
       write_fault = e.write_fault;
       only_read = e.only_read;

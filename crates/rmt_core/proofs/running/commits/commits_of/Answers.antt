@@ -39,8 +39,8 @@ pub new-requires-2-clause-numbers : goal.new-requires-2-clause-numbers
 new-requires-2-clause-numbers c =
     subst (λ (es : List (List Entry)). All (λ n. n < 4293918720) (flat_map entry_numbers es)) (sym (entries_are c)) (numbers_small c.args.config.now c.in-Some.names c.requires c.in-Some.is)
 
-pub returns-in-Ok-new-2 : goal.returns-in-Ok-new-2
-returns-in-Ok-new-2 c =
+pub returns-in-Ok-new-2-clause-commits : goal.returns-in-Ok-new-2-clause-commits
+returns-in-Ok-new-2-clause-commits c =
     let k = c.args.config.now in
     let own = lists_own k c.in-Some.names c.in-Some.is in
     let names_are : c.in-Ok.names ≡ names_in k = c.in-Ok.ensures ∙ sym (ap (λ o. unwrap_or o (record { tables = [] })) c.in-Some.is) in

@@ -21,7 +21,7 @@ pub returns-in-Addition-clause-ok : goal.returns-in-Addition-clause-ok
 returns-in-Addition-clause-ok g c =
     IfOk-weaker c.take_change.result _ _
     (λ code h w k said number before f.
-    h w k said number c.args.run.now c.args.chip.now before (g.O.Sink.state c.args.out.now) (inl (sym c.kind_of.ensures.kind ∙ c.in-Addition.is)) f)
+    h w k said number c.args.run.now before (g.O.Sink.state c.args.out.now) (inl (sym c.kind_of.ensures.kind ∙ c.in-Addition.is)) f)
     c.take_change.ensures.ok
 
 pub returns-in-Addition-clause-cut : goal.returns-in-Addition-clause-cut
@@ -35,7 +35,7 @@ pub returns-in-Removal-clause-ok : goal.returns-in-Removal-clause-ok
 returns-in-Removal-clause-ok g c =
     IfOk-weaker c.take_change-in-Removal.result _ _
     (λ code h w k said number before f.
-    h w k said number c.args.run.now c.args.chip.now before (g.O.Sink.state c.args.out.now) (inr (sym c.kind_of.ensures.kind ∙ c.in-Removal.is)) f)
+    h w k said number c.args.run.now before (g.O.Sink.state c.args.out.now) (inr (sym c.kind_of.ensures.kind ∙ c.in-Removal.is)) f)
     c.take_change-in-Removal.ensures.ok
 
 pub returns-in-Removal-clause-cut : goal.returns-in-Removal-clause-cut
