@@ -19,11 +19,12 @@ use Rattle.rmt_chip.specs.declared.memory.keys.Keys.{Keys}
 use Rattle.rmt_chip.specs.declared.memory.keys.Keys.TheVariants.{Nothing, InCells, InVectors}
 use Rattle.rmt_chip.specs.declared.memory.sliced.Sliced.{Sliced}
 use Rattle.rmt_chip.specs.KeysWithin.{KeysSet, compared_in}
+use Rattle.rmt_chip.specs.Laying.{number_bytes}
 use Rattle.rmt_chip.specs.RunWrites.{OthersStay}
 use Rattle.rmt_chip.specs.Searching.{run_of}
 use Rattle.rmt_chip.specs.Slicing.{StandsFor}
 use Rattle.rmt_chip.specs.Sights.{seen_by}
-use Rattle.rmt_chip.specs.Memories.{FitsSlot, HoldsCell, HoldsSlot, KeyFits, VectorsHold, compared_of, keys_fit, rows_seen}
+use Rattle.rmt_chip.specs.Memories.{FitsSlot, HoldsCell, HoldsSlot, KeyFits, VectorsHold, cell_bytes, compared_of, keys_fit, rows_seen}
 use Rattle.rmt_chip.specs.Writable.{EntryTaken, content_after, number_after}
 use Rattle.rmt_chip.proofs.WordLaws.{wider}
 
@@ -70,9 +71,9 @@ rows-set sight words count at old new inside stay =
           ∙ ap (λ (c : Content). cond (seen_by sight c.head) (Some (compared_of words c)) None) (sym (stay n other)) ∙ sym now
     ])
 
-module _ (w : CellWrite) (s : SlotUnit) (content : ℕ → Content) (number : ℕ → ℕ) (m m' : SlotMemory) (held : HoldsSlot content number s m) (key_same : m'.key_size ≡ m.key_size) (size_same : length m'.numbers.items ≡ length m.numbers.items)
+module _ (w : CellWrite) (s : SlotUnit) (content : ℕ → Content) (number : ℕ → ℕ) (m m' : SlotMemory) (held : HoldsSlot content number s m) (key_same : m'.key_size ≡ m.key_size) (tail_same : m'.number_size ≡ m.number_size)
     (stored : m'.stored ≡ m.stored) (held_size : m'.held_size ≡ m.held_size) (inside : w.cell < cells_in s.memory)
-    (stay : OthersStay w.cell m.cells m'.cells) (numbers : (n : ℕ) → n ≢ w.cell → get_or m'.numbers.items n 0 ≡ get_or m.numbers.items n 0)
+    (stay : OthersStay w.cell m.cells m'.cells)
     (shown : ℕ → ℕ → Option Compared) (keys : KeysSet w.cell shown m.keys m'.keys) (own : HoldsCell s (written_content w s) (cond (eqb w.visible 0) 0 w.number) w.cell m')
     (own-row : (v : Sliced) → keys_fit (bits_of_lanes s.keys) s.memory m.stored (InVectors v) ≡ true → (sight : ℕ)
     → shown (divided_up (bits_of_lanes s.keys) 40) sight ≡ cond (seen_by sight (written_content w s).head) (Some (compared_of (divided_up (bits_of_lanes s.keys) 40) (written_content w s))) None) where
@@ -81,7 +82,7 @@ module _ (w : CellWrite) (s : SlotUnit) (content : ℕ → Content) (number : �
     key = key_same ∙ held.fits.key;
     held = held_size ∙ held.fits.held;
     cells = stay.count ∙ held.fits.cells;
-    numbers = λ counted. size_same ∙ held.fits.numbers counted;
+    numbers = λ counted some. tail_same ∙ held.fits.numbers counted some;
     keys = ap (λ k. keys_fit (bits_of_lanes s.keys) s.memory k m'.keys) stored ∙ keys-stay (bits_of_lanes s.keys) s.memory m.stored w.cell shown m.keys m'.keys held.fits.keys keys;
   }
 
@@ -114,10 +115,11 @@ module _ (w : CellWrite) (s : SlotUnit) (content : ℕ → Content) (number : �
             let e = was.entry occupied in
             let c = content n in
             record {
-              bytes = run ∙ e.bytes ∙ ap (λ k. c.head ∷ (bytes_of k c.key ++ bytes_of m.held_size c.held)) (sym stored) ∙ ap (λ k. c.head ∷ (bytes_of m'.stored c.key ++ bytes_of k c.held)) (sym held_size);
+              bytes = run ∙ e.bytes ∙ ap (λ k. cell_bytes k m.held_size m.number_size c (number n)) (sym stored) ∙ ap (λ k. cell_bytes m'.stored k m.number_size c (number n)) (sym held_size)
+                  ∙ ap (λ k. cell_bytes m'.stored m'.held_size k c (number n)) (sym tail_same);
               key = e.key;
               held = e.held;
-              number = λ counted. numbers n other ∙ e.number counted;
+              number = e.number;
             };
       }
 
@@ -207,26 +209,29 @@ key-fits bits (Exact k p d w ks rs cs) head held key mask small = (small, refl)
 key-fits bits (Ternary d ks rs cs) head held key mask small =
     let e = up-enough bits 40 (omega arith) in wider (number_of key) bits (40 * divided_up bits 40) (omega (arith, e)) small
 
-pub entry-held : (w : CellWrite) (s : SlotUnit) (m : SlotMemory) → FitsSlot s m → w.cell < cells_in s.memory → w.visible ≢ 0 → EntryTaken s w → AreBytes w.key → AreBytes w.held
-    → run_of m.cells w.cell ≡ (1 + 2 * w.visible + 8 * w.code) ∷ (take m.stored w.key ++ w.held) → (s.counted ≡ true → get_or m.numbers.items w.cell 0 ≡ w.number)
+pub entry-held : (w : CellWrite) (s : SlotUnit) (m : SlotMemory) → FitsSlot s m → w.cell < cells_in s.memory → w.visible ≢ 0 → EntryTaken s w → AreBytes w.key → AreBytes w.held → w.number < 2 ^ 32
+    → run_of m.cells w.cell ≡ (1 + 2 * w.visible + 8 * w.code) ∷ (take m.stored w.key ++ (w.held ++ number_bytes m.number_size w.number))
     → HoldsCell s (written_content w s) (cond (eqb w.visible 0) 0 w.number) w.cell m
-entry-held w s m fits inside some taken are are' run counts =
+entry-held w s m fits inside some taken are are' small run =
     let head = 1 + 2 * w.visible + 8 * w.code in
     let c = entry-content w s in
     let key = stored-key (bits_of_lanes s.keys) s.memory m.stored w.cell m.keys w.key inside fits.keys are taken.key.size in
     let held : w.held ≡ bytes_of m.held_size (number_of w.held) = sym (ap (λ k. bytes_of k (number_of w.held)) (fits.held ∙ sym taken.held.size) ∙ bytes_of-number_of w.held are') in
-    let bytes : run_of m.cells w.cell ≡ head ∷ (bytes_of m.stored (number_of w.key) ++ bytes_of m.held_size (number_of w.held)) =
-    run ∙ ap (λ (bs : List ℕ). head ∷ (bs ++ w.held)) key ∙ ap (λ (bs : List ℕ). head ∷ (bytes_of m.stored (number_of w.key) ++ bs)) held in
+    let tail = number_bytes m.number_size w.number in
+    let own : cond (eqb w.visible 0) 0 w.number ≡ w.number = ap (λ b. cond b 0 w.number) (ne_eqb w.visible 0 some) in
+    let bytes : run_of m.cells w.cell ≡ cell_bytes m.stored m.held_size m.number_size c w.number =
+    run ∙ ap (λ (bs : List ℕ). head ∷ (bs ++ (w.held ++ tail))) key ∙ ap (λ (bs : List ℕ). head ∷ (bytes_of m.stored (number_of w.key) ++ (bs ++ tail))) held in
     subst (λ (x : Content). HoldsCell s x (cond (eqb w.visible 0) 0 w.number) w.cell m) (sym (written-entry w s some))
+    (subst (λ n. HoldsCell s c n w.cell m) (sym own)
     (record {
       occupied = ap (λ (bs : List ℕ). is_occupied (get_or bs 0 0)) bytes;
       entry = λ occupied. record {
         bytes = bytes;
         key = key-fits (bits_of_lanes s.keys) s.memory head (number_of w.held) w.key w.mask taken.key.small;
         held = taken.held.small;
-        number = λ counted. counts counted ∙ sym (ap (λ b. cond b 0 w.number) (ne_eqb w.visible 0 some));
+        number = small;
       };
-    })
+    }))
 
 pub entry-row : (w : CellWrite) (s : SlotUnit) (stored sight : ℕ) (v : Sliced) → w.visible ≢ 0 → keys_fit (bits_of_lanes s.keys) s.memory stored (InVectors v) ≡ true
     → let words = divided_up (bits_of_lanes s.keys) 40 in
@@ -242,16 +247,16 @@ entry-row w s stored sight v some fit =
 abbrev pub entry-shown : ℕ → List ℕ → List ℕ → ℕ → ℕ → Option Compared
 entry-shown head mask key words sight = cond (seen_by sight head) (Some (compared_in words (number_of mask) (number_of key))) None
 
-pub after-entry : (w : CellWrite) (s : SlotUnit) (content : ℕ → Content) (number : ℕ → ℕ) (m m' : SlotMemory) → HoldsSlot content number s m → m'.key_size ≡ m.key_size → length m'.numbers.items ≡ length m.numbers.items
-    → m'.stored ≡ m.stored → m'.held_size ≡ m.held_size → w.cell < cells_in s.memory → OthersStay w.cell m.cells m'.cells → ((n : ℕ) → n ≢ w.cell → get_or m'.numbers.items n 0 ≡ get_or m.numbers.items n 0)
-    → KeysSet w.cell (entry-shown (1 + 2 * w.visible + 8 * w.code) w.mask w.key) m.keys m'.keys → w.visible ≢ 0 → EntryTaken s w → AreBytes w.key → AreBytes w.held
-    → run_of m'.cells w.cell ≡ (1 + 2 * w.visible + 8 * w.code) ∷ (take m'.stored w.key ++ w.held) → (s.counted ≡ true → get_or m'.numbers.items w.cell 0 ≡ w.number)
+pub after-entry : (w : CellWrite) (s : SlotUnit) (content : ℕ → Content) (number : ℕ → ℕ) (m m' : SlotMemory) → HoldsSlot content number s m → m'.key_size ≡ m.key_size → m'.number_size ≡ m.number_size
+    → m'.stored ≡ m.stored → m'.held_size ≡ m.held_size → w.cell < cells_in s.memory → OthersStay w.cell m.cells m'.cells
+    → KeysSet w.cell (entry-shown (1 + 2 * w.visible + 8 * w.code) w.mask w.key) m.keys m'.keys → w.visible ≢ 0 → EntryTaken s w → AreBytes w.key → AreBytes w.held → w.number < 2 ^ 32
+    → run_of m'.cells w.cell ≡ (1 + 2 * w.visible + 8 * w.code) ∷ (take m'.stored w.key ++ (w.held ++ number_bytes m'.number_size w.number))
     → HoldsSlot (content_after w s content) (number_after w number) s m'
-after-entry w s content number m m' held key_same size_same stored held_size inside stay numbers keys some taken are are' run counts =
+after-entry w s content number m m' held key_same tail_same stored held_size inside stay keys some taken are are' small run =
     let shown = entry-shown (1 + 2 * w.visible + 8 * w.code) w.mask w.key in
     let fits = fits-of keys in
-    after-write w s content number m m' held key_same size_same stored held_size inside stay numbers shown keys
-    (entry-held w s m' fits inside some taken are are' run counts)
+    after-write w s content number m m' held key_same tail_same stored held_size inside stay shown keys
+    (entry-held w s m' fits inside some taken are are' small run)
     (λ v fit sight. entry-row w s m.stored sight v some fit)
   where
     fits-of : KeysSet w.cell (entry-shown (1 + 2 * w.visible + 8 * w.code) w.mask w.key) m.keys m'.keys → FitsSlot s m'
@@ -259,7 +264,7 @@ after-entry w s content number m m' held key_same size_same stored held_size ins
       key = key_same ∙ held.fits.key;
       held = held_size ∙ held.fits.held;
       cells = stay.count ∙ held.fits.cells;
-      numbers = λ counted. size_same ∙ held.fits.numbers counted;
+      numbers = λ counted some. tail_same ∙ held.fits.numbers counted some;
       keys = ap (λ k. keys_fit (bits_of_lanes s.keys) s.memory k m'.keys) stored
           ∙ keys-stay (bits_of_lanes s.keys) s.memory m.stored w.cell (entry-shown (1 + 2 * w.visible + 8 * w.code) w.mask w.key) m.keys m'.keys held.fits.keys is;
     }

@@ -58,12 +58,15 @@ seen_known = (refl, refl, refl, refl, refl, refl, refl, refl, refl, refl, refl, 
 
 -- ---- cells
 
--- a cell that both versions see, of instruction 2: its head, a key of 12 bits and 9 bits of data
-pub cell_known : cell_bytes 2 2 (record { head = 7 + 8 * 2; key = 300; mask = 4095; held = 260 }) ≡ 23 ∷ 1 ∷ 44 ∷ 1 ∷ 4 ∷ []
+-- a cell that both versions see, of instruction 2: its head, a key of 12 bits and 9 bits of data; and where hits are counted, with the number of its entry behind them
+pub cell_known : cell_bytes 2 2 0 (record { head = 7 + 8 * 2; key = 300; mask = 4095; held = 260 }) 770 ≡ 23 ∷ 1 ∷ 44 ∷ 1 ∷ 4 ∷ []
 cell_known = refl
 
+pub counted_known : cell_bytes 2 2 4 (record { head = 7 + 8 * 2; key = 300; mask = 4095; held = 260 }) 770 ≡ 23 ∷ 1 ∷ 44 ∷ 1 ∷ 4 ∷ 0 ∷ 0 ∷ 3 ∷ 2 ∷ []
+counted_known = refl
+
 -- a key that stands in vectors takes no bytes of the cell
-pub row_known : cell_bytes 0 1 (record { head = 7; key = 300; mask = 4095; held = 5 }) ≡ 7 ∷ 5 ∷ []
+pub row_known : cell_bytes 0 1 0 (record { head = 7; key = 300; mask = 4095; held = 5 }) 0 ≡ 7 ∷ 5 ∷ []
 row_known = refl
 
 -- row 0 is seen by both versions, row 1 by odd ones, and row 2 is empty

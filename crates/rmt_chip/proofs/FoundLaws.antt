@@ -26,6 +26,7 @@ use Rattle.rmt_chip.specs.declared.memory.sliced.Sliced.{Sliced}
 use Rattle.rmt_config.specs.declared.part_ways.PartWays.{PartWays}
 use Rattle.rmt_config.specs.WayRows.{row_among}
 use Rattle.rmt_chip.specs.Searching.{FirstIn, HasCell, run_of, FirstInWay, FirstByWays}
+use Rattle.rmt_chip.specs.Laying.{number_bytes}
 use Rattle.rmt_chip.specs.KeyWords.{Has, words_of, words_of_key, masked}
 use Rattle.rmt_chip.specs.Slicing.{HasRow}
 use Rattle.rmt_chip.specs.Sights.{seen_by, sight_of}
@@ -129,7 +130,7 @@ module _ (seed sight : ℕ) (content : ℕ → Content) (number : ℕ → ℕ) (
   key-there : (n : ℕ) → HoldsEntry s (content n) (number n) n m → take (length key) (drop 1 (run_of m.cells n)) ≡ bytes_of bytes (content n).key
   key-there n entry =
       let c = content n in
-      let rest = bytes_of m.held_size c.held in
+      let rest = bytes_of m.held_size c.held ++ number_bytes m.number_size (number n) in
       ap (λ (bs : List ℕ). take (length key) (drop 1 bs)) entry.bytes
       ∙ ap (λ b. take (length key) (bytes_of b c.key ++ rest)) stored_is
       ∙ ap (λ b. take b (bytes_of bytes c.key ++ rest)) (size ∙ sym (length-bytes_of bytes c.key))

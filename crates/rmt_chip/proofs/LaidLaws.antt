@@ -1,15 +1,17 @@
 -- A memory that was laid out holds the cells of its slot.
-use Rattle.std.proofs.Common.{◌≡◌, ℕ, ◌+◌, ◌*◌, ◌/◌, ◌%◌, ◌^◌, ◌<◌, ◌≤◌, List, length, get_or, drop, false, cond, Some, None, sym, refl, ap, ◌∙◌, subst, arith, inl, inr}
-use Rattle.std.proofs.lemmas.Bool.{cases_Bool, false≢true}
+use Rattle.std.proofs.Common.{◌≡◌, ℕ, ◌+◌, ◌*◌, ◌/◌, ◌%◌, ◌^◌, ◌<◌, ◌≤◌, List, length, get_or, drop, false, cond, ltb, All, Some, None, sym, refl, ap, ◌∙◌, subst, arith, inl, inr}
+use Rattle.std.proofs.lemmas.Bool.{and_parts, cases_Bool, false≢true, ltb-true}
 use Rattle.std.proofs.lemmas.List.{length-take}
+use Rattle.std.proofs.lemmas.List.Sums.{AllPass-from_list_all}
 use Rattle.std.proofs.lemmas.Nat.{shr_below, pow_pos}
 use Rattle.rmt_bits.proofs.BitLaws.{slice-lt}
 use Rattle.rmt_bits.specs.Grouping.{Compared}
-use Rattle.rmt_chip.specs.Types.{Stage, TcamRow, SlotUnit, Memory}
+use Rattle.rmt_chip.specs.Types.{Stage, TcamRow, SlotUnit, CellNumber, Memory}
 use Rattle.rmt_config.specs.declared.config.Memory.TheVariants.{Without, Exact, Ternary}
 use Rattle.rmt_config.specs.LaneForm.{bits_of_lanes}
 use Rattle.rmt_config.specs.BlockCounts.{divided_up}
 use Rattle.rmt_config.specs.StageForm.{is_listed, trow_number}
+use Rattle.rmt_config.specs.UnitForm.{slot_head_is_formed, memory_is_formed, number_is_formed}
 use Rattle.rmt_config.specs.Layouts.{ternary_keys}
 use Rattle.rmt_config.specs.Cells.{Content, content_of, cells_in, is_occupied, tcam_row, blocks_at, number_of_cell}
 use Rattle.rmt_config.specs.CellForm.{cells_of}
@@ -18,7 +20,7 @@ use Rattle.rmt_config.proofs.HeldRows.{rows-agree}
 use Rattle.rmt_chip.specs.declared.memory.SlotMemory.{SlotMemory}
 use Rattle.rmt_chip.specs.declared.memory.keys.Keys.{Keys}
 use Rattle.rmt_chip.specs.declared.memory.keys.Keys.TheVariants.{Nothing, InCells, InVectors}
-use Rattle.rmt_chip.specs.Laying.{cell_at}
+use Rattle.rmt_chip.specs.Laying.{cell_at, nowhere}
 use Rattle.rmt_chip.specs.Laid.{Laid, VectorsLaid, Unlisted}
 use Rattle.rmt_chip.specs.Sights.{seen_by}
 use Rattle.rmt_chip.specs.Memories.{SlotFormed, HoldsCell, HoldsSlot, KeyFits, VectorsHold, compared_of}
@@ -43,6 +45,12 @@ module _ (stage : Stage) (s : SlotUnit) (formed : SlotFormed stage s) where
   values-small =
       (rows-agree (ternary_keys 1 (bits_of_lanes s.keys)) (λ (r : TcamRow). r.block) (λ (r : TcamRow). r.row) (λ (r : TcamRow). r.value) trow_number stage.trows (λ r. refl)
       formed.rows.trise formed.rows.tlow formed.values).within
+
+  -- the numbers of entries have 32 bits
+  number-small : All (λ (c : CellNumber). c.number < 2 ^ 32) s.numbers
+  number-small i d lt =
+      let each = AllPass-from_list_all number_is_formed s.numbers (and_parts _ _ (and_parts (slot_head_is_formed s) (memory_is_formed s s.memory) formed.form).0).1 i d lt in
+      ltb-true (get_or s.numbers i d).number (2 ^ 32) (and_parts (ltb (get_or s.numbers i d).cell (2 ^ 32)) _ each).1
 
   -- the key of a cell has no more bits than the slot's keys
   key-fits : (n : ℕ) → KeyFits (bits_of_lanes s.keys) s.memory (content n)
@@ -70,7 +78,7 @@ module _ (stage : Stage) (s : SlotUnit) (formed : SlotFormed stage s) where
             bytes = bytes;
             key = key-fits n;
             held = held-small stage s n;
-            number = λ counted. (laid.numbers counted).each (number_of_cell s.numbers) (λ j less. sym (number-at s.numbers j (cells-rise stage formed.first s formed.holds) less)) i lt;
+            number = subst (λ k. k < 2 ^ 32) (sym (number-at s.numbers i (cells-rise stage formed.first s formed.holds) lt)) (number-small i nowhere lt);
           };
         }
 

@@ -17,7 +17,7 @@ use Rattle.rmt_config.proofs.UnitBits.{Within}
 use Rattle.rmt_config.proofs.HeldRows.{rows-agree}
 use Rattle.rmt_config.proofs.CellLayouts.{exact-entry, ternary-record}
 use Rattle.rmt_chip.specs.declared.memory.runs.Runs.{Runs}
-use Rattle.rmt_chip.specs.Laying.{entry_of, runs_of, bytes_at, cell_at, nowhere}
+use Rattle.rmt_chip.specs.Laying.{entry_of, runs_of, bytes_at, cell_at, nowhere, number_bytes}
 use Rattle.rmt_chip.specs.Searching.{run_of}
 use Rattle.rmt_chip.specs.KeyWords.{words_of}
 use Rattle.rmt_chip.specs.Comparing.{compared_at}
@@ -139,11 +139,14 @@ pub head-of : (heads : Runs) (f : ℕ → ℕ) (numbers : List CellNumber) (i : 
 head-of heads f numbers i lt one fs small = ap (λ (bs : List ℕ). get_or bs 0 0) (run-at heads 1 f numbers i one fs lt) ∙ mod-eq_of_lt small
 
 -- the bytes of a listed cell
-pub bytes-at : (heads keys held : Runs) (k h : ℕ) (f g e : ℕ → ℕ) (numbers : List CellNumber) (i : ℕ) → i < length numbers
+pub bytes-at : (tail : ℕ) (entry : ℕ → ℕ) (heads keys held : Runs) (k h : ℕ) (f g e : ℕ → ℕ) (numbers : List CellNumber) (i : ℕ) → i < length numbers
     → heads.size ≡ 1 → heads.bytes.items ≡ runs_of 1 f numbers → keys.size ≡ k → keys.bytes.items ≡ runs_of k g numbers → held.size ≡ h → held.bytes.items ≡ runs_of h e numbers
-    → f (cell_at numbers i) < 256 → bytes_at heads keys held i ≡ f (cell_at numbers i) ∷ (bytes_of k (g (cell_at numbers i)) ++ bytes_of h (e (cell_at numbers i)))
-bytes-at heads keys held k h f g e numbers i lt one fs ks gs hs es small =
+    → f (cell_at numbers i) < 256 → (get_or numbers i nowhere).number ≡ entry (cell_at numbers i)
+    → bytes_at tail numbers heads keys held i ≡ f (cell_at numbers i) ∷ (bytes_of k (g (cell_at numbers i)) ++ (bytes_of h (e (cell_at numbers i)) ++ number_bytes tail (entry (cell_at numbers i))))
+bytes-at tail entry heads keys held k h f g e numbers i lt one fs ks gs hs es small number =
     let n = cell_at numbers i in
-    let rest : run_of keys i ++ run_of held i ≡ bytes_of k (g n) ++ bytes_of h (e n) =
-    ap (λ (bs : List ℕ). bs ++ run_of held i) (run-at keys k g numbers i ks gs lt) ∙ ap (λ (bs : List ℕ). bytes_of k (g n) ++ bs) (run-at held h e numbers i hs es lt) in
-    ap (λ x. x ∷ (run_of keys i ++ run_of held i)) (head-of heads f numbers i lt one fs small) ∙ ap (λ (bs : List ℕ). f n ∷ bs) rest
+    let own = number_bytes tail (get_or numbers i nowhere).number in
+    ap (λ x. x ∷ (run_of keys i ++ (run_of held i ++ own))) (head-of heads f numbers i lt one fs small)
+    ∙ ap (λ (bs : List ℕ). f n ∷ (bs ++ (run_of held i ++ own))) (run-at keys k g numbers i ks gs lt)
+    ∙ ap (λ (bs : List ℕ). f n ∷ (bytes_of k (g n) ++ (bs ++ own))) (run-at held h e numbers i hs es lt)
+    ∙ ap (λ z. f n ∷ (bytes_of k (g n) ++ (bytes_of h (e n) ++ number_bytes tail z))) number

@@ -10,7 +10,7 @@ use Rattle.rmt_chip.specs.Types.{CellNumber}
 use Rattle.rmt_chip.specs.declared.memory.runs.Runs.{Runs}
 use Rattle.rmt_chip.specs.declared.memory.sliced.Sliced.{Sliced}
 use Rattle.rmt_chip.specs.Laying.{CellsPut, bytes_at, cell_at, nowhere}
-use Rattle.rmt_chip.specs.Laid.{NumbersLaid, Unlisted}
+use Rattle.rmt_chip.specs.Laid.{Unlisted}
 use Rattle.rmt_config.specs.StageForm.{is_listed}
 use Rattle.rmt_chip.proofs.RangeLaws.{listed-place, unlisted-place}
 use Rattle.rmt_chip.specs.RunWrites.{RunSet}
@@ -23,9 +23,9 @@ up-to P at before here = below_more P at before here
 
 -- ---- runs
 
-pub one-run : (numbers : List CellNumber) (heads keys held : Runs) (at : ℕ) (old mid new : Runs) → at < length numbers → All (λ (n : CellNumber). n.cell < old.count) numbers
-    → CellsPut numbers heads keys held at old mid → RunSet (cell_at numbers at) (bytes_at heads keys held at) mid new → CellsPut numbers heads keys held (at + 1) old new
-one-run numbers heads keys held at old mid new lt below before put = record {
+pub one-run : (tail : ℕ) (numbers : List CellNumber) (heads keys held : Runs) (at : ℕ) (old mid new : Runs) → at < length numbers → All (λ (n : CellNumber). n.cell < old.count) numbers
+    → CellsPut tail numbers heads keys held at old mid → RunSet (cell_at numbers at) (bytes_at tail numbers heads keys held at) mid new → CellsPut tail numbers heads keys held (at + 1) old new
+one-run tail numbers heads keys held at old mid new lt below before put = record {
   size = put.stay.size ∙ before.size;
   same = put.stay.count ∙ before.same;
   listed = λ bytes are.
@@ -39,29 +39,6 @@ one-run numbers heads keys held at old mid new lt below before put = record {
   others = λ n inside off.
       put.stay.others n (let s = before.same in omega (arith, inside, s)) (λ e. off at (omega arith) (sym e)) ∙ before.others n inside (λ i less. off i (omega (arith, less)));
 }
-
--- ---- numbers
-
-pub no-numbers : (numbers : List CellNumber) (all : ℕ) (entries : List ℕ) → length entries ≡ all → NumbersLaid numbers all 0 entries
-no-numbers numbers all entries size = record { size = size; each = λ value are i lt. absurd (omega (arith, lt)) }
-
-pub one-number : (numbers : List CellNumber) (all at : ℕ) (old : List ℕ) → at < length numbers → All (λ (n : CellNumber). n.cell < all) numbers → NumbersLaid numbers all at old
-    → NumbersLaid numbers all (at + 1) (set old (cell_at numbers at) (get_or numbers at nowhere).number)
-one-number numbers all at old lt below before =
-    let x = (get_or numbers at nowhere).number in
-    let cell = cell_at numbers at in
-    let there : cell < length old = (let b = below at nowhere lt in let s = before.size in omega (arith, b, s)) in
-    record {
-      size = length-set old cell x ∙ before.size;
-      each = λ value are.
-          up-to (λ i. get_or (set old cell x) (cell_at numbers i) 0 ≡ value (cell_at numbers i)) at
-          (λ i less.
-          elim (cases_eq (cell_at numbers i) cell) as (λ _. get_or (set old cell x) (cell_at numbers i) 0 ≡ value (cell_at numbers i)) [
-            | inl same ↦ ap (λ n. get_or (set old cell x) n 0) same ∙ get_or-set_same old cell x 0 there ∙ are at lt ∙ ap value (sym same)
-            | inr other ↦ get_or-set_other old cell (cell_at numbers i) x 0 other ∙ before.each value are i less
-          ])
-          (get_or-set_same old cell x 0 there ∙ are at lt);
-    }
 
 -- ---- vectors
 

@@ -1,17 +1,17 @@
 -- The memory of a slot as it is laid out: what the listed cells hold.
-use Rattle.std.specs.Prelude.{◌≡◌, ◌≢◌, ℕ, ◌+◌, ◌<◌, List, length, true, Option, Some, None, map, slice_index, slice_index_or, if◌then◌else◌}
+use Rattle.std.specs.Prelude.{◌≡◌, ◌≢◌, ℕ, ◌+◌, ◌<◌, List, length, Option, Some, None, map, slice_index, if◌then◌else◌}
 use Rattle.std.specs.List.{range_with_len}
 use Rattle.rmt_bits.specs.Grouping.{Compared}
 use Rattle.rmt_chip.specs.Types.{Stage, SlotUnit, CellNumber}
 use Rattle.rmt_config.specs.LaneForm.{bits_of_lanes}
 use Rattle.rmt_config.specs.BlockCounts.{divided_up}
-use Rattle.rmt_config.specs.Cells.{cells_in, content_of}
+use Rattle.rmt_config.specs.Cells.{cells_in, content_of, number_of_cell}
 use Rattle.rmt_chip.specs.declared.memory.SlotMemory.{SlotMemory}
 use Rattle.rmt_chip.specs.declared.memory.runs.Runs.{Runs}
 use Rattle.rmt_chip.specs.declared.memory.keys.Keys.{Keys}
 use Rattle.rmt_chip.specs.declared.memory.keys.Keys.TheVariants.{Nothing, InCells, InVectors}
 use Rattle.rmt_chip.specs.Searching.{run_of}
-use Rattle.rmt_chip.specs.Laying.{cell_at, nowhere, bytes_at}
+use Rattle.rmt_chip.specs.Laying.{cell_at, bytes_at}
 use Rattle.rmt_chip.specs.Slicing.{StandsFor}
 use Rattle.rmt_chip.specs.Sights.{seen_by}
 use Rattle.rmt_chip.specs.Memories.{FitsSlot, cell_bytes, compared_of}
@@ -21,18 +21,12 @@ abbrev pub Unlisted : List CellNumber → ℕ → Type 0
 Unlisted numbers n = (i : ℕ) → i < length numbers → cell_at numbers i ≢ n
 
 -- that many cells, of which the listed ones have these bytes, and no other is occupied
-pub record CellsLaid (numbers : List CellNumber) (heads keys held : Runs) (count : ℕ) (cells : Runs) : Type 0 where
-  pub size : cells.size ≡ 1 + keys.size + held.size
+pub record CellsLaid (tail : ℕ) (numbers : List CellNumber) (heads keys held : Runs) (count : ℕ) (cells : Runs) : Type 0 where
+  pub size : cells.size ≡ 1 + keys.size + held.size + tail
   pub all : cells.count ≡ count
-  pub listed : (bytes : ℕ → List ℕ) → ((i : ℕ) → i < length numbers → bytes_at heads keys held i ≡ bytes (cell_at numbers i))
+  pub listed : (bytes : ℕ → List ℕ) → ((i : ℕ) → i < length numbers → bytes_at tail numbers heads keys held i ≡ bytes (cell_at numbers i))
       → (i : ℕ) → i < length numbers → run_of cells (cell_at numbers i) ≡ bytes (cell_at numbers i)
   pub others : (n : ℕ) → n < count → Unlisted numbers n → slice_index (run_of cells n) 0 ≡ 0
-
--- a number for each of so many cells; of the first of those listed their own
-pub record NumbersLaid (numbers : List CellNumber) (all count : ℕ) (entries : List ℕ) : Type 0 where
-  pub size : length entries ≡ all
-  pub each : (value : ℕ → ℕ) → ((i : ℕ) → i < length numbers → (slice_index_or numbers i nowhere).number ≡ value (cell_at numbers i))
-      → (i : ℕ) → i < count → slice_index entries (cell_at numbers i) ≡ value (cell_at numbers i)
 
 -- vectors have the listed cells as rows, and no other
 abbrev pub VectorsLaid : Stage → SlotUnit → Keys → Type 0
@@ -48,7 +42,7 @@ VectorsLaid stage s (InVectors v) =
 -- what a memory has of the listed cells of a slot, and that no other is occupied
 pub record Laid (stage : Stage) (s : SlotUnit) (m : SlotMemory) : Type 0 where
   pub fits : FitsSlot s m
-  pub listed : (i : ℕ) → i < length s.numbers → run_of m.cells (cell_at s.numbers i) ≡ cell_bytes m.stored m.held_size (content_of stage s (cell_at s.numbers i))
+  pub listed : (i : ℕ) → i < length s.numbers → run_of m.cells (cell_at s.numbers i)
+      ≡ cell_bytes m.stored m.held_size m.number_size (content_of stage s (cell_at s.numbers i)) (number_of_cell s.numbers (cell_at s.numbers i))
   pub others : (n : ℕ) → n < cells_in s.memory → Unlisted s.numbers n → slice_index (run_of m.cells n) 0 ≡ 0
-  pub numbers : s.counted ≡ true → NumbersLaid s.numbers (cells_in s.memory) (length s.numbers) m.numbers.items
   pub vectors : VectorsLaid stage s m.keys

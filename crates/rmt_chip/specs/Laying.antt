@@ -1,5 +1,6 @@
 -- How the cells of a slot are laid out for reading: rows of memory, the entries in them, and runs of bytes by listed cell.
-use Rattle.std.specs.Prelude.{◌≡◌, ◌≢◌, ℕ, ◌<◌, ◌∷◌, ◌++◌, List, length, map, true, All, slice_index, slice_index_or}
+use Rattle.std.specs.Prelude.{◌≡◌, ◌≢◌, ℕ, ◌<◌, ◌∷◌, ◌++◌, List, length, map, take, true, All, slice_index, slice_index_or}
+use Rattle.std.specs.Int.{to_be_bytes, w32}
 use Rattle.std.specs.List.{flat_map}
 use Rattle.rmt_bits.specs.Bits.{bytes_of}
 use Rattle.rmt_chip.specs.Types.{TcamRow, CellNumber}
@@ -32,14 +33,19 @@ nowhere = record { cell = 0; number = 0 }
 abbrev pub cell_at : List CellNumber → ℕ → ℕ
 cell_at numbers at = (slice_index_or numbers at nowhere).cell
 
--- the bytes of a listed cell, of its head, its key and its data
-abbrev pub bytes_at : Runs → Runs → Runs → ℕ → List ℕ
-bytes_at heads keys held i = slice_index (run_of heads i) 0 ∷ run_of keys i ++ run_of held i
+-- so many bytes of a number, the highest first: all four, or none
+abbrev pub number_bytes : ℕ → ℕ → List ℕ
+number_bytes size n = take size (to_be_bytes w32 n)
+
+-- the bytes of a listed cell, of its head, its key, its data and the number of its entry
+abbrev pub bytes_at : ℕ → List CellNumber → Runs → Runs → Runs → ℕ → List ℕ
+bytes_at tail numbers heads keys held i =
+    slice_index (run_of heads i) 0 ∷ (run_of keys i ++ (run_of held i ++ number_bytes tail (slice_index_or numbers i nowhere).number))
 
 -- the first of the listed cells have their bytes, and all others stay
-pub record CellsPut (numbers : List CellNumber) (heads keys held : Runs) (count : ℕ) (old new : Runs) : Type 0 where
+pub record CellsPut (tail : ℕ) (numbers : List CellNumber) (heads keys held : Runs) (count : ℕ) (old new : Runs) : Type 0 where
   pub size : new.size ≡ old.size
   pub same : new.count ≡ old.count
-  pub listed : (bytes : ℕ → List ℕ) → ((i : ℕ) → i < length numbers → bytes_at heads keys held i ≡ bytes (cell_at numbers i))
+  pub listed : (bytes : ℕ → List ℕ) → ((i : ℕ) → i < length numbers → bytes_at tail numbers heads keys held i ≡ bytes (cell_at numbers i))
       → (i : ℕ) → i < count → run_of new (cell_at numbers i) ≡ bytes (cell_at numbers i)
   pub others : (n : ℕ) → n < old.count → ((i : ℕ) → i < count → cell_at numbers i ≢ n) → run_of new n ≡ run_of old n

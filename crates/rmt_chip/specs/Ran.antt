@@ -1,5 +1,5 @@
 -- What the units of a stage have done with a packet.
-use Rattle.std.specs.Prelude.{◌≡◌, ℕ, ◌+◌, ◌++◌, if◌then◌else◌, List, [], option_map, unwrap_or, slice_get, map, reverse}
+use Rattle.std.specs.Prelude.{◌≡◌, ℕ, ◌++◌, if◌then◌else◌, List, [], option_map, unwrap_or, slice_get, map, reverse}
 use Rattle.rmt_bits.specs.Bits.{number_of}
 use Rattle.rmt_bits.specs.Counts.{Hit, counts}
 use Rattle.rmt_bits.specs.declared.answer.Count.{Count}

@@ -1,10 +1,7 @@
 //! How a packet leaves.
 
-ghost use Rattle.std.specs.Prelude.{◌≡◌, [], ◌+◌, ◌-◌, ◌*◌, ◌<◌, ◌≤◌, ◌++◌, length, take, drop, min, map, All, slice_index};
-ghost use Rattle.std.specs.List.{flat_map, zip};
-ghost use Rattle.rmt_config.specs.declared.tails.TailAt.{TailAt as TailAtOf};
-ghost use Rattle.rmt_config.specs.declared.config.OutHeader.{OutHeader as OutHeaderOf};
-ghost use Rattle.rmt_config.specs.ChipRun.{header_bytes, sent_bytes, tail_bytes, finished};
+ghost use Rattle.std.specs.Prelude.{◌≡◌, [], ◌+◌, ◌-◌, ◌<◌, ◌≤◌, ◌++◌, length, take, drop, min, map, All, slice_index};
+ghost use Rattle.rmt_config.specs.ChipRun.{header_bytes, tail_bytes, finished};
 ghost use Rattle.rmt_chip.specs.FrameList.{frame_at};
 ghost use Rattle.rmt_chip.specs.Leaving.{Answers, AnswersIf, leaving_if, headers_sent, still};
 ghost use Rattle.rmt_chip.specs.Runnable.{HeaderFits, IsRunnable};

@@ -1,6 +1,6 @@
 //! How a packet enters its slot.
 
-ghost use Rattle.std.specs.Prelude.{◌≡◌, ◌<◌, ◌≤◌, ◌^◌, length};
+ghost use Rattle.std.specs.Prelude.{◌≡◌, ◌<◌, ◌≤◌, length};
 ghost use Rattle.rmt_config.specs.Parser.{parse as parse_of};
 ghost use Rattle.rmt_chip.specs.FrameList.{frames_of};
 ghost use Rattle.rmt_chip.specs.Held.{EnteredBy, Begins, Keeps, EntersIf};

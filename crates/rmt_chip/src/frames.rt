@@ -2,7 +2,6 @@
 
 ghost use Rattle.std.specs.Prelude.{◌≡◌, ◌+◌, ◌++◌, ◌∷◌, ◌≤◌, ℕ, List, [], Option, None, replicate, map, length, IfOk, vec_len};
 ghost use Rattle.std.proofs.Props.{props};
-ghost use Rattle.rmt_cells.specs.declared.cells.Chain.{Chain as ChainOf};
 ghost use Rattle.rmt_cells.specs.Stands.{Held, Stands, cells_held};
 ghost use Rattle.rmt_chip.specs.Frames.{AreFrames, frames_in, held_if};
 

@@ -1,6 +1,6 @@
 //! Keys: what the units of a stage read for a packet at the stage's start.
 
-ghost use Rattle.std.specs.Prelude.{◌≡◌, ◌+◌, ◌<◌, ◌≤◌, ◌==◌, ℕ, true, length, All, Some, slice_get, bit_and, slice_index, slice_index_or, if◌then◌else◌, None, IsTrue};
+ghost use Rattle.std.specs.Prelude.{◌≡◌, ◌+◌, ◌<◌, ◌≤◌, ◌==◌, ℕ, true, length, All, Some, slice_get, bit_and, slice_index, if◌then◌else◌, None};
 ghost use Rattle.rmt_config.specs.declared.config.Stage.{Stage};
 ghost use Rattle.rmt_config.specs.declared.config.GateTest.{GateTest};
 ghost use Rattle.rmt_config.specs.LaneForm.{bits_of_lanes};

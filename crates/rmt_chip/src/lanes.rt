@@ -1,6 +1,6 @@
 //! Lanes of a vector.
 
-ghost use Rattle.std.specs.Prelude.{◌≡◌, ◌<◌, ◌≤◌, ◌^◌, length, slice_index};
+ghost use Rattle.std.specs.Prelude.{◌≡◌, ◌<◌, ◌^◌, length, slice_index};
 ghost use Rattle.rmt_config.specs.Life.{lane_of};
 ghost use Rattle.rmt_config.specs.Parser.{put as put_of};
 ghost use Rattle.rmt_chip.specs.Runnable.{LaneFits};

@@ -2,6 +2,7 @@
 
 mod block_bits;
 mod changes;
+mod entry_number;
 mod exact;
 mod keys;
 mod lay;
@@ -20,7 +21,8 @@ ghost use Rattle.rmt_chip.specs.KeysWithin.{keys_within};
 ghost use Rattle.rmt_chip.specs.Marking.{AreMarked};
 
 use crate::looked::Looked;
-use crate::memory::changes::{clear_head, set_number, set_run};
+use crate::memory::changes::{clear_head, set_run};
+use crate::memory::entry_number::{number_bytes, number_in};
 use crate::memory::exact::place_of;
 use crate::memory::keys::{Keys, hide_key, put_key};
 use crate::memory::lay::{lay_exact, lay_ternary, without};
@@ -35,7 +37,8 @@ use std::alloc::{AllocError, Global};
 /// The memory of a slot. It has room for each cell that the slot's blocks have, occupied or not, so
 /// that a changed cell takes no memory: of an exact part a head of one byte, the key and the data,
 /// each in whole bytes; of a ternary part a head and the data, and 20 bytes for each 40 bits of a key
-/// (`Sliced`); a byte of marks; and 4 bytes for a number where hits are counted.
+/// (`Sliced`); where hits are counted 4 bytes for a number, in the cell, so that a look-up that hits
+/// reads no other place; and a byte of marks.
 #[derive(Drop)]
 pub struct SlotMemory {
     pub keys: Keys,
@@ -45,20 +48,23 @@ pub struct SlotMemory {
     pub stored: usize,
     /// How many bytes the data of an entry has.
     pub held_size: usize,
-    /// The cells by number: the head, the key where it stands here, and the data; each the highest byte first.
+    /// In how many bytes the number of an entry stands in its cell: 4 where hits are counted, else 0.
+    pub number_size: usize,
+    /// The cells by number: the head, the key where it stands here, the data, and the number of the entry;
+    /// each the highest byte first.
     pub cells: Runs,
     /// Marks of the keys that stand in occupied cells, so that most look-ups of other keys read no cell.
     pub marks: Marks,
-    /// The numbers of the entries by cell, where hits are counted; else none.
-    pub numbers: Vec<u32>,
     pub ghost short: { key_size ≤ 80 },
-    pub ghost size: { cells.size ≡ 1 + stored + held_size },
+    pub ghost size: { cells.size ≡ 1 + stored + held_size + number_size },
+    pub ghost few: { number_size ≤ 4 },
     pub ghost within: { IsTrue (keys_within keys key_size stored cells.count) },
     pub ghost marked: { AreMarked cells stored cells.count marks.words.items } by { Prim.hlevel props },
 }
 
 impl SlotMemory {
-    ghost use Rattle.std.specs.Prelude.{◌≢◌, ◌<◌, ◌^◌, ℕ, IfOk, IfSome, length, drop, true, vec_len, slice_index};
+    ghost use Rattle.std.specs.Prelude.{◌≢◌, ◌<◌, ◌^◌, ℕ, IfOk, IfSome, length, take, drop, true, slice_index};
+    ghost use Rattle.std.specs.Int.{from_be_bytes, w32};
     ghost use Rattle.rmt_bits.specs.Bits.{number_of};
     ghost use Rattle.rmt_config.specs.declared.config.Stage.{Stage};
     ghost use Rattle.rmt_config.specs.declared.config.SlotUnit.{SlotUnit};
@@ -148,15 +154,17 @@ impl SlotMemory {
         requires room { length into.old.held.items ≡ held_size_of self.now }
         ensures hit { into.new.hit ≡ true }
         ensures code { into.new.code ≡ code_of (slice_index (run_of self.now.cells at) 0) }
-        ensures number { at < vec_len self.now.numbers → into.new.number ≡ slice_index self.now.numbers.items at }
-        ensures held { into.new.held.items ≡ drop (1 + self.now.stored) (run_of self.now.cells at) }
+        ensures number { self.now.number_size ≡ 4 → into.new.number ≡ from_be_bytes w32 (drop (1 + self.now.stored + self.now.held_size) (run_of self.now.cells at)) }
+        ensures held { into.new.held.items ≡ take self.now.held_size (drop (1 + self.now.stored) (run_of self.now.cells at)) }
     {
         let cell = run_at(&self.cells, at);
         into.hit = true;
         into.code = cell[0] / 8 % 32;
-        into.held.copy_from_slice(&cell[1 + self.stored..]);
-        if at < self.numbers.len() {
-            into.number = self.numbers[at];
+        let data = 1 + self.stored;
+        let tail = data + self.held_size;
+        into.held.copy_from_slice(&cell[data..tail]);
+        if self.number_size == 4 {
+            into.number = number_in(&cell[tail..]);
         }
     }
 
@@ -190,7 +198,7 @@ impl SlotMemory {
         clear_head(&mut self.cells, at);
     }
 
-    /// Puts an entry into a cell: these bytes of its key, of the mask and of its data.
+    /// Puts an entry into a cell: these bytes of its key, of the mask and of its data, and its number.
     fn put(&mut self, slot: &SlotUnit, write: &CellWrite, key: &[u8], mask: &[u8], held: &[u8])
         requires fits { FitsSlot slot.now self.old }
         requires taken { WriteTaken slot.now write.now }
@@ -204,10 +212,18 @@ impl SlotMemory {
     {
         let at = write.cell as usize;
         let head = 1 + 2 * write.visible + 8 * write.code;
-        mark(&mut self.marks, &key[..self.stored]);
+        let number = number_bytes(write.number);
+        let stored = &key[..self.stored];
+        mark(&mut self.marks, stored);
         put_key(&mut self.keys, at, head, key, mask);
-        set_run(&mut self.cells, at, head, &key[..self.stored], held);
-        set_number(self.numbers.as_mut_slice(), slot.counted, at, write.number);
+        set_run(
+            &mut self.cells,
+            at,
+            head,
+            stored,
+            held,
+            &number[..self.number_size],
+        );
     }
 
     /// Puts a changed cell of the slot whose memory this is. It takes no memory.

@@ -1,6 +1,6 @@
 //! Operands: what the instructions that run in a stage make of the words, whole words that are written later.
 
-ghost use Rattle.std.specs.Prelude.{◌≡◌, ◌+◌, ◌*◌, ◌<◌, ◌≤◌, ◌++◌, ◌∷◌, [], ℕ, List, length, All, Some, slice_get, option_map, slice_index, if◌then◌else◌, vec_len, vec_capacity};
+ghost use Rattle.std.specs.Prelude.{◌≡◌, ◌+◌, ◌*◌, ◌<◌, ◌≤◌, [], ℕ, length, All, Some, slice_get, option_map, slice_index, if◌then◌else◌, vec_len, vec_capacity};
 ghost use Rattle.rmt_bits.specs.Bits.{number_of};
 ghost use Rattle.rmt_config.specs.Life.{written as written_of, op_on, or_else, word_after};
 ghost use Rattle.rmt_chip.specs.declared.looked.Looked.{Looked as LookedOf};

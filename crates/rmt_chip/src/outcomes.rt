@@ -1,6 +1,6 @@
 //! Outcomes: what the units of a stage decide for a packet, from what they read at the stage's start.
 
-ghost use Rattle.std.specs.Prelude.{◌≡◌, ◌+◌, ◌<◌, ◌≤◌, ◌++◌, ◌∷◌, [], ℕ, List, Option, length, All, Some, slice_get, slice_set, slice_index_or, if◌then◌else◌, vec_len, vec_capacity};
+ghost use Rattle.std.specs.Prelude.{◌≡◌, ◌+◌, ◌<◌, ◌≤◌, ◌∷◌, [], ℕ, List, Option, length, All, Some, slice_get, slice_set, slice_index_or, if◌then◌else◌, vec_len, vec_capacity};
 ghost use Rattle.rmt_bits.specs.declared.answer.Count.{Count};
 ghost use Rattle.rmt_config.specs.declared.config.Stage.{Stage};
 ghost use Rattle.rmt_config.specs.declared.config.Unit.{Unit};

@@ -1,6 +1,6 @@
 //! Room for what the units of a stage read.
 
-ghost use Rattle.std.specs.Prelude.{◌≡◌, length, IfOk, vec_len};
+ghost use Rattle.std.specs.Prelude.{◌≡◌, IfOk};
 ghost use Rattle.rmt_chip.specs.Looked.{HasRoom, HaveRoom, held_bytes as held_bytes_of};
 
 use crate::looked::Looked;

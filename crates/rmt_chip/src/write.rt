@@ -1,6 +1,6 @@
 //! Whole words on their way into a vector.
 
-ghost use Rattle.std.specs.Prelude.{◌≡◌, ◌<◌, ◌^◌};
+ghost use Rattle.std.specs.Prelude.{◌<◌, ◌^◌};
 ghost use Rattle.rmt_bits.specs.Words.{word_size as word_size_of};
 
 /// A value for a whole word of a vector.

@@ -1,8 +1,8 @@
 //! Linked cells: the worked row, bytes at the edges of a cell, and chains that are put and given back in any order.
 
-ghost use Rattle.std.specs.Prelude.{◌≡◌, ℕ, ◌+◌, ◌<◌, ◌≤◌, ◌^◌, List, length, map, OnOk, vec_len};
+ghost use Rattle.std.specs.Prelude.{ℕ, ◌<◌, ◌≤◌, length, map, OnOk, vec_len};
 ghost use Rattle.rmt_chip_tests.specs.declared.cells.Kept.{Kept as KeptOf};
-ghost use Rattle.rmt_cells.specs.Stands.{Held, Stands};
+ghost use Rattle.rmt_cells.specs.Stands.{Stands};
 
 use rmt_cells::cells::{Cells, Chain};
 use std::alloc::{AllocError, Global};

@@ -1,6 +1,6 @@
 //! The command `verify`.
 
-ghost use Rattle.std.specs.Prelude.{◌≡◌, ◌≤◌, ◌⊎◌, [], IfOk, MatchOption, length, string_bytes};
+ghost use Rattle.std.specs.Prelude.{◌≡◌, ◌≤◌, ◌⊎◌, [], IfOk, length, string_bytes};
 ghost use Rattle.rmt_io.specs.Outside.{ShelfState, GainedNone, OnlyPrinted};
 ghost use Rattle.rmt_core.specs.Commands.{IsPossible, Verify};
 ghost use Rattle.rmt_core.specs.Ends.{ReadsAndPrints, outside};

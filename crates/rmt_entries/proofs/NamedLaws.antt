@@ -1,11 +1,12 @@
 -- Lines that are read by the names of tables.
-use Rattle.std.proofs.Common.{◌≡◌, ℕ, ◌<◌, ◌≤◌, ◌==◌, ◌&&◌, Bool, true, false, cond, List, [], ◌∷◌, Option, Some, Result, Ok, Err, IfOk, nat_lt, nat_le, length, map, option_map, find, get_or, refl, sym, ap, subst, ◌∙◌, arith}
-use Rattle.std.specs.Prelude.{All}
-use Rattle.std.specs.List.{list_all}
+use Rattle.std.proofs.Common.{◌≡◌, ℕ, ◌<◌, ◌≤◌, ◌==◌, ◌&&◌, Bool, true, false, cond, List, [], ◌∷◌, Option, Some, None, Result, Ok, Err, IfOk, nat_lt, nat_le, not, ◌+◌, length, map, option_map, find, get_or, slice_get, unwrap_or, refl, sym, ap, subst, ◌∙◌, arith}
+use Rattle.std.specs.Prelude.{All, position}
+use Rattle.std.specs.List.{list_all, position_or_len}
 use Rattle.std.specs.Str.{bytes_eq}
 use Rattle.std.proofs.lemmas.Bool.{and_parts, eq-eqb, eqb-true, leb-true, ltb-true}
 use Rattle.std.proofs.lemmas.List.{length-map}
 use Rattle.std.proofs.lemmas.List.Elements.{All-cons, All-map, All-nil}
+use Rattle.std.proofs.lemmas.Option.{slice_get-map, unwrap_or-slice_get}
 use Rattle.rmt_bits.proofs.AllLaws.{All-find, All-from_test}
 use Rattle.rmt_ast.specs.declared.entry.Entry.{Entry}
 use Rattle.rmt_ast.specs.declared.names.Names.{Names}
@@ -79,10 +80,29 @@ found_table names name = by names.tables
     by [] = refl
     by (t ∷ ts) = step (bytes_eq name t.name) t (table_named (map named_table ts) name) (find (λ (x : TableName). bytes_eq name x.name) ts) (by ts)
 
+found_formed : (names : Names) (name : List ℕ) (t : TableName) → names_are_formed names ≡ true → find (λ (x : TableName). bytes_eq name x.name) names.tables ≡ Some t → Formed t
+found_formed names name t h at = All-find Formed (λ (x : TableName). bytes_eq name x.name) names.tables t (formed_names names h).each at
+
+pub found_narrow : (names : Names) (name : List ℕ) (t : TableName) → names_are_formed names ≡ true → find (λ (x : TableName). bytes_eq name x.name) names.tables ≡ Some t → AreNarrow t.keys
+found_narrow names name t h at = narrow t.keys (found_formed names name t h at).widths
+
 pub found_readable : (names : Names) (name : List ℕ) (t : TableName) → names_are_formed names ≡ true → find (λ (x : TableName). bytes_eq name x.name) names.tables ≡ Some t → length t.actions < 4294967296
     → IsReadable (named_table t)
 found_readable names name t h at few =
-    readable_table t (All-find Formed (λ (x : TableName). bytes_eq name x.name) names.tables t (formed_names names h).each at) few
+    readable_table t (found_formed names name t h at) few
+
+-- the place of the first action of a name is that of the name among the names of the actions
+pub place_of_action : (q : List ℕ) (actions : List ActionName) → position (λ (a : ActionName). bytes_eq q a.name) actions ≡ position (bytes_eq q) (map action_word actions)
+place_of_action q actions = rw (same actions, length-map actions action_word) refl
+  where
+    same : (xs : List ActionName) → position_or_len (λ (a : ActionName). bytes_eq q a.name) xs ≡ position_or_len (bytes_eq q) (map action_word xs)
+    same [] = refl
+    same (x ∷ xs) = ap (λ (n : ℕ). cond (not (bytes_eq q x.name)) (1 + n) 0) (same xs)
+
+-- no action has no parameters
+pub params_of_none : (actions : List ActionName) (place : ℕ) → slice_get actions place ≡ None → get_or (map (λ (a : ActionName). a.params) actions) place [] ≡ []
+params_of_none actions place none =
+    sym (unwrap_or-slice_get (map (λ (a : ActionName). a.params) actions) place []) ∙ ap (λ (o : Option (List ℕ)). unwrap_or o []) (slice_get-map (λ (a : ActionName). a.params) actions place ∙ ap (option_map (λ (a : ActionName). a.params)) none)
 
 -- what follows from the first word
 module _ (tables : List AppliedTable) (n : ℕ) (name : List ℕ) (old rest : List (List ℕ)) (first : old ≡ name ∷ rest) (more : (length rest == 0) ≡ false) where

@@ -1,5 +1,5 @@
 -- When a line has no words.
-use Rattle.std.proofs.Common.{◌≡◌, ◌==◌, ℕ, suc, Bool, true, false, not, List, [], ◌∷◌, length, refl, sym, ap, ◌∙◌, inl, inr, one-add, arith}
+use Rattle.std.proofs.Common.{◌≡◌, ◌==◌, ℕ, suc, false, not, List, [], ◌∷◌, length, refl, sym, ap, ◌∙◌, inl, inr, one-add, arith}
 use Rattle.std.specs.List.{after_first, before_first, list_all, prefix_len}
 use Rattle.std.proofs.lemmas.Bool.{cases_Bool}
 use Rattle.std.proofs.lemmas.Bool.Decides.{nat_tests}

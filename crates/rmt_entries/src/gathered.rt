@@ -1,6 +1,6 @@
 //! The entries of the lines so far.
 
-ghost use Rattle.std.specs.Prelude.{◌≡◌, ◌<◌, ◌++◌, ◌∷◌, ◌&&◌, [], ℕ, Ok, Err, List, Option, length, IfOk, IfErr, OnOk};
+ghost use Rattle.std.specs.Prelude.{◌≡◌, ◌<◌, ◌++◌, ◌∷◌, ◌&&◌, [], Ok, Err, List, Option, length, IfOk, IfErr, OnOk};
 ghost use Rattle.rmt_ast.specs.declared.program.Kind.{Kind};
 ghost use Rattle.rmt_ast.specs.declared.entry.Entry.{Entry};
 ghost use Rattle.rmt_ast.specs.EntryLists.{Terms};

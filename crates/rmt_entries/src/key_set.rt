@@ -1,7 +1,7 @@
 //! A set of lists of numbers. Nearly each has a place of its own, one of a few that are found by its print; an ordered set
 //! has those whose places others took, so that no choice of lists makes it slow.
 
-ghost use Rattle.std.specs.Prelude.{◌≡◌, ◌<◌, ◌≤◌, ◌+◌, ◌*◌, ◌++◌, ◌∷◌, ℕ, Bool, List, Vec, cond, false, not, true, length, slice_index_or, IfOk, OnOk};
+ghost use Rattle.std.specs.Prelude.{◌≡◌, ◌<◌, ◌≤◌, ◌+◌, ◌*◌, ◌++◌, ◌∷◌, ℕ, List, Vec, cond, false, not, true, length, slice_index_or, IfOk, OnOk};
 ghost use Rattle.std.specs.Global.{Global};
 ghost use Rattle.std.specs.Str.{bytes_eq};
 ghost use Rattle.rmt_entries.specs.KeySets.{IsWhole, apart, has, list_at, mixed, near, place_of, spot_in, spot_of};

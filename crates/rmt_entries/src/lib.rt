@@ -8,6 +8,7 @@ pub mod key_set;
 mod keys;
 pub mod laws;
 mod line;
+mod line_table;
 pub mod named;
 mod numbers;
 mod tables;

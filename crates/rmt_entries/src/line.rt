@@ -1,18 +1,17 @@
 //! What a line says by itself.
 
 ghost use Rattle.std.specs.Prelude.{◌≡◌, ◌≤◌, ◌==◌, ◌∷◌, false, length, ℕ, List, Option, All, Some, Err, Ok, [], slice_index_or, IfOk, IfErr, MatchOption};
-ghost use Rattle.rmt_ast.specs.declared.program.Table.{Table};
 ghost use Rattle.rmt_ast.specs.EntryLists.{Terms};
 ghost use Rattle.rmt_entries.specs.declared.keys.Key.{Key};
 ghost use Rattle.rmt_entries.specs.Entries.{arguments, behind_key, of_table, read_words, with_arguments};
 ghost use Rattle.rmt_entries.specs.Lines.{is_printable};
 ghost use Rattle.rmt_entries.specs.NamedTables.{seen_table};
-ghost use Rattle.rmt_ast.specs.NameList.{seen};
 ghost use Rattle.rmt_entries.specs.LinesSoFar.{IsAppliedBy, IsBelow, IsFault, IsReadable};
 
 use crate::arguments::arguments;
 use crate::fault::EntryFault;
 use crate::keys::key_of;
+use crate::line_table::LineTable;
 use crate::tables::{NamedTable, Tables};
 use crate::words::Words;
 use rmt_ast::entry::Entry;
@@ -70,56 +69,46 @@ pub fn take_table<'t, 'a>(
 }
 
 /// Takes the name of an action of the table's list, and gives its place in the list.
-fn take_action(table: &NamedTable<'_>, words: &mut Words<'_>) -> Option<u32>
-    requires { IsReadable (seen_table table.now) }
+fn take_action<T: LineTable>(table: &T, words: &mut Words<'_>) -> Option<u32>
+    requires { IsReadable (T.applied table.now) }
     ensures action { (number : ℕ) (key : Key) → MatchOption result
-        (behind_key (seen_table table.now) number key words.old ≡ Err 4)
-        (λ action. behind_key (seen_table table.now) number key words.old ≡ with_arguments (seen_table table.now) number key action
-        (arguments (slice_index_or (seen table.now.params.items) action []) words.new)) }
+        (behind_key (T.applied table.now) number key words.old ≡ Err 4)
+        (λ action. behind_key (T.applied table.now) number key words.old ≡ with_arguments (T.applied table.now) number key action
+        (arguments (slice_index_or (T.applied table.now).terms.params action []) words.new)) }
 {
     let name = words.take()?;
-    match table.actions.number(name) {
+    match table.action(name) {
         Some(action) => Some(action as u32),
         None => None,
     }
 }
 
-/// The widths of the parameters of an action of the table's list.
-fn params_at<'a>(table: &NamedTable<'a>, action: u32) -> &'a [u8]
-    ensures { result.now ≡ slice_index_or (seen table.now.params.items) action [] }
-{
-    match table.params.get(action as usize) {
-        Some(params) => *params,
-        None => b"".as_slice(),
-    }
-}
-
 /// Reads the words behind a table's name as an entry of that number. The fault is of code 3 where they begin with no
 /// key of the table, of code 4 where no action of its list follows, and of code 5 where the arguments are wrong.
-pub fn read_entry(
+pub fn read_entry<T: LineTable>(
     alloc: Global,
-    table: &NamedTable<'_>,
+    table: &T,
     number: u32,
     words: &mut Words<'_>,
     line: u32,
 ) -> Result<Entry, EntryFault>
-    requires { IsReadable (seen_table table.now) }
-    ensures entry { IfOk result (λ entry. of_table number words.old (Some (seen_table table.now)) ≡
-        Ok (record { table = seen_table table.now; entry = entry })) }
+    requires { IsReadable (T.applied table.now) }
+    ensures entry { IfOk result (λ entry. of_table number words.old (Some (T.applied table.now)) ≡
+        Ok (record { table = T.applied table.now; entry = entry })) }
     ensures fault { IfErr result (λ fault. IsFault fault line (λ code.
-        of_table number words.old (Some (seen_table table.now)) ≡ Err code)) }
+        of_table number words.old (Some (T.applied table.now)) ≡ Err code)) }
 {
-    let Some(key) = key_of(alloc, table.kind, table.widths.as_slice(), words)? else {
+    let Some(key) = key_of(alloc, table.kind(), table.widths(), words)? else {
         return Err(EntryFault::At { code: 3, line });
     };
     let Some(action) = take_action(table, words) else {
         return Err(EntryFault::At { code: 4, line });
     };
-    let Some(args) = arguments(alloc, params_at(table, action), words)? else {
+    let Some(args) = arguments(alloc, table.params(action), words)? else {
         return Err(EntryFault::At { code: 5, line });
     };
     Ok(Entry {
-        table: table.node,
+        table: table.node(),
         number,
         tests: key.tests,
         rank: key.rank,

@@ -1,28 +1,24 @@
 //! Lines that are read by the names of tables, without their program.
 
-ghost use Rattle.std.specs.Prelude.{◌≡◌, ◌<◌, Ok, Err, IsTrue, Some, find, length, map, option_copied, IfErr, IfOk};
+ghost use Rattle.std.specs.Prelude.{◌≡◌, ◌<◌, Ok, Err, IsTrue, Some, find, length, option_copied, IfErr, IfOk};
 ghost use Rattle.std.specs.Str.{bytes_eq};
-ghost use Rattle.rmt_ast.specs.NameList.{seen};
-ghost use Rattle.rmt_ast.specs.declared.names.ActionName.{ActionName};
 ghost use Rattle.rmt_ast.specs.declared.names.TableName.{TableName};
 ghost use Rattle.rmt_ast.specs.NameRules.{names_are_formed};
 ghost use Rattle.rmt_entries.specs.Entries.{of_table, read_words};
 ghost use Rattle.rmt_entries.specs.Fault.{Gives};
 ghost use Rattle.rmt_entries.specs.LinesSoFar.{IsFault, IsReadable};
-ghost use Rattle.rmt_entries.specs.NamedLines.{IsNamedEntry, action_word, alone, key_of_table, key_words, named_entry, named_key, named_table, named_tables};
-ghost use Rattle.rmt_entries.specs.NamedTables.{seen_table};
+ghost use Rattle.rmt_entries.specs.NamedLines.{IsNamedEntry, alone, key_of_table, key_words, named_entry, named_key, named_table, named_tables};
+ghost use Rattle.rmt_entries.specs.Taken.{AreNarrow};
 
 use crate::fault::EntryFault;
 use crate::keys::key_of;
 use crate::line::{is_printable, read_entry, take_name};
-use crate::tables::NamedTable;
 use crate::words::Words;
 use rmt_ast::entry::Entry;
-use rmt_ast::name_list::NameList;
-use rmt_ast::names::{ActionName, Names, TableName};
+use rmt_ast::names::{Names, TableName};
 use rmt_ast::program::Test;
 use rmt_bits::sequence::Sequence;
-use std::alloc::{AllocError, Global};
+use std::alloc::Global;
 
 /// What a line says of an entry that is there: its table and its key.
 #[derive(Drop, Debug)]
@@ -52,8 +48,12 @@ pub fn entry(alloc: Global, names: &Names, line: &[u8]) -> Result<Entry, EntryFa
         return Err(EntryFault::At { code: 1, line: 1 });
     }
     let mut words = Words::of(line);
-    let table = take_named(alloc, names, &mut words)?;
-    read_entry(alloc, &table, 0, &mut words, 1)
+    let table = take_named(names, &mut words)?;
+    // An entry holds its action's place in 32 bits; a table with more actions counts as one that finds no memory.
+    if table.actions.len() > u32::MAX as usize {
+        return Err(EntryFault::NoMemory);
+    }
+    read_entry(alloc, table, 0, &mut words, 1)
 }
 
 /// The key of an entry that a line says by the names of the tables, which keep the rules that speak of names alone:
@@ -72,21 +72,21 @@ pub fn key(alloc: Global, names: &Names, line: &[u8]) -> Result<EntryName, Entry
         return Err(EntryFault::At { code: 1, line: 1 });
     }
     let mut words = Words::of(line);
-    let table = take_named(alloc, names, &mut words)?;
-    read_key(alloc, &table, &mut words)
+    let table = take_named(names, &mut words)?;
+    read_key(alloc, table, &mut words)
 }
 
 /// Reads all words behind a table's name as a key. The fault is of code 3 where they are none.
 fn read_key(
     alloc: Global,
-    table: &NamedTable<'_>,
+    table: &TableName,
     words: &mut Words<'_>,
 ) -> Result<EntryName, EntryFault>
-    requires { IsReadable (seen_table table.now) }
-    ensures key { IfOk result (λ key. key_of_table words.old (Some (seen_table table.now)) ≡ Ok key) }
-    ensures fault { IfErr result (λ fault. IsFault fault 1 (λ code. key_of_table words.old (Some (seen_table table.now)) ≡ Err code)) }
+    requires { AreNarrow table.now.keys }
+    ensures key { IfOk result (λ key. key_of_table words.old (Some (named_table table.now)) ≡ Ok key) }
+    ensures fault { IfErr result (λ fault. IsFault fault 1 (λ code. key_of_table words.old (Some (named_table table.now)) ≡ Err code)) }
 {
-    let Some(key) = key_of(alloc, table.kind, table.widths.as_slice(), words)? else {
+    let Some(key) = key_of(alloc, table.kind, table.keys.as_slice(), words)? else {
         return Err(EntryFault::At { code: 3, line: 1 });
     };
     if !words.is_empty() {
@@ -101,21 +101,18 @@ fn read_key(
 
 /// Takes the table that the words of a line name first. The fault is of code 1 where there are fewer than two words,
 /// and of code 2 where no table has the name.
-fn take_named<'a>(
-    alloc: Global,
-    names: &'a Names,
-    words: &mut Words<'_>,
-) -> Result<NamedTable<'a>, EntryFault>
+fn take_named<'a>(names: &'a Names, words: &mut Words<'_>) -> Result<&'a TableName, EntryFault>
     requires { IsTrue (names_are_formed names.now) }
-    ensures entry { IfOk result (λ t. read_words (named_tables names.now) 0 words.old ≡ of_table 0 words.new (Some (seen_table t))) }
-    ensures key { IfOk result (λ t. key_words (named_tables names.now) words.old ≡ key_of_table words.new (Some (seen_table t))) }
-    ensures readable { IfOk result (λ t. IsReadable (seen_table t)) }
+    ensures entry { IfOk result (λ t. read_words (named_tables names.now) 0 words.old ≡ of_table 0 words.new (Some (named_table t.now))) }
+    ensures key { IfOk result (λ t. key_words (named_tables names.now) words.old ≡ key_of_table words.new (Some (named_table t.now))) }
+    ensures narrow { IfOk result (λ t. AreNarrow t.now.keys) }
+    ensures readable { IfOk result (λ t. length t.now.actions < 4294967296 → IsReadable (named_table t.now)) }
     ensures fault { IfErr result (λ fault. IsFault fault 1 (λ code.
         (read_words (named_tables names.now) 0 words.old ≡ Err code) × (key_words (named_tables names.now) words.old ≡ Err code))) }
 {
     let name = take_name(words, 1)?;
     match table_named(names, name) {
-        Some(table) => Ok(named_table(alloc, table)?),
+        Some(table) => Ok(table),
         None => Err(EntryFault::At { code: 2, line: 1 }),
     }
 }
@@ -129,46 +126,4 @@ fn table_named<'a>(names: &'a Names, name: &[u8]) -> Option<&'a TableName>
         .as_slice()
         .iter()
         .find(|table| name == table.name.as_slice())
-}
-
-/// A table as lines see it. The only fault is want of memory, which actions without 32-bit places find too.
-fn named_table(alloc: Global, table: &TableName) -> Result<NamedTable<'_>, AllocError>
-    ensures seen { IfOk result (λ t. seen_table t ≡ named_table table.now) }
-    ensures few { IfOk result (λ t. length table.now.actions < 4294967296) }
-{
-    if table.actions.len() > u32::MAX as usize {
-        return Err(AllocError);
-    }
-    let names = action_words(alloc, table.actions.as_slice())?;
-    Ok(NamedTable {
-        node: table.node,
-        name: table.name.as_slice(),
-        kind: table.kind,
-        size: table.size,
-        widths: Vec::from_slice(alloc, table.keys.as_slice())?,
-        actions: NameList::of(alloc, names)?,
-        params: all_params(alloc, table.actions.as_slice())?,
-    })
-}
-
-/// The names of actions.
-fn action_words(alloc: Global, actions: &[ActionName]) -> Result<Vec<&[u8]>, AllocError>
-    ensures { IfOk result (λ words. seen words.items ≡ map action_word actions.now) }
-{
-    let mut words = Vec::new(alloc);
-    for action in actions {
-        words.push(action.name.as_slice())?;
-    }
-    Ok(words)
-}
-
-/// The widths of the parameters of actions.
-fn all_params(alloc: Global, actions: &[ActionName]) -> Result<Vec<&[u8]>, AllocError>
-    ensures { IfOk result (λ params. seen params.items ≡ map (λ (a : ActionName). a.params) actions.now) }
-{
-    let mut params = Vec::new(alloc);
-    for action in actions {
-        params.push(action.params.as_slice())?;
-    }
-    Ok(params)
 }

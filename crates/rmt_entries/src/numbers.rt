@@ -1,6 +1,6 @@
 //! The numbers that words say.
 
-ghost use Rattle.std.specs.Prelude.{◌≡◌, ◌+◌, ◌<◌, ◌≤◌, ◌^◌};
+ghost use Rattle.std.specs.Prelude.{◌≡◌, ◌+◌, ◌<◌, ◌≤◌};
 ghost use Rattle.rmt_bits.specs.Digits.{is_hex};
 ghost use Rattle.rmt_entries.specs.Numbers.{below, decimal, number, number_in, number_of_width};
 

@@ -1,6 +1,6 @@
 //! The tables of a program as their entries' lines see them.
 
-ghost use Rattle.std.specs.Prelude.{◌≡◌, ◌≤◌, length, map, IfOk, option_map, option_copied, slice_get};
+ghost use Rattle.std.specs.Prelude.{◌≡◌, ◌≤◌, length, map, IfOk, option_map, option_copied};
 ghost use Rattle.rmt_ast.specs.EntryLists.{params_of};
 ghost use Rattle.rmt_ast.specs.State.{width_of};
 ghost use Rattle.rmt_ast.specs.NameList.{seen};

@@ -1,6 +1,6 @@
 //! Entries of parsers that are joined: each case in which one isn't, and beside it one that just is.
 
-ghost use Rattle.std.specs.Prelude.{◌<◌, length};
+ghost use Rattle.std.specs.Prelude.{◌<◌};
 
 mod alike;
 mod hostile;

@@ -1,4 +1,5 @@
 pub mod FrontLaws
 pub mod LineLaws
 pub mod ReaderLaws
+mod TextExamples
 pub mod WaitingLaws

@@ -1,12 +1,12 @@
 -- The lines of a text that may be read, and their fronts.
-use Rattle.std.proofs.Common.{◌≡◌, ◌⊎◌, ⊎_elim, inl, inr, ℕ, ◌+◌, ◌<◌, ◌≤◌, List, [], ◌∷◌, ◌++◌, length, take, drop, refl, sym, ap, ◌∙◌, append-nil, take-append-drop}
+use Rattle.std.proofs.Common.{◌≡◌, ◌⊎◌, ⊎_elim, inl, inr, ℕ, ◌+◌, ◌<◌, ◌≤◌, List, [], ◌++◌, length, take, drop, sym, ap, ◌∙◌, append-nil, take-append-drop}
 use Rattle.std.proofs.lemmas.Bool.{cases_lt}
 use Rattle.rmt_bits.specs.Lines.{numbered_lines}
-use Rattle.rmt_packets.specs.Pieces.{ended_lines, feeds, front_of, open_line}
+use Rattle.rmt_packets.specs.Pieces.{ended_lines, feeds, open_line}
 use Rattle.rmt_packets.proofs.Cuts.{lines_go_on}
 use Rattle.rmt_runs.specs.declared.fault.RunFault.{RunFault}
 use Rattle.rmt_runs.specs.declared.fault.RunFault.TheVariants.{NoMemory, Read, TooLong, Write}
-use Rattle.rmt_runs.specs.TextLines.{ReadPast, ReadWhole, WereRead, fronts_of, lines_within}
+use Rattle.rmt_runs.specs.TextLines.{ReadPast, ReadWhole, fronts_of, lines_within}
 use Rattle.rmt_runs.proofs.ReaderLaws.{within_long, within_short}
 
 -- those within the limit are a front of all

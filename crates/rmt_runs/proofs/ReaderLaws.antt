@@ -1,5 +1,5 @@
 -- What a reader of the lines of a text in pieces stands for, step by step.
-use Rattle.std.proofs.Common.{◌≡◌, ℕ, ◌+◌, ◌-◌, ◌<◌, ◌≤◌, Bool, true, false, not, cond, List, [], ◌∷◌, ◌++◌, length, take, Option, Some, None, Ok, Err, IsTrue, refl, sym, ap, ◌∙◌, inl, inr, arith, length-append, append_assoc, append-nil, subst}
+use Rattle.std.proofs.Common.{◌≡◌, ℕ, ◌+◌, ◌-◌, ◌<◌, ◌≤◌, Bool, true, false, not, cond, List, [], ◌∷◌, ◌++◌, length, take, IsTrue, refl, sym, ap, ◌∙◌, inl, inr, arith, length-append, append_assoc, append-nil}
 use Rattle.std.specs.List.{enumerate_from, filter, onto_first}
 use Rattle.std.proofs.Math.Seq.{take-append-add, take-append_seam}
 use Rattle.std.proofs.lemmas.Bool.{cases_Bool, cases_lt, eqb-true, le-ltb, lt-ltb, true≢false}

@@ -10,7 +10,7 @@ use rmt_check::check;
 use rmt_lexer::fault::ProgramFault;
 use rmt_lexer::tokens;
 use rmt_syntax::syntax;
-use std::alloc::{AllocError, Global};
+use std::alloc::Global;
 use std::process::Abort;
 use std::test::*;
 

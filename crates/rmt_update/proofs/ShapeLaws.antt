@@ -1,11 +1,8 @@
 -- The shape of a part, and the cells in which a key may stand.
-use Rattle.std.proofs.Common.{◌≡◌, ℕ, ◌+◌, ◌-◌, ◌*◌, ◌^◌, ◌<◌, ◌≤◌, List, [], ◌∷◌, ◌++◌, true, refl, sym, ap, ◌∙◌, arith}
+use Rattle.std.proofs.Common.{◌≡◌, ℕ, ◌+◌, ◌*◌, ◌^◌, ◌<◌, ◌≤◌, List, true, refl, ap, ◌∙◌, arith}
 use Rattle.std.specs.List.{flat_map, range_with_len}
 use Rattle.std.proofs.lemmas.Bool.{and_parts}
-use Rattle.std.proofs.lemmas.Grind.{flat_map-append}
-use Rattle.std.proofs.lemmas.List.{append-nil}
 use Rattle.std.proofs.lemmas.Nat.{mul-le}
-use Rattle.rmt_bits.proofs.ListLaws.{range_more}
 use Rattle.rmt_bits.specs.Bits.{bytes_of}
 use Rattle.rmt_ast.specs.declared.program.Kind.{Kind}
 use Rattle.rmt_ast.specs.declared.program.Kind.TheVariants as kind
@@ -102,10 +99,3 @@ row-end way row rows per four low =
     let e : (way * rows + row + 1) * per ≡ (way * rows + row) * per + per = omega arith in
     let f : (4 * rows) * per ≡ 4 * (rows * per) = omega arith in
     omega (arith, le, e, f)
-
--- the rows of the ways so far, with one more
-pub ways-more : (row : ℕ → List ℕ) (all : List ℕ) (way : ℕ) → all ≡ flat_map row (range_with_len 0 way) → all ++ row way ≡ flat_map row (range_with_len 0 (way + 1))
-ways-more row all way so_far =
-    let at : 0 + way ≡ way = omega arith in
-    ap (λ (cs : List ℕ). cs ++ row way) so_far
-    ∙ sym (ap (flat_map row) (range_more 0 way ∙ ap (λ (k : ℕ). range_with_len 0 way ++ k ∷ []) at) ∙ flat_map-append row (range_with_len 0 way) (way ∷ []) ∙ ap (λ cs. flat_map row (range_with_len 0 way) ++ cs) (append-nil (row way)))

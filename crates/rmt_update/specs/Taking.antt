@@ -22,6 +22,7 @@ use Rattle.rmt_update.specs.Coming.{HasSizes, KeepsEntry}
 use Rattle.rmt_update.specs.Loads.{HasShape}
 use Rattle.rmt_update.specs.NextKept.{bit_of}
 use Rattle.rmt_update.specs.Open.{first_open}
+use Rattle.rmt_update.specs.PartShape.{cells_for}
 use Rattle.rmt_update.specs.RowIndex.{rows_of}
 use Rattle.rmt_update.specs.RowOrder.{AreInOrder, IsFirstFit, entry_key}
 use Rattle.rmt_update.specs.Spots.{spot_from}
@@ -31,6 +32,10 @@ use Rattle.rmt_update.specs.Spots.{spot_from}
 -- the cells of each part in which a key may stand
 abbrev pub candidates_at : ℕ → ℕ → List PartAt → List (List ℕ)
 candidates_at seed key ps = map (λ (p : PartAt). candidates seed (bits_of_lanes p.slot.keys) p.slot.memory key) ps
+
+-- the same by the shapes of the parts, for the bytes of the key
+abbrev pub cells_of_parts : ℕ → List ℕ → List PartCells → List (List ℕ)
+cells_of_parts seed key xs = map (λ (x : PartCells). cells_for seed key x.shape.grid) xs
 
 -- a further cell is given
 pub record IsGiven (old new : List (BTreeSet ℕ)) (s : Spot) : Type 0 where

@@ -114,6 +114,7 @@ impl Book {
         requires named { IsSome config.now.names }
         ensures stands { IfOk result (λ book. (names : NamesOf) → config.now.names ≡ Some names →
             BookStands config.now (own_cells config.now) (entries_spelled config.now names) book) }
+        ensures kept { IfOk result (λ book. IsSome book.index) }
         ensures fault { IfErr result (λ fault. fault ≡ UpdateFault.NoMemory) }
     {
         let names = names_of(config).copy(alloc)?;

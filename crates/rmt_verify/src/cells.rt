@@ -1,20 +1,17 @@
 //! Fourth part: the cells hold the entries.
 
-ghost use Rattle.std.specs.Prelude.{◌≡◌, ◌<◌, ◌↔◌, ◌^◌, ℕ, All, IfOk, IsOkUnless, IsTrue, List, Some, length, map, option_copied, slice_get, sum};
+ghost use Rattle.std.specs.Prelude.{◌≡◌, ◌<◌, ◌↔◌, ℕ, All, IfOk, IsOkUnless, IsTrue, List, Some, length, map, option_copied};
 ghost use Rattle.rmt_bits.specs.declared.fault.OutOfMemory.{OutOfMemory};
-ghost use Rattle.rmt_ast.specs.declared.entry.Entry.{Entry as EntryOf};
 ghost use Rattle.rmt_ast.specs.EntryLists.{AreEntries};
 ghost use Rattle.rmt_ast.specs.State.{width_of};
 ghost use Rattle.rmt_ast.specs.WellFormed.{IsProgram};
 ghost use Rattle.rmt_config.specs.Form.{Formed};
-ghost use Rattle.rmt_config.specs.Rooms.{parts_of as parts_of_node};
 ghost use Rattle.rmt_phv.specs.Places.{KeepsApart};
 ghost use Rattle.rmt_refine.specs.Cells.{CellsCarried};
-ghost use Rattle.rmt_refine.specs.Types.{Table as TableOf};
 ghost use Rattle.rmt_refine.specs.Units.{UnitsCarried, table_at as table_at_of};
 ghost use Rattle.rmt_refine.specs.View.{own_view};
 ghost use Rattle.rmt_refine.specs.declared.map.CellOf.{CellOf as CellOfMap};
-ghost use Rattle.rmt_verify.specs.CellsHeld.{TableHeld, TablesHeld};
+ghost use Rattle.rmt_verify.specs.CellsHeld.{TablesHeld};
 ghost use Rattle.rmt_verify.specs.TableKnown.{NodeKnown};
 ghost use Rattle.rmt_verify.specs.Told.{AreTold};
 

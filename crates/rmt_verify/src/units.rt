@@ -1,16 +1,14 @@
 //! Third part: the units of each stage are those of the nodes that stand there.
 
-ghost use Rattle.std.specs.Prelude.{◌≡◌, ◌<◌, ◌≢◌, ◌↔◌, ◌^◌, ℕ, Option, All, IfOk, IsOkUnless, IsSomeAnd, IsTrue, length, map, slice_get, slice_index_or};
-ghost use Rattle.std.specs.List.{AllZip};
+ghost use Rattle.std.specs.Prelude.{◌≡◌, ◌<◌, ◌≢◌, ◌↔◌, ◌^◌, ℕ, Option, IfOk, IsOkUnless, IsTrue, map, slice_index_or};
 ghost use Rattle.rmt_bits.specs.declared.fault.OutOfMemory.{OutOfMemory};
 ghost use Rattle.rmt_ast.specs.WellFormed.{IsProgram};
 ghost use Rattle.rmt_config.specs.Form.{Formed};
 ghost use Rattle.rmt_config.specs.declared.config.Stage.{Stage};
 ghost use Rattle.rmt_pack.specs.declared.placement.Part.{Part};
-ghost use Rattle.rmt_pack.specs.Starts.{stages_of};
 ghost use Rattle.rmt_phv.specs.Places.{KeepsApart};
-ghost use Rattle.rmt_refine.specs.Units.{UnitCarried, UnitsCarried, nodes_in};
-ghost use Rattle.rmt_verify.specs.EdgeSpans.{IsPartOf, no_span, span_of};
+ghost use Rattle.rmt_refine.specs.Units.{UnitsCarried};
+ghost use Rattle.rmt_verify.specs.EdgeSpans.{no_span};
 
 mod gate;
 mod quanta;

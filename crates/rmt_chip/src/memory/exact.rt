@@ -1,6 +1,6 @@
 //! Look-ups in the cells of an exact part, by the rows of its four ways.
 
-ghost use Rattle.std.specs.Prelude.{◌≡◌, ℕ, ◌+◌, ◌*◌, ◌<◌, ◌≤◌, true, false, length, IfSome};
+ghost use Rattle.std.specs.Prelude.{◌≡◌, ◌+◌, ◌*◌, ◌<◌, ◌≤◌, true, false, length, IfSome};
 ghost use Rattle.rmt_chip.specs.Searching.{FirstIn, HasCell, FirstByWays, FirstInWay};
 
 use crate::memory::runs::{Runs, run_at};

@@ -1,20 +1,19 @@
 //! The memory of a slot is laid out: room for all its cells, and what the listed ones hold.
 
-ghost use Rattle.std.specs.Prelude.{◌≡◌, ◌≢◌, ℕ, ◌+◌, ◌*◌, ◌^◌, ◌<◌, ◌≤◌, [], List, length, map, true, All, IfOk, slice_index};
+ghost use Rattle.std.specs.Prelude.{◌≡◌, ℕ, ◌+◌, ◌*◌, ◌^◌, ◌<◌, ◌≤◌, List, length, All, IfOk};
 ghost use Rattle.rmt_config.specs.declared.config.TcamRow.{TcamRow};
 ghost use Rattle.rmt_config.specs.declared.config.CellNumber.{CellNumber};
 ghost use Rattle.rmt_config.specs.declared.config.Memory.TheVariants.{Exact, Ternary};
-ghost use Rattle.rmt_config.specs.LaneForm.{bits_of_lanes};
 ghost use Rattle.rmt_config.specs.BlockCounts.{divided_up, record_width, record_units};
 ghost use Rattle.rmt_config.specs.Cells.{sram_row, cell_of, data_at};
 ghost use Rattle.rmt_config.specs.MemoryRules.{SramRows, FormedRows, ExactFits, TernaryFits};
-ghost use Rattle.rmt_chip.specs.Searching.{run_of};
-ghost use Rattle.rmt_chip.specs.Laying.{runs_of as runs_of_cells, cell_at, CellsPut, bytes_at};
-ghost use Rattle.rmt_chip.specs.Laid.{Laid, CellsLaid, NumbersLaid};
+ghost use Rattle.rmt_chip.specs.Laying.{runs_of as runs_of_cells, CellsPut};
+ghost use Rattle.rmt_chip.specs.Laid.{Laid, CellsLaid};
 ghost use Rattle.rmt_chip.specs.Memories.{NumbersFit, key_size, held_size};
 
 use crate::memory::SlotMemory;
 use crate::memory::changes::set_run;
+use crate::memory::entry_number::{number_bytes, number_size};
 use crate::memory::keys::Keys;
 use crate::memory::listed::runs_of;
 use crate::memory::marks::{Marks, marks_of};
@@ -32,13 +31,13 @@ pub fn without(alloc: Global) -> SlotMemory
     ensures key { key_size result ≡ 0 }
     ensures held { held_size result ≡ 0 }
     ensures cells { result.cells.count ≡ 0 }
-    ensures numbers { result.numbers.items ≡ [] }
 {
     SlotMemory {
         keys: Keys::Nothing,
         key_size: 0,
         stored: 0,
         held_size: 0,
+        number_size: 0,
         cells: Runs {
             size: 1,
             count: 0,
@@ -47,51 +46,48 @@ pub fn without(alloc: Global) -> SlotMemory
         marks: Marks {
             words: Vec::new(alloc),
         },
-        numbers: Vec::new(alloc),
     }
 }
 
-/// By cell the numbers of the entries of listed cells, where they are counted; else none.
-fn numbers_by_cell(
-    alloc: Global,
-    counted: bool,
+/// Writes the listed cells, each with so many bytes of its number at the end.
+fn put_listed(
+    cells: &mut Runs,
+    tail: usize,
     numbers: &[CellNumber],
-    count: usize,
-) -> Result<Vec<u32>, AllocError>
-    requires { All (λ (n : CellNumber). n.cell < count) numbers.now }
-    ensures { IfOk result (λ ns. counted ≡ true → NumbersLaid numbers.now count (length numbers.now) ns.items) }
-{
-    if !counted {
-        return Ok(Vec::new(alloc));
-    }
-    let mut entries = vec![in alloc; 0; count]?;
-    for at in 0..numbers.len() {
-        entries[numbers[at].cell as usize] = numbers[at].number;
-    }
-    Ok(entries)
-}
-
-/// Writes the listed cells.
-fn put_listed(cells: &mut Runs, numbers: &[CellNumber], heads: &Runs, keys: &Runs, held: &Runs)
+    heads: &Runs,
+    keys: &Runs,
+    held: &Runs,
+)
+    requires tail { tail ≤ 4 }
     requires heads { heads.now.count ≡ length numbers.now }
     requires keys { keys.now.count ≡ length numbers.now }
     requires held { held.now.count ≡ length numbers.now }
     requires head_size { heads.now.size ≡ 1 }
-    requires size { cells.old.size ≡ 1 + keys.now.size + held.now.size }
+    requires size { cells.old.size ≡ 1 + keys.now.size + held.now.size + tail }
     requires inside { All (λ (n : CellNumber). n.cell < cells.old.count) numbers.now }
-    ensures { CellsPut numbers.now heads.now keys.now held.now (length numbers.now) cells.old cells.new }
+    ensures { CellsPut tail numbers.now heads.now keys.now held.now (length numbers.now) cells.old cells.new }
 {
     for at in 0..numbers.len() {
         let head = run_at(heads, at)[0];
         let cell = numbers[at].cell as usize;
-        set_run(cells, cell, head, run_at(keys, at), run_at(held, at));
+        let number = number_bytes(numbers[at].number);
+        set_run(
+            cells,
+            cell,
+            head,
+            run_at(keys, at),
+            run_at(held, at),
+            &number[..tail],
+        );
     }
 }
 
-/// That many cells, of which the listed ones have these heads, keys and data, and no other is occupied.
+/// That many cells, of which the listed ones have these heads, keys and data, and so many bytes of their
+/// numbers, and no other is occupied.
 fn cells_of(
     alloc: Global,
     count: usize,
+    tail: usize,
     numbers: &[CellNumber],
     heads: &Runs,
     keys: &Runs,
@@ -103,11 +99,12 @@ fn cells_of(
     requires head_size { heads.now.size ≡ 1 }
     requires inside { All (λ (n : CellNumber). n.cell < count) numbers.now }
     requires few { count < 2 ^ 40 }
+    requires tail { tail ≤ 4 }
     requires short { keys.now.size + held.now.size < 2 ^ 20 }
-    ensures { IfOk result (λ cells. CellsLaid numbers.now heads.now keys.now held.now count cells) }
+    ensures { IfOk result (λ cells. CellsLaid tail numbers.now heads.now keys.now held.now count cells) }
 {
-    let mut cells = zeros(alloc, 1 + keys.size + held.size, count)?;
-    put_listed(&mut cells, numbers, heads, keys, held);
+    let mut cells = zeros(alloc, 1 + keys.size + held.size + tail, count)?;
+    put_listed(&mut cells, tail, numbers, heads, keys, held);
     Ok(cells)
 }
 
@@ -166,9 +163,9 @@ pub fn lay_exact(
     let found = runs_of(alloc, &layout, keys, rows, numbers, 8, bits)?;
     let held = exact_data(alloc, rows, numbers, per, quanta, slot.held, records)?;
     let count = 4096 * quanta as usize * per as usize;
-    let cells = cells_of(alloc, count, numbers, &heads, &found, &held)?;
+    let tail = number_size(slot.counted);
+    let cells = cells_of(alloc, count, tail, numbers, &heads, &found, &held)?;
     let marks = marks_of(alloc, &cells, found.size)?;
-    let entries = numbers_by_cell(alloc, slot.counted, numbers, count)?;
     let ways = PartWays {
         first: first_way,
         rows: 1024 * quanta as u32,
@@ -179,9 +176,9 @@ pub fn lay_exact(
         key_size: found.size,
         stored: found.size,
         held_size: held.size,
+        number_size: tail,
         cells,
         marks,
-        numbers: entries,
     })
 }
 
@@ -218,16 +215,16 @@ pub fn lay_ternary(
         count,
     )?;
     let none = no_runs(alloc, numbers.len());
-    let cells = cells_of(alloc, count, numbers, &heads, &none, &held)?;
+    let tail = number_size(slot.counted);
+    let cells = cells_of(alloc, count, tail, numbers, &heads, &none, &held)?;
     let marks = marks_of(alloc, &cells, 0)?;
-    let entries = numbers_by_cell(alloc, slot.counted, numbers, count)?;
     Ok(SlotMemory {
         keys: Keys::InVectors(sliced),
         key_size: ((bits + 7) / 8) as usize,
         stored: 0,
         held_size: held.size,
+        number_size: tail,
         cells,
         marks,
-        numbers: entries,
     })
 }

@@ -29,7 +29,7 @@ pub struct Sliced {
 }
 
 impl Sliced {
-    ghost use Rattle.std.specs.Prelude.{◌<◌, ℕ, List, length, Option, Some, None, replicate, slice_index, slice_set, IfOk, IfSome, ◌/◌, if◌then◌else◌};
+    ghost use Rattle.std.specs.Prelude.{◌<◌, ℕ, List, length, Option, Some, None, replicate, slice_index, IfOk, IfSome, ◌/◌, if◌then◌else◌};
     ghost use Rattle.std.specs.Int.{bit_at};
     ghost use Rattle.rmt_bits.specs.Grouping.{Compared};
     ghost use Rattle.rmt_chip.specs.Searching.{FirstIn};

@@ -3,7 +3,7 @@
 ghost use Rattle.std.specs.Prelude.{◌≡◌, ℕ, ◌+◌, ◌*◌, ◌/◌, ◌%◌, ◌^◌, ◌<◌, ◌≤◌, List, length, map, All, IfOk, Option, Some, None, IfSome, if◌then◌else◌};
 ghost use Rattle.std.specs.List.{range_with_len};
 ghost use Rattle.rmt_bits.specs.Bits.{slice as slice_of, number_of};
-ghost use Rattle.rmt_config.specs.Cells.{tcam_row, blocks_at};
+ghost use Rattle.rmt_config.specs.Cells.{tcam_row};
 ghost use Rattle.rmt_config.specs.declared.config.TcamRow.{TcamRow};
 ghost use Rattle.rmt_config.specs.declared.config.CellNumber.{CellNumber};
 ghost use Rattle.rmt_chip.specs.Laying.{TcamRows};

@@ -1,6 +1,6 @@
 //! Entering the packets of a text that lies in memory.
 
-ghost use Rattle.std.specs.Prelude.{◌≡◌, ◌≤◌, ◌<◌, ◌^◌, ◌∷◌, ◌++◌, ℕ, List, [], Option, None, Some, Ok, IfOk, OnOk, length, map};
+ghost use Rattle.std.specs.Prelude.{◌≡◌, ◌<◌, ◌^◌, ◌∷◌, ◌++◌, List, [], Option, None, Some, Ok, OnOk, length, map};
 ghost use Rattle.rmt_bits.specs.Packet.{Packet};
 ghost use Rattle.rmt_chip.specs.Stands.{entered_of};
 ghost use Rattle.rmt_config.specs.declared.config.Config.{Config};

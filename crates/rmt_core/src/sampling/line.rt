@@ -10,7 +10,7 @@ ghost use Rattle.rmt_core.specs.Sampling.{answers_line, bytes_part, counts_line,
 ghost use Rattle.rmt_core.specs.Tallies.{IsBounded};
 
 use crate::sampling::enter::run_packets;
-use crate::sampling::run::{CountedRun, start};
+use crate::sampling::run::start;
 use crate::sampling::tally::Tally;
 use rmt_chip::chip::Chip;
 use rmt_config::config::Config;

@@ -1,6 +1,6 @@
 //! A run of the chip of which only counts are kept.
 
-ghost use Rattle.std.specs.Prelude.{◌≡◌, ◌≤◌, ◌<◌, ◌^◌, ◌+◌, ◌++◌, ◌∷◌, ℕ, List, [], Option, None, length, replicate, IfOk};
+ghost use Rattle.std.specs.Prelude.{◌<◌, ◌^◌, ◌+◌, ◌++◌, ◌∷◌, List, [], Option, None, length, replicate, IfOk};
 ghost use Rattle.rmt_bits.specs.Packet.{Packet};
 ghost use Rattle.rmt_chip.specs.Inputs.{input_of, MayEnter};
 ghost use Rattle.rmt_chip.specs.PacketRuns.{StandsFor as Stands};

@@ -1,7 +1,7 @@
 //! The files of the ports.
 
 ghost use Rattle.std.specs.Prelude.{◌≡◌, IfOk, string_bytes};
-ghost use Rattle.rmt_core.specs.Switching.{port_name, port_write, port_writes};
+ghost use Rattle.rmt_core.specs.Switching.{port_write, port_writes};
 ghost use Rattle.rmt_core.specs.Writing.{write_of, writes_of};
 
 use crate::writing::NewFile;

@@ -1,6 +1,6 @@
 //! Where the cells of a book are found, kept from commit to commit.
 
-ghost use Rattle.std.specs.Prelude.{◌≡◌, ◌++◌, ◌∷◌, [], IfOk, List, None, OnOk};
+ghost use Rattle.std.specs.Prelude.{◌≡◌, ◌++◌, ◌∷◌, [], IfOk, IsSome, List, None, OnOk};
 ghost use Rattle.std.specs.List.{AllZip};
 ghost use Rattle.rmt_ast.specs.declared.entry.Entry.{Entry as EntryOf};
 ghost use Rattle.rmt_config.specs.RunCells.{RunCells};
@@ -132,7 +132,8 @@ impl Book {
     /// Keeps an index, so that the next commit has none to make. The only fault is want of memory.
     pub fn keep_index(&mut self, alloc: Global) -> Result<(), AllocError>
         requires { (c : ConfigOf) × (cells : RunCells) × (lists : List (List EntryOf)) × BookStands c cells lists self.old }
-        ensures { OnOk result ((c : ConfigOf) (cells : RunCells) (lists : List (List EntryOf)) → BookStands c cells lists self.old → BookStands c cells lists self.new) }
+        ensures stands { OnOk result ((c : ConfigOf) (cells : RunCells) (lists : List (List EntryOf)) → BookStands c cells lists self.old → BookStands c cells lists self.new) }
+        ensures has { OnOk result (IsSome self.new.index) }
     {
         let index = self.take_index(alloc)?;
         self.index = Some(index);

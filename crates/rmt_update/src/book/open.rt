@@ -1,12 +1,17 @@
 //! The cells that are free for an entry that comes.
 
-ghost use Rattle.std.specs.Prelude.{◌≡◌, find, length};
+ghost use Rattle.std.specs.Prelude.{◌≡◌, ◌+◌, ◌^◌, ◌<◌, find, length};
+ghost use Rattle.std.specs.List.{range_with_len};
 ghost use Rattle.rmt_update.specs.Open.{first_open as first_open_of, is_open as is_open_of};
+ghost use Rattle.rmt_update.specs.PartShape.{cells_for, row_cells};
+ghost use Rattle.rmt_update.specs.Taking.{cells_of_parts};
 
+use crate::book::grid::Grid;
 use crate::book::seen::is_seen;
 use crate::book::spots::Spot;
 use crate::book::table::PartCells;
-use rmt_bits::answer::Numbers;
+use rmt_config::part_ways::PartWays;
+use rmt_config::way_rows::row_of;
 use std::collections::BTreeSet;
 
 /// Whether a cell is free: the version doesn't see it, and this commit hasn't given it.
@@ -20,31 +25,94 @@ fn is_open(odd: bool, part: &PartCells, given: &BTreeSet<u32>, cell: u32) -> boo
     !seen && !given.contains(&cell)
 }
 
-/// The first free one of some cells.
-fn first_open(odd: bool, part: &PartCells, given: &BTreeSet<u32>, cells: &[u32]) -> Option<u32>
-    ensures { result ≡ find (is_open_of odd part.now given.now) cells.now }
+/// The first free one of so many cells, from one on.
+fn first_open(
+    odd: bool,
+    part: &PartCells,
+    given: &BTreeSet<u32>,
+    first: u32,
+    count: u32,
+) -> Option<u32>
+    requires { first + count < 2 ^ 32 }
+    ensures { result ≡ find (is_open_of odd part.now given.now) (range_with_len first count) }
 {
-    for cell in cells {
-        if is_open(odd, part, given, *cell) {
-            return Some(*cell);
+    let end = first + count;
+    for cell in first..end {
+        if is_open(odd, part, given, cell) {
+            return Some(cell);
         }
     }
     None
 }
 
-/// The first free one among some cells of each part, over the parts in order.
+/// The first free cell of the row that a key has in a way.
+fn open_in_way(
+    odd: bool,
+    seed: u8,
+    part: &PartCells,
+    given: &BTreeSet<u32>,
+    key: &[u8],
+    ways: PartWays,
+    way: u8,
+) -> Option<u32>
+    requires { way < 4 }
+    ensures { result ≡ find (is_open_of odd part.now given.now) (row_cells seed key.now ways.first ways.rows ways.per way) }
+{
+    let per = ways.per as u32;
+    first_open(odd, part, given, row_of(ways, seed, key, way) * per, per)
+}
+
+/// The first free cell of the rows that a key has in four ways.
+fn open_in_ways(
+    odd: bool,
+    seed: u8,
+    part: &PartCells,
+    given: &BTreeSet<u32>,
+    key: &[u8],
+    ways: PartWays,
+) -> Option<u32>
+    ensures { result ≡ find (is_open_of odd part.now given.now) (cells_for seed key.now (Grid.Ways ways)) }
+{
+    for way in 0..4 {
+        let found = open_in_way(odd, seed, part, given, key, ways, way);
+        if let Some(cell) = found {
+            return Some(cell);
+        }
+    }
+    None
+}
+
+/// The first free one of the cells of a part in which a key may stand under a seed: those of its rows in the ways of an
+/// exact part, and all rows of another. The key is as its bytes, the highest first.
+fn open_in_part(
+    odd: bool,
+    seed: u8,
+    part: &PartCells,
+    given: &BTreeSet<u32>,
+    key: &[u8],
+) -> Option<u32>
+    ensures { result ≡ find (is_open_of odd part.now given.now) (cells_for seed key.now part.now.shape.grid) }
+{
+    match part.shape.grid {
+        Grid::Ways(ways) => open_in_ways(odd, seed, part, given, key, ways),
+        Grid::Rows(rows) => first_open(odd, part, given, 0, rows),
+    }
+}
+
+/// The first free one of the cells in which a key may stand under a seed, over the parts in order. A way's row is looked
+/// for only where no cell before it is free.
 pub fn open_cell(
     odd: bool,
+    seed: u8,
     parts: &[PartCells],
     given: &[BTreeSet<u32>],
-    cells: &[Numbers],
+    key: &[u8],
 ) -> Option<Spot>
-    requires given { length given.now ≡ length parts.now }
-    requires cells { length cells.now ≡ length parts.now }
-    ensures { result ≡ first_open_of odd 0 parts.now given.now cells.now }
+    requires { length given.now ≡ length parts.now }
+    ensures { result ≡ first_open_of odd 0 parts.now given.now (cells_of_parts seed key.now parts.now) }
 {
     for at in 0..parts.len() {
-        let found = first_open(odd, &parts[at], &given[at], cells[at].as_slice());
+        let found = open_in_part(odd, seed, &parts[at], &given[at], key);
         if let Some(cell) = found {
             return Some(Spot { part: at, cell });
         }

@@ -1,8 +1,7 @@
 //! The entries that a version sees.
 
-ghost use Rattle.std.specs.Prelude.{◌≡◌, ◌==◌, ◌++◌, All, IfOk, IsTrue, List, OnOk, find, option_copied};
+ghost use Rattle.std.specs.Prelude.{◌≡◌, ◌==◌, ◌++◌, All, IfOk, IsTrue, OnOk, find, option_copied};
 ghost use Rattle.rmt_ast.specs.NameRules.{table_is_formed};
-ghost use Rattle.rmt_ast.specs.declared.entry.Entry.{Entry as EntryOf};
 ghost use Rattle.rmt_config.specs.NamesForm.{by_number};
 ghost use Rattle.rmt_update.specs.Seen.{IsReadable, entries_at as entries_at_of, entries_by_part, entries_in, is_seen as is_seen_of};
 ghost use Rattle.rmt_update.specs.declared.book.table.TableCells.{TableCells as TableOf};

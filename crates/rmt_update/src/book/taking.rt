@@ -1,46 +1,20 @@
 //! The cell that one entry takes.
 
-ghost use Rattle.std.specs.Prelude.{◌≡◌, ◌<◌, ◌≤◌, ℕ, All, IfOk, IfSome, IsTrue, List, OnOk, length, sum};
+ghost use Rattle.std.specs.Prelude.{◌≡◌, ◌<◌, ◌≤◌, IfOk, IfSome, IsTrue, OnOk, length, sum};
 ghost use Rattle.std.specs.List.{AllZip};
-ghost use Rattle.rmt_bits.specs.Bits.{bytes_of};
 ghost use Rattle.rmt_ast.specs.NameRules.{table_is_formed};
 ghost use Rattle.rmt_ast.specs.WellFormed.{IsTest};
-ghost use Rattle.rmt_config.specs.LaneForm.{bits_of_lanes};
-ghost use Rattle.rmt_config.specs.Rooms.{PartAt};
-ghost use Rattle.rmt_config.specs.BlockCounts.{divided_up};
-ghost use Rattle.rmt_update.specs.Loads.{HasShape};
-ghost use Rattle.rmt_update.specs.Taking.{HaveRoom, IsGiven, MayGive, TakesFrom, TakesOpen, TakesRow, candidates_at};
+ghost use Rattle.rmt_update.specs.Taking.{HaveRoom, IsGiven, MayGive, TakesFrom, TakesOpen, TakesRow};
 
 use crate::book::index::TableIndex;
 use crate::book::loading::key_of;
 use crate::book::open::open_cell;
 use crate::book::row_order::{RowOrder, row_key};
 use crate::book::spots::{Spot, spot_of};
-use crate::book::table::{PartCells, TableCells};
+use crate::book::table::TableCells;
 use rmt_ast::entry::Entry;
-use rmt_bits::answer::Numbers;
-use rmt_bits::sequence::Sequence;
 use std::alloc::{AllocError, Global};
 use std::collections::BTreeSet;
-
-/// The cells of each part in which a key may stand under a seed. The only fault is want of memory.
-fn candidates_in(
-    alloc: Global,
-    seed: u8,
-    parts: &[PartCells],
-    key: &[u8],
-) -> Result<Vec<Numbers>, AllocError>
-    ensures count { IfOk result (λ cells. length cells.items ≡ length parts.now) }
-    ensures cells { IfOk result (λ cells. (ps : List PartAt) (number : ℕ) → AllZip HasShape ps parts.now →
-        All (λ (p : PartAt). key.now ≡ bytes_of (divided_up (bits_of_lanes p.slot.keys) 8) number) ps → cells.items ≡ candidates_at seed number ps) }
-{
-    let mut cells = Vec::with_capacity(alloc, parts.len())?;
-    for part in parts {
-        let own = part.shape.candidates(alloc, seed, key)?;
-        cells.push(Sequence::from_vec(own))?;
-    }
-    Ok(cells)
-}
 
 /// Gives a cell of an exact table. The only fault is want of memory.
 fn give(given: &mut Vec<BTreeSet<u32>>, spot: Spot) -> Result<(), AllocError>
@@ -70,8 +44,7 @@ fn take_open(
 {
     let parts = table.parts.as_slice();
     let key = key_of(alloc, &table.name, entry)?;
-    let cells = candidates_in(alloc, seed, parts, key.as_slice())?;
-    let Some(spot) = open_cell(odd, parts, given.as_slice(), cells.as_slice()) else {
+    let Some(spot) = open_cell(odd, seed, parts, given.as_slice(), key.as_slice()) else {
         return Ok(None);
     };
     give(given, spot)?;

@@ -1,17 +1,16 @@
 //! What a cell of a part holds, against an entry.
 
-ghost use Rattle.std.specs.Prelude.{◌≡◌, ◌==◌, ◌↔◌, ℕ, ◌+◌, ◌-◌, ◌*◌, ◌/◌, ◌%◌, ◌^◌, ◌<◌, ◌≤◌, All, Contains, IfOk, IsTrue, List, length, sum};
+ghost use Rattle.std.specs.Prelude.{◌≡◌, ◌==◌, ◌↔◌, ℕ, ◌+◌, ◌-◌, ◌*◌, ◌/◌, ◌%◌, ◌^◌, ◌<◌, ◌≤◌, Contains, IfOk, IsTrue, List, length, sum};
 ghost use Rattle.rmt_bits.specs.Bits.{number_of};
 ghost use Rattle.rmt_bits.specs.Hash.{hash_row as hash_row_of};
 ghost use Rattle.rmt_ast.specs.declared.program.Test.{Test};
-ghost use Rattle.rmt_config.specs.Cells.{blocks_at, candidates, cell_of, data_at, exact_content, sram_row, tcam_row, ternary_content, unit_row};
+ghost use Rattle.rmt_config.specs.Cells.{candidates, cell_of, data_at, exact_content, sram_row, ternary_content};
 ghost use Rattle.rmt_config.specs.LaneForm.{bits_of_lanes};
 ghost use Rattle.rmt_config.specs.MemoryRules.{ExactFits, FormedRows, SramRows, TernaryFits};
 ghost use Rattle.rmt_config.specs.PrefixRow.{PrefixRows};
 ghost use Rattle.rmt_config.specs.Rooms.{tests_as_one};
-ghost use Rattle.rmt_config.specs.BlockCounts.{divided_up as divided_up_of, record_units, record_width};
+ghost use Rattle.rmt_config.specs.BlockCounts.{record_units, record_width};
 ghost use Rattle.rmt_config.specs.declared.config.Memory.TheVariants.{Exact};
-ghost use Rattle.rmt_config.specs.declared.config.TcamRow.{TcamRow as TcamRowOf};
 ghost use Rattle.rmt_verify.specs.Wanted.{IsWanted, Matches};
 
 use crate::cells::fields::{are_arguments, are_tests};

@@ -1,6 +1,6 @@
 //! The entries of a table, by their numbers and in the order of their rows.
 
-ghost use Rattle.std.specs.Prelude.{◌≡◌, ◌≢◌, ◌<◌, ◌↔◌, ℕ, All, AllPairs, Contains, IsTrue, MatchOption, length, option_copied};
+ghost use Rattle.std.specs.Prelude.{◌≡◌, ◌≢◌, ◌<◌, ◌↔◌, All, AllPairs, Contains, IsTrue, MatchOption, length, option_copied};
 ghost use Rattle.rmt_ast.specs.RowOrder.{goes_first as goes_first_of};
 ghost use Rattle.rmt_ast.specs.declared.entry.Entry.{Entry as EntryOf};
 ghost use Rattle.rmt_config.specs.Commits.{all_entries};

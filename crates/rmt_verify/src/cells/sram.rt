@@ -1,6 +1,6 @@
 //! What entries of a layout hold in SRAM, as bytes.
 
-ghost use Rattle.std.specs.Prelude.{◌≡◌, ◌+◌, ◌*◌, ◌/◌, ◌%◌, ◌≤◌, ◌<◌, ◌^◌, IfOk, length};
+ghost use Rattle.std.specs.Prelude.{◌≡◌, ◌+◌, ◌*◌, ◌/◌, ◌%◌, ◌≤◌, ◌<◌, IfOk, length};
 ghost use Rattle.rmt_bits.specs.Bits.{bytes_of, number_of, slice as slice_of};
 ghost use Rattle.rmt_config.specs.Cells.{sram_row};
 ghost use Rattle.rmt_config.specs.Layouts.{IsInSram, entry_in, local_of, quantum_of};

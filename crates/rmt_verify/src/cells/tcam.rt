@@ -1,7 +1,7 @@
 //! What rows of TCAM compare, against the words of an entry.
 
-ghost use Rattle.std.specs.Prelude.{◌≡◌, ◌↔◌, ◌+◌, ◌*◌, ◌<◌, ◌≤◌, IsTrue, length, map};
-ghost use Rattle.rmt_config.specs.Cells.{blocks_at, tcam_row};
+ghost use Rattle.std.specs.Prelude.{◌≡◌, ◌↔◌, ◌*◌, ◌<◌, IsTrue, map};
+ghost use Rattle.rmt_config.specs.Cells.{tcam_row};
 ghost use Rattle.rmt_config.specs.PrefixRow.{PrefixRows};
 ghost use Rattle.rmt_config.specs.declared.config.TcamRow.{TcamRow as TcamRowOf};
 ghost use Rattle.rmt_verify.specs.Wanted.{word_in};

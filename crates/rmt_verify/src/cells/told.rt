@@ -1,6 +1,6 @@
 //! Where a map says that entries stand.
 
-ghost use Rattle.std.specs.Prelude.{◌≡◌, ◌↔◌, List, AllPairs, Contains, IfOk, IsTrue, MatchOption};
+ghost use Rattle.std.specs.Prelude.{◌↔◌, List, AllPairs, Contains, IfOk, IsTrue, MatchOption};
 ghost use Rattle.rmt_refine.specs.declared.map.CellOf.{CellOf as CellOfMap};
 ghost use Rattle.rmt_verify.specs.Told.{AreTold, TellApart};
 

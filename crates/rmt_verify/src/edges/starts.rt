@@ -1,6 +1,6 @@
 //! Starts that rise from 0.
 
-ghost use Rattle.std.specs.Prelude.{◌≡◌, ◌<◌, ◌↔◌, ℕ, IsTrue, length, slice_index};
+ghost use Rattle.std.specs.Prelude.{◌<◌, ◌↔◌, ℕ, IsTrue, length, slice_index};
 ghost use Rattle.rmt_verify.specs.EdgeSpans.{Rise};
 
 /// Whether each start is greater than the one before it.

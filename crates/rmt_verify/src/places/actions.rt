@@ -1,9 +1,8 @@
 //! Fields that one action writes.
 
-ghost use Rattle.std.specs.Prelude.{◌≡◌, ◌≢◌, ◌↔◌, All, IsTrue};
+ghost use Rattle.std.specs.Prelude.{All};
 ghost use Rattle.rmt_ast.specs.declared.program.Assign.{Assign};
-ghost use Rattle.rmt_ast.specs.Places.{lanes_of};
-ghost use Rattle.rmt_phv.specs.Places.{ShareNoWord, WritesApart};
+ghost use Rattle.rmt_phv.specs.Places.{WritesApart};
 ghost use Rattle.rmt_verify.specs.WrittenApart.{AreApartFrom};
 
 use crate::all::{Test, all_pass};

@@ -1,6 +1,5 @@
 //! Headers that are sent by the lanes of their fields.
 
-ghost use Rattle.std.specs.Prelude.{◌≡◌, ◌↔◌, IsTrue};
 ghost use Rattle.rmt_refine.specs.Places.{HeaderCarried};
 
 use crate::all::TestOfPair;

@@ -1,9 +1,8 @@
 //! Lanes that lie in words, apart from one another.
 
-ghost use Rattle.std.specs.Prelude.{◌≡◌, ◌≢◌, ◌↔◌, All, AllPairs, IsTrue, map};
+ghost use Rattle.std.specs.Prelude.{◌≢◌, ◌↔◌, All, IsTrue, map};
 ghost use Rattle.rmt_bits.specs.declared.lane.Lane.{Lane};
 ghost use Rattle.rmt_ast.specs.WellFormed.{AreDistinct};
-ghost use Rattle.rmt_phv.specs.Packing.{pieces};
 ghost use Rattle.rmt_phv.specs.Places.{AreApart, LiesInWord, ShareNoWord};
 
 use crate::all::{Test, TestOfTwo, all_pass, every_two};

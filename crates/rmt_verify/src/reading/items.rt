@@ -1,6 +1,6 @@
 //! Lists of items behind their counts.
 
-ghost use Rattle.std.specs.Prelude.{◌≡◌, ◌≤◌, length};
+ghost use Rattle.std.specs.Prelude.{◌≤◌, length};
 ghost use Rattle.rmt_verify.specs.Readers.{Reader, Gives, items_at, listed, byte_at, two_at, four_at};
 
 use crate::fault::MapFault;

@@ -1,6 +1,5 @@
 //! The lists of a map.
 
-ghost use Rattle.std.specs.Prelude.{◌≡◌};
 ghost use Rattle.rmt_verify.specs.Readers.{Gives};
 ghost use Rattle.rmt_verify.specs.Reading.{lane_at, lanes_at, join_at, part_at, start_at, cell_at, lists_at};
 

@@ -1,6 +1,5 @@
 //! Numbers at the front of a map's bytes, highest byte first.
 
-ghost use Rattle.std.specs.Prelude.{◌≡◌};
 ghost use Rattle.rmt_verify.specs.Readers.{Gives, byte_at, two_at, four_at};
 
 use crate::fault::MapFault;

@@ -2,7 +2,7 @@ use Rattle.std.proofs.Common.{◌≡◌, ℕ, suc, ◌+◌, ◌-◌, true, false
 use Rattle.rmt_chip.specs.Types.{Config}
 use Rattle.rmt_chip.specs.declared.packet_slot.PacketSlot.{PacketSlot}
 use Rattle.rmt_chip.specs.Held.{Entered, HoldsIf}
-use Rattle.rmt_chip.specs.Ring.{now, next, oldest_below}
+use Rattle.rmt_chip.specs.Ring.{oldest_below}
 use Rattle.rmt_chip.proofs.ring.oldest.Goals as goal
 use Rattle.rmt_chip.proofs.RingLaws.{held_at}
 

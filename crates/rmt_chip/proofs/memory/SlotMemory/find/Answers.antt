@@ -1,7 +1,10 @@
-use Rattle.std.proofs.Common.{◌≡◌, ℕ, suc, ◌+◌, List, ◌∷◌, ◌++◌, get_or, drop, Bool, true, false, Option, Some, None, sym, refl, ap, ◌∙◌, subst, arith}
+use Rattle.std.proofs.Common.{◌≡◌, ℕ, suc, ◌+◌, List, ◌∷◌, ◌++◌, length, get_or, take, drop, Bool, true, false, Option, Some, None, sym, refl, ap, ◌∙◌, subst, arith}
 use Rattle.std.specs.Prelude.{find, option_map}
+use Rattle.std.specs.Int.{from_be_bytes, w32}
 use Rattle.std.proofs.lemmas.Bool.{and_parts}
-use Rattle.std.proofs.Math.Seq.{drop-append_seam}
+use Rattle.std.proofs.lemmas.List.{drop-drop}
+use Rattle.std.proofs.lemmas.Nat.{from_be_bytes-to_be_bytes_4}
+use Rattle.std.proofs.Math.Seq.{drop-append_seam, take-append_seam}
 use Rattle.rmt_bits.specs.Bits.{bytes_of, number_of}
 use Rattle.rmt_bits.proofs.ByteLaws.{length-bytes_of, number_of-bytes_of}
 use Rattle.rmt_config.specs.LaneForm.{bits_of_lanes}
@@ -10,6 +13,7 @@ use Rattle.rmt_config.specs.Cells.{Found, candidates, code_of}
 use Rattle.rmt_config.specs.RunCells.{found_at, is_hit}
 use Rattle.rmt_chip.specs.declared.looked.Looked.{Looked}
 use Rattle.rmt_chip.specs.Looked.{Finds}
+use Rattle.rmt_chip.specs.Laying.{number_bytes}
 use Rattle.rmt_chip.specs.Searching.{run_of}
 use Rattle.rmt_chip.specs.Sights.{seen_by, sight_of}
 use Rattle.rmt_chip.proofs.FoundLaws.{IsPlace, place-found, place-hit, place-shown, own-head, shown-occupied, held-room}
@@ -40,17 +44,27 @@ returns-in-Some-clause-found c = λ cells k place slot held seed small.
     let entry = cell.entry occupied in
     let x = content at in
     let head : get_or (run_of m.cells at) 0 0 ≡ x.head = own-head slot m x (cells.number k place at) at cell occupied in
-    let rest : drop (1 + m.stored) (run_of m.cells at) ≡ bytes_of m.held_size x.held =
+    let tail = number_bytes m.number_size (cells.number k place at) in
+    let rest : drop (1 + m.stored) (run_of m.cells at) ≡ bytes_of m.held_size x.held ++ tail =
     ap (λ (bs : List ℕ). drop (1 + m.stored) bs) entry.bytes
-    ∙ ap (λ n. drop n (x.head ∷ (bytes_of m.stored x.key ++ bytes_of m.held_size x.held))) (let e : 1 + m.stored ≡ suc m.stored = omega arith in e)
-    ∙ ap (λ n. drop n (bytes_of m.stored x.key ++ bytes_of m.held_size x.held)) (sym (length-bytes_of m.stored x.key))
-    ∙ drop-append_seam (bytes_of m.stored x.key) (bytes_of m.held_size x.held) in
+    ∙ ap (λ n. drop n (x.head ∷ (bytes_of m.stored x.key ++ (bytes_of m.held_size x.held ++ tail)))) (let e : 1 + m.stored ≡ suc m.stored = omega arith in e)
+    ∙ ap (λ n. drop n (bytes_of m.stored x.key ++ (bytes_of m.held_size x.held ++ tail))) (sym (length-bytes_of m.stored x.key))
+    ∙ drop-append_seam (bytes_of m.stored x.key) (bytes_of m.held_size x.held ++ tail) in
+    let size : m.held_size ≡ length (bytes_of m.held_size x.held) = sym (length-bytes_of m.held_size x.held) in
+    let read-data : take m.held_size (drop (1 + m.stored) (run_of m.cells at)) ≡ bytes_of m.held_size x.held =
+    ap (λ (bs : List ℕ). take m.held_size bs) rest ∙ ap (λ n. take n (bytes_of m.held_size x.held ++ tail)) size ∙ take-append_seam (bytes_of m.held_size x.held) tail in
+    let behind : drop (1 + m.stored + m.held_size) (run_of m.cells at) ≡ tail =
+    sym (drop-drop m.held_size (1 + m.stored) (run_of m.cells at)) ∙ ap (λ (bs : List ℕ). drop m.held_size bs) rest
+    ∙ ap (λ n. drop n (bytes_of m.held_size x.held ++ tail)) size ∙ drop-append_seam (bytes_of m.held_size x.held) tail in
     let room : m.held_size ≡ divided_up slot.held 8 = held.fits.held in
     let own : number_of c.read.new.into.held.items ≡ x.held =
-    ap (λ (bs : List ℕ). number_of bs) (c.read.ensures.held ∙ rest) ∙ ap (λ n. number_of (bytes_of n x.held)) room
+    ap (λ (bs : List ℕ). number_of bs) (c.read.ensures.held ∙ read-data) ∙ ap (λ n. number_of (bytes_of n x.held)) room
     ∙ number_of-bytes_of (divided_up slot.held 8) x.held (held-room slot.held x.held entry.held) in
     finds-some slot.counted _ (found_at cells k place at) c.read.new.into found c.read.ensures.hit (c.read.ensures.code ∙ ap code_of head)
-    (λ counted. c.read.ensures.number (let all = held.fits.numbers counted in let lt = seen.within in omega (arith, all, lt, m.numbers.ok.0)) ∙ entry.number counted)
+    (λ counted.
+    let four : m.number_size ≡ 4 = held.fits.numbers counted (let lt = seen.within in omega (arith, lt)) in
+    c.read.ensures.number four ∙ ap (λ (bs : List ℕ). from_be_bytes w32 bs) (behind ∙ ap (λ n. number_bytes n (cells.number k place at)) four)
+    ∙ from_be_bytes-to_be_bytes_4 (cells.number k place at) entry.number)
     own
 
 pub returns-in-None-clause-found : goal.returns-in-None-clause-found

@@ -1,4 +1,4 @@
-use Rattle.std.proofs.Common.{◌≡◌, ℕ, List, length, true, sym, ap, ◌∙◌, subst, arith}
+use Rattle.std.proofs.Common.{◌≡◌, ℕ, List, true, sym, ap, ◌∙◌, subst, arith}
 use Rattle.rmt_chip.specs.Types.{Memory}
 use Rattle.rmt_config.specs.declared.config.Memory.TheVariants.{Without, Exact, Ternary}
 use Rattle.rmt_config.specs.MemoryRules.{ExactFits, TernaryFits}
@@ -48,7 +48,7 @@ returns-in-Without-clause-fits c =
       key = c.without.ensures.key ∙ sym (without-key stage slot c.requires e);
       held = c.without.ensures.held ∙ sym (without-held stage slot c.requires e);
       cells = c.without.ensures.cells ∙ sym (ap cells_in e);
-      numbers = λ counted. ap (λ (ns : List ℕ). length ns) c.without.ensures.numbers ∙ sym (ap cells_in e);
+      numbers = λ counted some. absurd (let none : cells_in slot.memory ≡ 0 = ap cells_in e in omega (arith, some, none));
       keys = subst (λ (mem : Memory). keys_fit (bits_of_lanes slot.keys) mem c.without.result.stored c.without.result.keys ≡ true) (sym e)
           (ap (λ (ks : Keys). keys_fit (bits_of_lanes slot.keys) Without c.without.result.stored ks) c.without.ensures.keys);
     }

@@ -1,4 +1,4 @@
-use Rattle.std.proofs.Common.{◌≡◌, List, ℕ, ◌*◌, ◌%◌, ◌/◌, ◌<◌, ◌∷◌, ◌++◌, length, true, sym, refl, ap, ◌∙◌, subst, arith}
+use Rattle.std.proofs.Common.{◌≡◌, List, ℕ, ◌*◌, ◌%◌, ◌/◌, ◌<◌, ◌∷◌, ◌++◌, length, get_or, sym, refl, ap, ◌∙◌, subst, arith}
 use Rattle.std.proofs.lemmas.Bool.{and_from, eq-eqb}
 use Rattle.std.proofs.lemmas.Nat.{mod_below}
 use Rattle.rmt_bits.specs.Bits.{bytes_of}
@@ -6,10 +6,11 @@ use Rattle.rmt_chip.specs.Types.{SramRow, CellNumber}
 use Rattle.rmt_config.specs.declared.form.layout.CellLayout.{CellLayout}
 use Rattle.rmt_config.specs.LaneForm.{bits_of_lanes}
 use Rattle.rmt_config.specs.BlockCounts.{divided_up}
-use Rattle.rmt_config.specs.Cells.{sram_row, cell_of, data_at, entry_at}
-use Rattle.rmt_chip.specs.Laying.{runs_of, cell_at}
-use Rattle.rmt_chip.specs.Laid.{CellsLaid, NumbersLaid}
+use Rattle.rmt_config.specs.Cells.{sram_row, cell_of, data_at, entry_at, number_of_cell}
+use Rattle.rmt_chip.specs.Laying.{runs_of, cell_at, nowhere, number_bytes}
+use Rattle.rmt_chip.specs.Laid.{CellsLaid}
 use Rattle.rmt_chip.proofs.LayLaws.{cells-below, exact-heads, exact-keys, bytes-at}
+use Rattle.rmt_chip.proofs.RangeLaws.{number-at}
 use Rattle.rmt_chip.proofs.memory.lay.lay_exact.Goals as goal
 
 pub runs_of-requires-clause-cells : goal.runs_of-requires-clause-cells
@@ -25,9 +26,6 @@ runs_of-requires-2-clause-cells c =
     ap (λ (l : CellLayout). l.ways * l.quanta * l.way) c.exact_keys-layout.ensures in
     let same : 4 * c.args.quanta * (1024 * c.args.per) ≡ 4096 * c.args.quanta * c.args.per = omega arith in
     cells-below c.args.slot.now.numbers c.as_slice-numbers.result.now _ _ c.as_slice-numbers.ensures (e ∙ same) c.requires.numbers.below
-
-pub numbers_by_cell-requires : goal.numbers_by_cell-requires
-numbers_by_cell-requires c = cells-below c.args.slot.now.numbers c.as_slice-numbers.result.now _ _ c.as_slice-numbers.ensures refl c.requires.numbers.below
 
 pub returns : goal.returns
 returns c = record {
@@ -60,24 +58,24 @@ returns c = record {
       c.in_ok-held.ensures.bytes
       ∙ ap (λ (xs : List SramRow). runs_of (divided_up slot.held 8) (λ n. data_at (sram_row xs) rs p slot.held (cell_of (1024 * d) p n)) numbers') c.as_slice-rows.ensures
       ∙ ap (λ (ns : List CellNumber). runs_of (divided_up slot.held 8) kept ns) c.as_slice-numbers.ensures in
-      let cells = subst (λ (ns : List CellNumber). CellsLaid ns heads found held (4096 * d * p) c.in_ok-cells.cells) c.as_slice-numbers.ensures c.in_ok-cells.ensures in
-      let numbered : slot.counted ≡ true → NumbersLaid numbers (4096 * d * p) (length numbers) c.in_ok-entries.entries.items = λ counted. subst (λ (ns : List CellNumber). NumbersLaid ns (4096 * d * p) (length ns) c.in_ok-entries.entries.items) c.as_slice-numbers.ensures (c.in_ok-entries.ensures counted) in
+      let cells = subst (λ (ns : List CellNumber). CellsLaid c.number_size-tail.result ns heads found held (4096 * d * p) c.in_ok-cells.cells) c.as_slice-numbers.ensures c.in_ok-cells.ensures in
+      let tail = c.number_size-tail.result in
+      let number : (j : ℕ) → j < length numbers → (get_or numbers j nowhere).number ≡ number_of_cell numbers (cell_at numbers j) = λ j less. sym (number-at numbers j c.requires.numbers.rise less) in
       let small : (n : ℕ) → entry n % 256 < 256 = λ n. mod_below (entry n) 256 (omega arith) in
       record {
         fits = record {
           key = size;
           held = c.in_ok-held.ensures.size;
           cells = cells.all;
-          numbers = λ counted. (numbered counted).size;
+          numbers = λ counted some. c.number_size-tail.ensures.counted counted;
           keys = and_from _ _ (and_from _ _ (and_from _ _ (eq-eqb c.args.first_way c.args.first_way refl) (eq-eqb (1024 * d) (1024 * d) refl)) (eq-eqb p p refl)) (eq-eqb found.size (divided_up b 8) size);
         };
         listed = λ i lt.
-            cells.listed (λ n. (entry n % 256) ∷ (bytes_of found.size (entry n / 256) ++ bytes_of held.size (kept n)))
-            (λ j less. bytes-at heads found held found.size held.size (λ n. entry n % 256) (λ n. entry n / 256) kept numbers j less c.in_ok-heads.ensures.size fs refl
-            (gs ∙ ap (λ z. runs_of z (λ n. entry n / 256) numbers) (sym size)) refl (hs ∙ ap (λ z. runs_of z kept numbers) (sym c.in_ok-held.ensures.size)) (small (cell_at numbers j)))
+            cells.listed (λ n. (entry n % 256) ∷ (bytes_of found.size (entry n / 256) ++ (bytes_of held.size (kept n) ++ number_bytes tail (number_of_cell numbers n))))
+            (λ j less. bytes-at tail (number_of_cell numbers) heads found held found.size held.size (λ n. entry n % 256) (λ n. entry n / 256) kept numbers j less c.in_ok-heads.ensures.size fs refl
+            (gs ∙ ap (λ z. runs_of z (λ n. entry n / 256) numbers) (sym size)) refl (hs ∙ ap (λ z. runs_of z kept numbers) (sym c.in_ok-held.ensures.size)) (small (cell_at numbers j)) (number j less))
             i lt;
         others = cells.others;
-        numbers = numbered;
         vectors = tt;
       };
 }

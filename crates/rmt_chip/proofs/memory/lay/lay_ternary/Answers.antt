@@ -1,21 +1,22 @@
-use Rattle.std.proofs.Common.{◌≡◌, ℕ, List, ◌+◌, ◌-◌, ◌*◌, ◌/◌, ◌%◌, ◌<◌, ◌≤◌, ◌∷◌, ◌++◌, length, get_or, true, cond, Some, None, sym, refl, ap, ◌∙◌, subst, arith}
+use Rattle.std.proofs.Common.{◌≡◌, ℕ, List, ◌+◌, ◌-◌, ◌*◌, ◌/◌, ◌%◌, ◌<◌, ◌≤◌, ◌∷◌, ◌++◌, length, get_or, cond, Some, None, sym, refl, ap, ◌∙◌, subst, arith}
 use Rattle.std.proofs.lemmas.Bool.{and_from, eq-eqb}
 use Rattle.std.proofs.lemmas.Nat.{mod_below}
 use Rattle.rmt_bits.specs.Bits.{bytes_of}
 use Rattle.rmt_chip.specs.Types.{TcamRow, CellNumber}
 use Rattle.rmt_config.specs.LaneForm.{bits_of_lanes}
 use Rattle.rmt_config.specs.BlockCounts.{divided_up}
-use Rattle.rmt_config.specs.Cells.{Content, content_of, row_record, sram_row}
+use Rattle.rmt_config.specs.Cells.{Content, content_of, number_of_cell, row_record, sram_row}
 use Rattle.rmt_config.specs.declared.config.Memory.TheVariants.{Ternary}
 use Rattle.rmt_bits.specs.Grouping.{Compared}
 use Rattle.rmt_chip.specs.Comparing.{ShowsListed, compared_at}
-use Rattle.rmt_chip.specs.Laying.{cell_at, nowhere, runs_of}
-use Rattle.rmt_chip.specs.Laid.{CellsLaid, NumbersLaid}
+use Rattle.rmt_chip.specs.Laying.{cell_at, nowhere, number_bytes, runs_of}
+use Rattle.rmt_chip.specs.Laid.{CellsLaid}
 use Rattle.rmt_chip.specs.Searching.{run_of}
 use Rattle.rmt_chip.specs.Slicing.{RowFits}
 use Rattle.rmt_chip.specs.Sights.{seen_by}
 use Rattle.rmt_chip.specs.Memories.{compared_of}
 use Rattle.rmt_chip.proofs.LayLaws.{ternary-heads, ternary-data, compared-is, compared-fits, bytes-at, head-of}
+use Rattle.rmt_chip.proofs.RangeLaws.{number-at}
 use Rattle.rmt_chip.proofs.RunLaws.{runs-none}
 use Rattle.rmt_chip.proofs.memory.lay.lay_ternary.Goals as goal
 use Rattle.rmt_config.proofs.CellLayouts.{width-is}
@@ -79,25 +80,24 @@ returns c = record {
       let gs : none.bytes.items ≡ runs_of 0 (λ n. (content n).key) numbers = c.no_runs-none.ensures.bytes ∙ sym (runs-none (λ n. (content n).key) numbers) in
       let seven : (c.key_bits-bits.result + 7) / 8 ≡ divided_up b 8 =
       ap (λ n. (n + 7) / 8) bits ∙ ap (λ n. n / 8) (let s : b + 7 ≡ b + 8 - 1 = omega arith in s) in
-      let cells = subst (λ (ns : List CellNumber). CellsLaid ns heads none held (2048 * d) c.in_ok-cells.cells) c.as_slice-numbers.ensures c.in_ok-cells.ensures in
-      let numbered : slot.counted ≡ true → NumbersLaid numbers (2048 * d) (length numbers) c.in_ok-entries.entries.items =
-      λ counted. subst (λ (ns : List CellNumber). NumbersLaid ns (2048 * d) (length ns) c.in_ok-entries.entries.items) c.as_slice-numbers.ensures (c.in_ok-entries.ensures counted) in
+      let cells = subst (λ (ns : List CellNumber). CellsLaid c.number_size-tail.result ns heads none held (2048 * d) c.in_ok-cells.cells) c.as_slice-numbers.ensures c.in_ok-cells.ensures in
+      let tail = c.number_size-tail.result in
+      let number : (j : ℕ) → j < length numbers → (get_or numbers j nowhere).number ≡ number_of_cell numbers (cell_at numbers j) = λ j less. sym (number-at numbers j c.requires.numbers.rise less) in
       let small : (n : ℕ) → kept n % 256 < 256 = λ n. mod_below (kept n) 256 (omega arith) in
       record {
         fits = record {
           key = seven;
           held = c.in_ok-held.ensures.size;
           cells = cells.all;
-          numbers = λ counted. (numbered counted).size;
+          numbers = λ counted some. c.number_size-tail.ensures.counted counted;
           keys = and_from _ _ (eq-eqb v.words width (c.in_ok-sliced.ensures.words ∙ same-width)) (eq-eqb 0 0 refl);
         };
         listed = λ i lt.
-            cells.listed (λ n. (kept n % 256) ∷ (bytes_of 0 (content n).key ++ bytes_of held.size (kept n / 256)))
-            (λ j less. bytes-at heads none held 0 held.size (λ n. kept n % 256) (λ n. (content n).key) (λ n. kept n / 256) numbers j less c.in_ok-heads.ensures.size fs c.no_runs-none.ensures.size
-            gs refl (hs ∙ ap (λ z. runs_of z (λ n. kept n / 256) numbers) (sym c.in_ok-held.ensures.size)) (small (cell_at numbers j)))
+            cells.listed (λ n. (kept n % 256) ∷ (bytes_of 0 (content n).key ++ (bytes_of held.size (kept n / 256) ++ number_bytes tail (number_of_cell numbers n))))
+            (λ j less. bytes-at tail (number_of_cell numbers) heads none held 0 held.size (λ n. kept n % 256) (λ n. (content n).key) (λ n. kept n / 256) numbers j less c.in_ok-heads.ensures.size fs c.no_runs-none.ensures.size
+            gs refl (hs ∙ ap (λ z. runs_of z (λ n. kept n / 256) numbers) (sym c.in_ok-held.ensures.size)) (small (cell_at numbers j)) (number j less))
             i lt;
         others = cells.others;
-        numbers = numbered;
         vectors = λ sight shown few listed others.
             c.in_ok-sliced.ensures.stands shown sight few
             (subst (λ (ts : List TcamRow). ShowsListed sight (2048 * d) ts ks width' numbers' heads shown) (sym c.as_slice-2.ensures)

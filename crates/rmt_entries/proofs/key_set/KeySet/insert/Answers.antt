@@ -1,4 +1,4 @@
-use Rattle.std.proofs.Common.{◌≡◌, ◌∙◌, ◌-◌, ℕ, List, cond, not, true, length, sym, ap, subst, arith}
+use Rattle.std.proofs.Common.{◌≡◌, ◌∙◌, ℕ, List, cond, not, true, length, sym, ap, subst, arith}
 use Rattle.std.specs.Str.{bytes_eq}
 use Rattle.rmt_entries.specs.declared.key_set.Spot.TheVariants.{Crowded}
 use Rattle.rmt_entries.specs.KeySets.{KeySet, has, holds, home, near, spot_of}

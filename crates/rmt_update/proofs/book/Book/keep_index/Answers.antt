@@ -1,8 +1,8 @@
 use Rattle.rmt_update.proofs.TakenLaws.{taken-index, taken-stands, with-index}
 use Rattle.rmt_update.proofs.book.Book.keep_index.Goals as goal
 
-pub returns : goal.returns
-returns c = λ k cells lists h.
+pub returns-clause-stands : goal.returns-clause-stands
+returns-clause-stands c = λ k cells lists h.
     let old = c.args.self.now in
     let taken = c.take_index.new.self in
     let index = c.in_ok-index.index in

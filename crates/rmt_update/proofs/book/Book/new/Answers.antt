@@ -21,4 +21,4 @@ returns-clause-stands c = λ names named.
     let copy : c.in_ok-names.names ≡ c.names_of.result.now = c.in_ok-names.ensures in
     let same : c.names_of.result.now ≡ names = same_Some c.names_of.result.now names (sym c.names_of.ensures ∙ named) in
     let zip = subst (λ (n : Names). AllZip (IsTable k) n.tables c.in_ok-tables.tables.items) (copy ∙ same) c.in_ok-tables.ensures in
-    c.in_ok-keep_index.ensures k (own_cells k) (entries_spelled k names) (stands-at-first k names _ c.requires.formed named zip refl refl c.node_count.ensures refl)
+    c.in_ok-keep_index.ensures.stands k (own_cells k) (entries_spelled k names) (stands-at-first k names _ c.requires.formed named zip refl refl c.node_count.ensures refl)

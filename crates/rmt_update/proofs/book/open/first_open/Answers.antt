@@ -1,8 +1,8 @@
-use Rattle.std.proofs.Common.{sym, ◌∙◌}
+use Rattle.std.proofs.Common.{◌+◌, sym, ◌∙◌}
 use Rattle.rmt_update.specs.Open.{is_open}
-use Rattle.rmt_update.proofs.OpenLaws.{find-past}
+use Rattle.rmt_update.proofs.OpenLaws.{cell-past}
 use Rattle.rmt_update.proofs.book.open.first_open.Goals as goal
 
 pub loop-cell-preserved : goal.loop-cell-preserved
 loop-cell-preserved c =
-    find-past (is_open c.args.odd c.args.part.now c.args.given.now) c.args.cells.now c.loop-cell.cell-index c.loop-cell-test.true (sym c.is_open.ensures ∙ c.if-is_open.false) c.loop-cell.invariant
+    cell-past (is_open c.args.odd c.args.part.now c.args.given.now) c.loop-cell.cell (c.args.first + c.args.count) c.loop-cell-test.true _ c.loop-cell.invariant (sym c.is_open.ensures ∙ c.if-is_open.false)
