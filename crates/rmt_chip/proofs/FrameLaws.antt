@@ -3,7 +3,7 @@ use Rattle.std.proofs.Common.{◌≡◌, ◌≢◌, ℕ, zero, suc, ◌+◌, ◌
 use Rattle.std.specs.Prelude.{slice_get, All, replicate}
 use Rattle.std.proofs.Math.Seq.{take-add}
 use Rattle.std.proofs.lemmas.Bool.{cases_eq}
-use Rattle.std.proofs.lemmas.List.{take_all, length-map, length-set, get_or-set_same, get_or-set_other}
+use Rattle.std.proofs.lemmas.List.{take_all, length-map, length-replicate, length-set, get_or-set_same, get_or-set_other}
 use Rattle.std.proofs.lemmas.List.Sums.{sum_by-append, sum_by-cons}
 use Rattle.rmt_bits.proofs.MemberLaws.{Contains-later}
 use Rattle.rmt_cells.specs.declared.cells.Cells.{Cells}
@@ -12,7 +12,7 @@ use Rattle.rmt_cells.specs.Links.{after}
 use Rattle.rmt_cells.specs.Pieces.{piece, cells_for}
 use Rattle.rmt_cells.specs.Stands.{Held, Holds, Stands, cells_held}
 use Rattle.rmt_cells.proofs.Spelling.{length-piece}
-use Rattle.rmt_chip.specs.Frames.{spelt, bytes_in, held_if, held_frames, AreFrames, frames_in}
+use Rattle.rmt_chip.specs.Frames.{spelt, bytes_in, held_if, held_frames, AreFrames, frame_cells, frames_in}
 
 -- ---- the bytes of a chain are told by the cells
 
@@ -107,19 +107,19 @@ few_cells (x ∷ cs) (y ∷ fs) size short =
     omega (arith, here, rest, parts)
 
 -- without the frame of one packet slot there is room for another
-pub room_left : (chains : List (Option Chain)) (frames : List (List ℕ)) (i : ℕ) → length chains ≡ 385 → i < 385 → length frames ≡ length chains → All (λ frame. length frame ≤ 9216) frames
-    → cells_held (front_of chains frames i ++ back_of chains frames i) + 144 ≤ 65536
-room_left chains frames i many lt size short =
+pub room_left : (chains : List (Option Chain)) (frames : List (List ℕ)) (i : ℕ) → i < length chains → length frames ≡ length chains → All (λ frame. length frame ≤ 9216) frames
+    → cells_held (front_of chains frames i ++ back_of chains frames i) + 144 ≤ frame_cells (length chains)
+room_left chains frames i lt size short =
     let cells = λ (h : Held). cells_for (length h.bytes) in
     let all = few_cells chains frames size short in
-    let whole = ap cells_held (split_at chains frames i None [] (omega (arith, many)) size) in
+    let whole = ap cells_held (split_at chains frames i None [] lt size) in
     let front = front_of chains frames i in
     let back = back_of chains frames i in
     let here = held_if (get_or chains i None) (get_or frames i []) in
     let a = sum_by-append cells front (here ++ back) in
     let b = sum_by-append cells here back in
     let d = sum_by-append cells front back in
-    omega (arith, all, whole, a, b, d, many)
+    omega (arith, all, whole, a, b, d)
 
 -- ---- a frame is put
 
@@ -147,12 +147,14 @@ absent_set (x ∷ cs) (y ∷ fs) (suc i) c f absent (suc k) e = absent_set cs fs
 
 pub frame_put : (old new : Cells) (chains : List (Option Chain)) (i : ℕ) (c : Chain) (f : List ℕ) → i < length chains → length f ≤ 9216
     → AreFrames old chains (frames_in old chains)
-    → Stands 65536 (front_of chains (frames_in old chains) i ++ record { chain = c; bytes = f } ∷ back_of chains (frames_in old chains) i) new
+    → Stands (frame_cells (length chains)) (front_of chains (frames_in old chains) i ++ record { chain = c; bytes = f } ∷ back_of chains (frames_in old chains) i) new
     → AreFrames new (set chains i (Some c)) (set (frames_in old chains) i f)
 frame_put old new chains i c f lt short was stands = record {
   as_many = length-set (frames_in old chains) i f ∙ was.as_many ∙ sym (length-set chains i (Some c));
   absent = absent_set chains (frames_in old chains) i c f was.absent;
-  stands = subst (λ (hs : List Held). Stands 65536 hs new) (sym (set_at chains (frames_in old chains) i (Some c) f lt was.as_many)) stands;
+  stands =
+      subst (λ (n : ℕ). Stands (frame_cells n) (held_frames (set chains i (Some c)) (set (frames_in old chains) i f)) new) (sym (length-set chains i (Some c)))
+      (subst (λ (hs : List Held). Stands (frame_cells (length chains)) hs new) (sym (set_at chains (frames_in old chains) i (Some c) f lt was.as_many)) stands);
   short = short_set (frames_in old chains) i f short was.short;
 }
 
@@ -177,11 +179,13 @@ none_short cells zero i d lt = absurd (omega (arith, lt))
 none_short cells (suc n) zero d lt = omega arith
 none_short cells (suc n) (suc i) d lt = none_short cells n i d (omega (arith, lt))
 
-pub no_frames : (cells : Cells) (n : ℕ) → Stands 65536 [] cells → AreFrames cells (replicate n None) (frames_in cells (replicate n None))
+pub no_frames : (cells : Cells) (n : ℕ) → Stands (frame_cells n) [] cells → AreFrames cells (replicate n None) (frames_in cells (replicate n None))
 no_frames cells n stands = record {
   as_many = length-map (replicate n None) (bytes_in cells);
   absent = λ i e. none_at cells n i;
-  stands = subst (λ (hs : List Held). Stands 65536 hs cells) (sym (none_held n (frames_in cells (replicate n None)))) stands;
+  stands =
+      subst (λ (m : ℕ). Stands (frame_cells m) (held_frames (replicate n None) (frames_in cells (replicate n None))) cells) (sym (length-replicate {A = Option Chain} n None))
+      (subst (λ (hs : List Held). Stands (frame_cells n) hs cells) (sym (none_held n (frames_in cells (replicate n None)))) stands);
   short = none_short cells n;
 }
 

@@ -1,22 +1,56 @@
 -- A pass over the stages in the ring of places.
-use Rattle.std.proofs.Common.{◌≡◌, ◌≢◌, ℕ, zero, suc, ◌+◌, ◌-◌, ◌<◌, ◌≤◌, Bool, false, cond, eqb, List, Option, length, get_or, set, refl, sym, ap, ◌∙◌, subst, ⊎_elim, arith}
-use Rattle.std.proofs.lemmas.List.{get_or-set_same, get_or-set_other}
+use Rattle.std.proofs.Common.{◌≡◌, ◌≢◌, ℕ, zero, suc, ◌+◌, ◌-◌, ◌<◌, ◌≤◌, Bool, false, cond, eqb, ◌⊎◌, inl, inr, List, Option, length, get_or, set, refl, sym, ap, ◌∙◌, subst, ⊎_elim, arith}
+use Rattle.std.proofs.lemmas.List.{get_or-set_same, get_or-set_other, length-set}
 use Rattle.std.proofs.lemmas.Bool.{cases_lt, cases_eq}
 use Rattle.std.proofs.lemmas.Bool.Decides.{nat_tests}
 use Rattle.rmt_chip.specs.Types.{Config, Stage}
 use Rattle.rmt_chip.specs.declared.packet_slot.PacketSlot.{PacketSlot}
 use Rattle.rmt_chip.specs.Runnable.{start_of}
 use Rattle.rmt_chip.specs.Held.{Entered, HoldsIf}
-use Rattle.rmt_chip.specs.Ring.{ring_at, partly, partly_next, done_before, now, next, AllHold}
+use Rattle.rmt_chip.specs.Ring.{ring_at, ring_after, partly, partly_next, done_before, now, next, AllHold}
 use Rattle.rmt_chip.proofs.LifeLaws.{Rise}
 use Rattle.rmt_chip.proofs.HeldLaws.{NoneAt}
 
-pub ring_at-lt : (newest age : ℕ) → ring_at newest age < 385
-ring_at-lt newest age = omega arith
+-- ---- places
+
+ring_at-front : (size newest age : ℕ) → age ≤ newest → ring_at size newest age ≡ newest - age
+ring_at-front size newest age h = grind (arith, nat_tests)
+
+ring_at-back : (size newest age : ℕ) → newest < age → ring_at size newest age ≡ size - (age - newest)
+ring_at-back size newest age h = grind (arith, nat_tests)
+
+-- the place of an age, by which side of the newest it is on
+ring_at-is : (size newest age : ℕ) → ((age ≤ newest) × (ring_at size newest age ≡ newest - age)) ⊎ ((newest < age) × (ring_at size newest age ≡ size - (age - newest)))
+ring_at-is size newest age = ⊎_elim (λ (h : newest < age). inr (h, ring_at-back size newest age h)) (λ (h : age ≤ newest). inl (h, ring_at-front size newest age h)) (cases_lt newest age)
+
+pub ring_at-lt : (size newest age : ℕ) → newest < size → age < size → ring_at size newest age < size
+ring_at-lt size newest age hn h = let is = ring_at-is size newest age in omega (arith, is)
 
 -- two ages are not in one place
-pub ring_at-apart : (newest a b : ℕ) → newest < 385 → a < 385 → b < 385 → a ≢ b → ring_at newest a ≢ ring_at newest b
-ring_at-apart newest a b hn ha hb apart e = absurd (omega arith)
+pub ring_at-apart : (size newest a b : ℕ) → newest < size → a < size → b < size → a ≢ b → ring_at size newest a ≢ ring_at size newest b
+ring_at-apart size newest a b hn ha hb apart e =
+    let at_a = ring_at-is size newest a in
+    let at_b = ring_at-is size newest b in
+    absurd (omega (arith, at_a, at_b, e))
+
+pub ring_at-newest : (size newest : ℕ) → ring_at size newest 0 ≡ newest
+ring_at-newest size newest = ring_at-front size newest 0 (omega arith) ∙ (let e : newest - 0 ≡ newest = omega arith in e)
+
+ring_after-is : (size newest : ℕ) → ((newest + 1 < size) × (ring_after size newest ≡ newest + 1)) ⊎ ((size ≤ newest + 1) × (ring_after size newest ≡ 0))
+ring_after-is size newest = ⊎_elim (λ (h : newest + 1 < size). inl (h, grind (arith, nat_tests))) (λ (h : size ≤ newest + 1). inr (h, grind (arith, nat_tests))) (cases_lt (newest + 1) size)
+
+pub ring_after-lt : (size newest : ℕ) → newest < size → ring_after size newest < size
+ring_after-lt size newest h = let is = ring_after-is size newest in omega (arith, is)
+
+-- one cycle later an age is one more
+pub ring_at-older : (size newest age : ℕ) → newest < size → age + 1 < size → ring_at size (ring_after size newest) (age + 1) ≡ ring_at size newest age
+ring_at-older size newest age hn h =
+    let after = ring_after-is size newest in
+    let later = ring_at-is size (ring_after size newest) (age + 1) in
+    let was = ring_at-is size newest age in
+    omega (arith, after, later, was)
+
+-- ---- bounds of a pass
 
 pub partly-below : (bound t : ℕ) → t < bound → partly bound t ≡ t
 partly-below bound t h = grind (arith, nat_tests)
@@ -78,25 +112,25 @@ quiet stages after k t rise within from until j hj e =
 module _ (Q : ℕ → ℕ → PacketSlot → Type 0) (age : ℕ → ℕ → ℕ) (done due : ℕ → ℕ) (below : (bound t : ℕ) → t < bound → age bound t ≡ done t) (above : (bound t : ℕ) → bound ≤ t → age bound t ≡ due t)
     (stages : List Stage) (after newest : ℕ) (rise : Rise stages) (rests : (t : ℕ) (place : PacketSlot) → NoneAt stages after t → Q t (due t) place → Q t (done t) place) where
   -- each place keeps a fact of its age
-  abbrev Upto : ℕ → List PacketSlot → Type 0
-  Upto bound places = (t : ℕ) (d : PacketSlot) → t < 385 → Q t (age bound t) (get_or places (ring_at newest t) d)
+  abbrev Upto : ℕ → ℕ → List PacketSlot → Type 0
+  Upto size bound places = (t : ℕ) (d : PacketSlot) → t < size → Q t (age bound t) (get_or places (ring_at size newest t) d)
 
-  one_step : (k : ℕ) (places : List PacketSlot) (new : PacketSlot) → k < length stages → start_of stages k + after < 385 → newest < 385 → length places ≡ 385
-      → Upto (done_before stages after k) places → Q (start_of stages k + after) (done (start_of stages k + after)) new
-      → Upto (start_of stages k + after + 1) (set places (ring_at newest (start_of stages k + after)) new)
-  one_step k places new inside small ring full was now t d h =
+  one_of : (size k : ℕ) (places : List PacketSlot) (new : PacketSlot) → k < length stages → start_of stages k + after < size → newest < size → length places ≡ size
+      → Upto size (done_before stages after k) places → Q (start_of stages k + after) (done (start_of stages k + after)) new
+      → Upto size (start_of stages k + after + 1) (set places (ring_at size newest (start_of stages k + after)) new)
+  one_of size k places new inside small ring full was now t d h =
       let a = start_of stages k + after in
       let b = done_before stages after k in
       let le : b ≤ a = done_le stages after k rise inside in
       ⊎_elim
       (λ (e : t ≡ a).
-      let place : get_or (set places (ring_at newest a) new) (ring_at newest t) d ≡ new =
-      ap (λ n. get_or (set places (ring_at newest a) new) (ring_at newest n) d) e ∙ get_or-set_same places (ring_at newest a) new d (omega (arith, ring_at-lt newest a)) in
+      let place : get_or (set places (ring_at size newest a) new) (ring_at size newest t) d ≡ new =
+      ap (λ n. get_or (set places (ring_at size newest a) new) (ring_at size newest n) d) e ∙ get_or-set_same places (ring_at size newest a) new d (omega (arith, ring_at-lt size newest a ring small, full)) in
       subst (Q t (age (a + 1) t)) (sym place) (subst (λ u. Q t u new) (sym (below (a + 1) t (omega arith))) (subst (λ u. Q u (done u) new) (sym e) now)))
       (λ (apart : t ≢ a).
-      let other : ring_at newest t ≢ ring_at newest a = ring_at-apart newest t a ring h small apart in
-      let place : get_or (set places (ring_at newest a) new) (ring_at newest t) d ≡ get_or places (ring_at newest t) d = get_or-set_other places (ring_at newest a) (ring_at newest t) new d other in
-      let old = get_or places (ring_at newest t) d in
+      let other : ring_at size newest t ≢ ring_at size newest a = ring_at-apart size newest t a ring h small apart in
+      let place : get_or (set places (ring_at size newest a) new) (ring_at size newest t) d ≡ get_or places (ring_at size newest t) d = get_or-set_other places (ring_at size newest a) (ring_at size newest t) new d other in
+      let old = get_or places (ring_at size newest t) d in
       subst (Q t (age (a + 1) t)) (sym place)
       (⊎_elim
       (λ (l : t < a).
@@ -109,10 +143,17 @@ module _ (Q : ℕ → ℕ → PacketSlot → Type 0) (age : ℕ → ℕ → ℕ)
       (cases_lt t a)))
       (cases_eq t a)
 
-  at_end : (places : List PacketSlot) → Upto (done_before stages after (length stages)) places → (t : ℕ) (d : PacketSlot) → t < 385 → Q t (done t) (get_or places (ring_at newest t) d)
+  one_step : (k : ℕ) (places : List PacketSlot) (new : PacketSlot) → k < length stages → start_of stages k + after < length places → newest < length places
+      → Upto (length places) (done_before stages after k) places → Q (start_of stages k + after) (done (start_of stages k + after)) new
+      → let turned = set places (ring_at (length places) newest (start_of stages k + after)) new in Upto (length turned) (start_of stages k + after + 1) turned
+  one_step k places new inside small ring was now =
+      let at = ring_at (length places) newest (start_of stages k + after) in
+      subst (λ size. Upto size (start_of stages k + after + 1) (set places at new)) (sym (length-set places at new)) (one_of (length places) k places new inside small ring refl was now)
+
+  at_end : (places : List PacketSlot) → Upto (length places) (done_before stages after (length stages)) places → (t : ℕ) (d : PacketSlot) → t < length places → Q t (done t) (get_or places (ring_at (length places) newest t) d)
   at_end places was t d h =
       let b = done_before stages after (length stages) in
-      let old = get_or places (ring_at newest t) d in
+      let old = get_or places (ring_at (length places) newest t) d in
       ⊎_elim
       (λ (f : t < b). subst (λ u. Q t u old) (below b t f) (was t d h))
       (λ (f : b ≤ t). rests t old (quiet stages after (length stages) t rise (omega arith) f (λ l. absurd (omega arith))) (subst (λ u. Q t u old) (above b t f) (was t d h)))
@@ -128,43 +169,43 @@ at_rest Q stages after none (suc u) place n q =
     subst (λ v. Q v v place) (sym next) (none u place (subst (NoneAt stages after) next n) (subst (λ v. Q v u place) next (subst (λ v. Q (suc u) v place) back q)))
 
 abbrev pub AllPlaces : (ℕ → ℕ → PacketSlot → Type 0) → ℕ → ℕ → List PacketSlot → Type 0
-AllPlaces Q bound newest places = (t : ℕ) (d : PacketSlot) → t < 385 → Q t (partly bound t) (get_or places (ring_at newest t) d)
+AllPlaces Q bound newest places = (t : ℕ) (d : PacketSlot) → t < length places → Q t (partly bound t) (get_or places (ring_at (length places) newest t) d)
 
 pub pass_step : (Q : ℕ → ℕ → PacketSlot → Type 0) (stages : List Stage) (after k newest : ℕ) (places : List PacketSlot) (new : PacketSlot) → Rise stages → k < length stages
-    → start_of stages k + after < 385 → newest < 385 → length places ≡ 385
+    → start_of stages k + after < length places → newest < length places
     → ((t : ℕ) (place : PacketSlot) → NoneAt stages after (t + 1) → Q (t + 1) t place → Q (t + 1) (t + 1) place)
     → AllPlaces Q (done_before stages after k) newest places
     → Q (start_of stages k + after) (start_of stages k + after) new
-    → AllPlaces Q (start_of stages k + after + 1) newest (set places (ring_at newest (start_of stages k + after)) new)
-pass_step Q stages after k newest places new rise inside small ring full none was now =
-    one_step Q partly (λ t. t) (λ t. t - 1) partly-below partly-from stages after newest rise (at_rest Q stages after none) k places new inside small ring full was now
+    → AllPlaces Q (start_of stages k + after + 1) newest (set places (ring_at (length places) newest (start_of stages k + after)) new)
+pass_step Q stages after k newest places new rise inside small ring none was now =
+    one_step Q partly (λ t. t) (λ t. t - 1) partly-below partly-from stages after newest rise (at_rest Q stages after none) k places new inside small ring was now
 
 pub pass_end : (Q : ℕ → ℕ → PacketSlot → Type 0) (stages : List Stage) (after newest : ℕ) (places : List PacketSlot) → Rise stages
     → ((t : ℕ) (place : PacketSlot) → NoneAt stages after (t + 1) → Q (t + 1) t place → Q (t + 1) (t + 1) place)
     → AllPlaces Q (done_before stages after (length stages)) newest places
-    → (t : ℕ) (d : PacketSlot) → t < 385 → Q t t (get_or places (ring_at newest t) d)
+    → (t : ℕ) (d : PacketSlot) → t < length places → Q t t (get_or places (ring_at (length places) newest t) d)
 pass_end Q stages after newest places rise none was =
     at_end Q partly (λ t. t) (λ t. t - 1) partly-below partly-from stages after newest rise (at_rest Q stages after none) places was
 
 -- ---- a pass that may begin at age 0
 
 abbrev pub AllNext : (ℕ → ℕ → PacketSlot → Type 0) → ℕ → ℕ → List PacketSlot → Type 0
-AllNext Q bound newest places = (t : ℕ) (d : PacketSlot) → t < 385 → Q t (partly_next bound t) (get_or places (ring_at newest t) d)
+AllNext Q bound newest places = (t : ℕ) (d : PacketSlot) → t < length places → Q t (partly_next bound t) (get_or places (ring_at (length places) newest t) d)
 
 pub next_step : (Q : ℕ → ℕ → PacketSlot → Type 0) (stages : List Stage) (after k newest : ℕ) (places : List PacketSlot) (new : PacketSlot) → Rise stages → k < length stages
-    → start_of stages k + after < 385 → newest < 385 → length places ≡ 385 → ((t : ℕ) (place : PacketSlot) → NoneAt stages after t → Q t t place → Q t (t + 1) place)
+    → start_of stages k + after < length places → newest < length places → ((t : ℕ) (place : PacketSlot) → NoneAt stages after t → Q t t place → Q t (t + 1) place)
     → AllNext Q (done_before stages after k) newest places → Q (start_of stages k + after) (start_of stages k + after + 1) new
-    → AllNext Q (start_of stages k + after + 1) newest (set places (ring_at newest (start_of stages k + after)) new)
-next_step Q stages after k newest places new rise inside small ring full none was now =
-    one_step Q partly_next (λ t. t + 1) (λ t. t) next-below next-from stages after newest rise none k places new inside small ring full was now
+    → AllNext Q (start_of stages k + after + 1) newest (set places (ring_at (length places) newest (start_of stages k + after)) new)
+next_step Q stages after k newest places new rise inside small ring none was now =
+    one_step Q partly_next (λ t. t + 1) (λ t. t) next-below next-from stages after newest rise none k places new inside small ring was now
 
 pub next_end : (Q : ℕ → ℕ → PacketSlot → Type 0) (stages : List Stage) (after newest : ℕ) (places : List PacketSlot) → Rise stages → ((t : ℕ) (place : PacketSlot) → NoneAt stages after t → Q t t place → Q t (t + 1) place)
-    → AllNext Q (done_before stages after (length stages)) newest places → (t : ℕ) (d : PacketSlot) → t < 385 → Q t (t + 1) (get_or places (ring_at newest t) d)
+    → AllNext Q (done_before stages after (length stages)) newest places → (t : ℕ) (d : PacketSlot) → t < length places → Q t (t + 1) (get_or places (ring_at (length places) newest t) d)
 next_end Q stages after newest places rise none was =
     at_end Q partly_next (λ t. t + 1) (λ t. t) next-below next-from stages after newest rise none places was
 
 -- what the packet slot of an age holds, by its place in the list
-pub held_at : (c : Config) (item : ℕ → Option Entered) (newest age at : ℕ) (places : List PacketSlot) (place : PacketSlot) → age < 385 → at ≡ ring_at newest age → place ≡ get_or places at place
+pub held_at : (c : Config) (item : ℕ → Option Entered) (newest age at : ℕ) (places : List PacketSlot) (place : PacketSlot) → age < length places → at ≡ ring_at (length places) newest age → place ≡ get_or places at place
     → AllHold c item now now now next newest places → HoldsIf c (item age) age age age (age + 1) place
 held_at c item newest age at places place h e is all =
     subst (HoldsIf c (item age) age age age (age + 1)) (ap (λ n. get_or places n place) (sym e) ∙ sym is) (all age place h)

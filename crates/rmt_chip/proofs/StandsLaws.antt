@@ -1,5 +1,5 @@
 -- What a chip stands for, one cycle later.
-use Rattle.std.proofs.Common.{◌≡◌, ℕ, ◌+◌, ◌%◌, ◌<◌, ◌≤◌, Bool, true, false, cond, List, [], ◌∷◌, ◌++◌, length, append_assoc, Option, Some, None, Vec, Global, refl, sym, ap, ◌∙◌, subst, le-leb}
+use Rattle.std.proofs.Common.{◌≡◌, ℕ, ◌+◌, ◌≤◌, Bool, true, false, cond, List, [], ◌∷◌, ◌++◌, length, append_assoc, Option, Some, None, Vec, Global, refl, sym, ap, ◌∙◌, subst, le-leb}
 use Rattle.std.specs.Prelude.{IsTrue, is_some, is_none, slice_index}
 use Rattle.std.specs.List.{flat_map}
 use Rattle.std.proofs.lemmas.List.{append-nil}
@@ -31,7 +31,7 @@ use Rattle.rmt_chip.specs.PacketsInFlight.{InFlight, Precedes, cells_after, numb
 use Rattle.rmt_chip.specs.StageMemories.{MemoriesHold}
 use Rattle.rmt_chip.specs.Stands.{Stands, Took, Turned, Shows, in_flight}
 use Rattle.rmt_chip.specs.declared.frames.Frames.{Frames}
-use Rattle.rmt_chip.specs.Ring.{now, next, AllHold, FramesAre}
+use Rattle.rmt_chip.specs.Ring.{ring_after, now, next, AllHold, FramesAre}
 use Rattle.rmt_bits.specs.Counts.{Counters}
 use Rattle.rmt_chip.proofs.MemoriesLaws.{memories_turned}
 use Rattle.rmt_bits.proofs.OptionLaws.{None-from_is_none}
@@ -66,16 +66,16 @@ same_some input frame is = ap (λ (o : Option Packet). is_some o) is ∙ by fram
     by (Some f) = refl
 
 pub turn_right : (c : Config) (numbers : List ℕ) (inputs : List Input) (input : Input) (frame : Option Frame) (old new : Chip) (answer : Option Verdict) (bytes : List ℕ)
-    → old.newest < 385 → packet_of input ≡ input_of frame → new.config ≡ old.config → new.memories ≡ old.memories → new.seed ≡ old.seed → new.version ≡ old.version
-    → new.entered ≡ old.entered + cond (is_some frame) 1 0 → new.newest ≡ (old.newest + 1) % 385
+    → old.newest ≤ latency_of old.config.stages → packet_of input ≡ input_of frame → new.config ≡ old.config → new.memories ≡ old.memories → new.seed ≡ old.seed → new.version ≡ old.version
+    → new.entered ≡ old.entered + cond (is_some frame) 1 0 → new.newest ≡ ring_after (latency_of old.config.stages + 1) old.newest
     → CycleGives old.config (record { newest = new.newest; number = old.entered; version = old.version; seed = old.seed }) frame old.memories.items old.places.items new.places.items (frames_of old.frames) (frames_of new.frames) old.counters.counts new.counters.counts answer bytes
     → Took c numbers inputs old → Turned c numbers inputs input new × AnswersIf (answer_in c (inputs ++ input ∷ []) (length inputs)) answer bytes
 turn_right c numbers inputs input frame old new answer bytes ring is same_config same_memories same_seed same_version grown turned cycle s =
     let moment : Moment = record { newest = new.newest; number = old.entered; version = old.version; seed = old.seed } in
     let cycles = subst (λ (k : Config). CycleGives k moment frame old.memories.items old.places.items new.places.items (frames_of old.frames) (frames_of new.frames) old.counters.counts new.counters.counts answer bytes) s.config_is cycle in
     let comes : Precedes c inputs input old.newest moment frame old.memories.items = record {
-      within = ring;
-      newest_is = turned;
+      within = subst (λ (k : Config). old.newest ≤ latency_of k.stages) s.config_is ring;
+      newest_is = turned ∙ ap (λ (k : Config). ring_after (latency_of k.stages + 1) old.newest) s.config_is;
       number_is = s.entered_is;
       version_is = s.version_is;
       seed_is = s.seed_is;

@@ -1,11 +1,11 @@
 -- What is in flight after some inputs.
-use Rattle.std.specs.Prelude.{◌≡◌, ℕ, ◌+◌, ◌%◌, ◌<◌, List, ◌++◌, fold, length, Option, Vec}
+use Rattle.std.specs.Prelude.{◌≡◌, ℕ, ◌+◌, ◌≤◌, List, ◌++◌, fold, length, Option, Vec}
 use Rattle.std.specs.declared.alloc.Global.{Global}
 use Rattle.std.specs.List.{flat_map}
 use Rattle.rmt_bits.specs.Counts.{counts}
 use Rattle.rmt_bits.specs.declared.answer.Count.{Count}
 use Rattle.rmt_chip.specs.Types.{Config}
-use Rattle.rmt_config.specs.ChipRun.{counted_numbers}
+use Rattle.rmt_config.specs.ChipRun.{counted_numbers, latency_of}
 use Rattle.rmt_config.specs.RunCells.{RunCells, own_cells}
 use Rattle.rmt_config.specs.RunInputs.{Input, after_input, hits_from, numbers_brought, packet_of}
 use Rattle.rmt_chip.specs.declared.packet_slot.PacketSlot.{PacketSlot}
@@ -14,7 +14,7 @@ use Rattle.rmt_chip.specs.declared.memory.SlotMemory.{SlotMemory}
 use Rattle.rmt_chip.specs.declared.moment.Moment.{Moment}
 use Rattle.rmt_chip.specs.Inputs.{entered_at, input_of, packets_of}
 use Rattle.rmt_chip.specs.StageMemories.{MemoriesHold}
-use Rattle.rmt_chip.specs.Ring.{now, next, AllHold, FramesAre}
+use Rattle.rmt_chip.specs.Ring.{ring_after, now, next, AllHold, FramesAre}
 
 -- the numbers that have counters: those of the configuration, and those that changed cells brought
 abbrev pub numbers_after : Config → List Input → List ℕ
@@ -33,8 +33,8 @@ cells_after c inputs = fold (after_input c) (own_cells c) inputs
 
 -- behind these inputs an input is to come in the next cycle, with a frame where a packet enters; before it this slot was the newest
 pub record Precedes (c : Config) (inputs : List Input) (input : Input) (before : ℕ) (moment : Moment) (frame : Option Frame) (memories : List (Vec SlotMemory Global)) : Type 0 where
-  pub within : before < 385
-  pub newest_is : moment.newest ≡ (before + 1) % 385
+  pub within : before ≤ latency_of c.stages
+  pub newest_is : moment.newest ≡ ring_after (latency_of c.stages + 1) before
   pub number_is : moment.number ≡ packets_of inputs
   pub version_is : moment.version ≡ (cells_after c inputs).version
   pub seed_is : moment.seed ≡ (cells_after c inputs).seed

@@ -1,6 +1,7 @@
--- The ring of packet slots: an age is a place counted back from the newest.
-use Rattle.std.specs.Prelude.{◌≡◌, ℕ, zero, suc, ◌+◌, ◌-◌, ◌%◌, ◌<◌, ◌==◌, nat_lt, if◌then◌else◌, List, [], length, All, Option, Some, None, option_map, slice_index_or}
+-- The ring of packet slots: an age is a place counted back from the newest, around so many places.
+use Rattle.std.specs.Prelude.{◌≡◌, ℕ, zero, suc, ◌+◌, ◌-◌, ◌<◌, ◌==◌, nat_le, nat_lt, if◌then◌else◌, List, [], length, All, Option, Some, None, option_map, slice_index_or}
 use Rattle.rmt_chip.specs.Types.{Config, Stage}
+use Rattle.rmt_config.specs.ChipRun.{latency_of}
 use Rattle.rmt_config.specs.Life.{or_else}
 use Rattle.rmt_config.specs.RunCells.{RunCells, look_in}
 use Rattle.rmt_chip.specs.declared.packet_slot.PacketSlot.{PacketSlot}
@@ -8,13 +9,17 @@ use Rattle.rmt_chip.specs.Pending.{HaveRoomFor}
 use Rattle.rmt_chip.specs.Runnable.{start_of}
 use Rattle.rmt_chip.specs.Held.{Entered, HoldsIf, FrameIs}
 
-abbrev pub ring_at : ℕ → ℕ → ℕ
-ring_at newest age = (newest + 385 - age) % 385
+abbrev pub ring_at : ℕ → ℕ → ℕ → ℕ
+ring_at size newest age = if nat_le age newest then newest - age else size - (age - newest)
 
--- 385 packet slots, one of which is the newest, each with room for what the stages read
+-- the place that is the newest in the next cycle
+abbrev pub ring_after : ℕ → ℕ → ℕ
+ring_after size newest = if nat_lt (newest + 1) size then newest + 1 else 0
+
+-- a packet slot for each age up to that at which packets leave, one of which is the newest, each with room for what the stages read
 pub record IsRing (stages : List Stage) (newest : ℕ) (places : List PacketSlot) : Type 0 where
-  pub full : length places ≡ 385
-  pub among : newest < 385
+  pub full : length places ≡ latency_of stages + 1
+  pub among : newest < length places
   pub room : All (λ (p : PacketSlot). HaveRoomFor stages p.pending.items) places
 
 -- an age, now, one cycle ago or one cycle on
@@ -42,11 +47,11 @@ done_before stages after k = if k == 0 then 0 else start_of stages (k - 1) + aft
 -- each packet slot holds what entered so many cycles ago: its words, reads and acts as of these ages, and its look-ups below one
 abbrev pub AllHold : Config → (ℕ → Option Entered) → (ℕ → ℕ) → (ℕ → ℕ) → (ℕ → ℕ) → (ℕ → ℕ) → ℕ → List PacketSlot → Type 0
 AllHold c item words reads acts looks newest places =
-    (age : ℕ) (d : PacketSlot) → age < 385 → HoldsIf c (item age) (words age) (reads age) (acts age) (looks age) (slice_index_or places (ring_at newest age) d)
+    (age : ℕ) (d : PacketSlot) → age < length places → HoldsIf c (item age) (words age) (reads age) (acts age) (looks age) (slice_index_or places (ring_at (length places) newest age) d)
 
 -- each frame is that of the packet that entered so many cycles ago
 abbrev pub FramesAre : (ℕ → Option Entered) → ℕ → List (List ℕ) → Type 0
-FramesAre item newest frames = (age : ℕ) → age < 385 → FrameIs (item age) (slice_index_or frames (ring_at newest age) [])
+FramesAre item newest frames = (age : ℕ) → age < length frames → FrameIs (item age) (slice_index_or frames (ring_at (length frames) newest age) [])
 
 -- the packet at the start of a stage looks up there in these cells
 abbrev pub LooksNow : Config → RunCells → (ℕ → Option Entered) → Type 0

@@ -1,11 +1,12 @@
 //! The clocked chip.
 
-ghost use Rattle.std.specs.Prelude.{◌≡◌, ◌<◌, All, IsTrue, is_none, vec_len};
+ghost use Rattle.std.specs.Prelude.{◌≡◌, ◌+◌, ◌≤◌, All, IsTrue, is_none, length, vec_len};
 ghost use Rattle.std.proofs.Props.{props};
 ghost use Rattle.rmt_config.specs.ChipRun.{latency_of};
 ghost use Rattle.rmt_config.specs.Form.{items_are_formed};
 ghost use Rattle.rmt_config.specs.Limits.{limit_hit};
 ghost use Rattle.rmt_chip.specs.declared.packet_slot.PacketSlot.{PacketSlot as PlaceOf};
+ghost use Rattle.rmt_chip.specs.FrameList.{frames_of};
 ghost use Rattle.rmt_chip.specs.Pending.{HaveRoomFor};
 ghost use Rattle.rmt_chip.specs.StageMemories.{MemoriesOf};
 
@@ -20,7 +21,7 @@ use crate::moment::Moment;
 use crate::open::all_places;
 use crate::out::Out;
 use crate::packet_slot::PacketSlot;
-use crate::ring::{PLACES, oldest, place_of};
+use crate::ring::{oldest, place_after, place_of};
 use crate::seen::Seen;
 use crate::taken::is_taken;
 use rmt_bits::answer::Verdict;
@@ -45,14 +46,15 @@ pub struct Chip {
     ghost formed: { IsTrue (items_are_formed config) },
     ghost limits: { IsTrue (is_none (limit_hit config)) },
     ghost fit: { MemoriesOf config.stages memories.items } by { Prim.hlevel props },
-    ghost full: { vec_len places ≡ 385 },
+    ghost full: { vec_len places ≡ latency + 1 },
+    ghost framed: { length (frames_of frames) ≡ latency + 1 },
     ghost room: { All (λ (p : PlaceOf). HaveRoomFor config.stages p.pending.items) places.items } by { Prim.hlevel props },
-    ghost in_ring: { newest < 385 },
+    ghost in_ring: { newest ≤ latency },
     ghost leaves: { latency ≡ latency_of config.stages },
 }
 
 impl Chip {
-    ghost use Rattle.std.specs.Prelude.{[], ◌∷◌, ◌++◌, ◌+◌, ◌^◌, ◌≤◌, ◌⊎◌, ℕ, List, None, true, false, Contains, length, map, IfOk, OnOk, OnErr};
+    ghost use Rattle.std.specs.Prelude.{[], ◌∷◌, ◌++◌, ◌<◌, ◌^◌, ◌⊎◌, ℕ, List, None, true, false, Contains, map, IfOk, OnOk, OnErr};
     ghost use Rattle.rmt_bits.specs.declared.answer.Count.{Count};
     ghost use Rattle.rmt_config.specs.declared.config.Config.{Config};
     ghost use Rattle.rmt_config.specs.Form.{Formed};
@@ -71,11 +73,12 @@ impl Chip {
         ensures { IfOk result (λ chip. Stands config [] chip) }
     {
         let stages = config.stages.as_slice();
-        let places = all_places(alloc, stages)?;
+        let latency = latency(stages);
+        let count = usize::from(latency) + 1;
+        let places = all_places(alloc, stages, count)?;
         let memories = lay_all(alloc, stages)?;
         let counters = first_counters(alloc, &config)?;
-        let frames = Frames::new(alloc)?;
-        let latency = latency(config.stages.as_slice());
+        let frames = Frames::new(alloc, count)?;
         let seed = config.seed;
         Ok(Chip {
             config,
@@ -205,7 +208,7 @@ impl Chip {
         ensures spare { spare_of self.new ≡ spare_of self.old }
         ensures version { version_of self.new ≡ version_of self.old }
     {
-        let newest = (self.newest + 1) % PLACES;
+        let newest = place_after(self.places.len(), self.newest);
         let moment = Moment {
             newest,
             number: self.entered,
@@ -238,7 +241,7 @@ impl Chip {
         if age > self.latency {
             return None;
         }
-        let place = &self.places[place_of(self.newest, usize::from(age))];
+        let place = &self.places[place_of(self.places.len(), self.newest, usize::from(age))];
         if !place.taken {
             return None;
         }

@@ -1,6 +1,6 @@
 //! One cycle of the chip.
 
-ghost use Rattle.std.specs.Prelude.{◌≡◌, ◌<◌, ◌≤◌, ◌∷◌, ℕ, List, length, All};
+ghost use Rattle.std.specs.Prelude.{◌≡◌, ◌+◌, ◌≤◌, ◌∷◌, ℕ, List, length, All};
 ghost use Rattle.rmt_config.specs.ChipRun.{latency_of};
 ghost use Rattle.rmt_config.specs.RunInputs.{Input};
 ghost use Rattle.rmt_chip.specs.declared.packet_slot.PacketSlot.{PacketSlot as PlaceOf};
@@ -52,12 +52,14 @@ pub fn cycle(
 ) -> Option<Verdict>
     requires fits { IsRunnable config.now }
     requires memories { MemoriesOf config.now.stages memories.now }
-    requires full { length places.old ≡ 385 }
+    requires full { length places.old ≡ latency + 1 }
+    requires framed { length (frames_of frames.old) ≡ latency + 1 }
     requires room { All (λ (p : PlaceOf). HaveRoomFor config.now.stages p.pending.items) places.old }
-    requires in_ring { moment.newest < 385 }
+    requires in_ring { moment.newest ≤ latency }
     requires frame { MayEnter frame }
     requires leaves { latency ≡ latency_of config.now.stages }
     ensures room { All (λ (p : PlaceOf). HaveRoomFor config.now.stages p.pending.items) places.new }
+    ensures framed { length (frames_of frames.new) ≡ length (frames_of frames.old) }
     ensures spare { counters.new.room ≡ counters.old.room }
     ensures gives { (numbers : List ℕ) (inputs later : List Input) (input : Input) (before : ℕ) →
         Precedes config.now inputs input before moment frame.entry memories.now →
@@ -70,6 +72,6 @@ pub fn cycle(
     read_operands(places, newest, config);
     set_outcomes(places, newest, config, counters);
     read_keys(places, newest, config, memories, moment.seed);
-    let last = place_of(newest, usize::from(latency));
+    let last = place_of(places.len(), newest, usize::from(latency));
     leave(config, &places[last], frames, last, out)
 }

@@ -2,7 +2,7 @@
 
 ghost use Rattle.std.specs.Prelude.{◌≡◌, [], ◌+◌, ◌-◌, ◌<◌, ◌≤◌, ◌++◌, length, take, drop, min, map, All, slice_index};
 ghost use Rattle.rmt_config.specs.ChipRun.{header_bytes, tail_bytes, finished};
-ghost use Rattle.rmt_chip.specs.FrameList.{frame_at};
+ghost use Rattle.rmt_chip.specs.FrameList.{frame_at, frames_of};
 ghost use Rattle.rmt_chip.specs.Leaving.{Answers, AnswersIf, leaving_if, headers_sent, still};
 ghost use Rattle.rmt_chip.specs.Runnable.{HeaderFits, IsRunnable};
 ghost use Rattle.rmt_chip.specs.Tails.{tails_len};
@@ -19,7 +19,7 @@ use rmt_ptcam::parse::Parsed;
 
 /// Adds a part of the frame in a packet slot: so many bytes from a place on, or as many as it has there.
 fn push_part(out: &mut Out, frames: &Frames, at: usize, from: u32, size: u32)
-    requires exists { at < 385 }
+    requires exists { at < length (frames_of frames.now) }
     requires room { length out.old + min size (length (frame_at frames.now at) - from) ≤ 13312 }
     ensures { out.new ≡ out.old ++ take size (drop from (frame_at frames.now at)) }
 {
@@ -37,7 +37,7 @@ fn push_header(
     frames: &Frames,
     at: usize,
 )
-    requires exists { at < 385 }
+    requires exists { at < length (frames_of frames.now) }
     requires fits { HeaderFits header.now }
     requires room { length out.old + (64 + tail.1) ≤ 13312 }
     ensures { out.new ≡ out.old ++ header_bytes (λ w. slice_index vector.now w) header.now (take tail.1 (drop tail.0 (frame_at frames.now at))) }
@@ -57,7 +57,7 @@ fn push_headers(
     frames: &Frames,
     at: usize,
 )
-    requires exists { at < 385 }
+    requires exists { at < length (frames_of frames.now) }
     requires few { length headers.now ≤ 64 }
     requires fit { All HeaderFits headers.now }
     requires empty { out.old ≡ [] }
@@ -80,7 +80,7 @@ fn finish(
     at: usize,
     out: &mut Out,
 ) -> Verdict
-    requires exists { at < 385 }
+    requires exists { at < length (frames_of frames.now) }
     requires fits { IsRunnable config.now }
     requires empty { out.old ≡ [] }
     requires short { tails_len place.now.tails + (length (frame_at frames.now at) - used) ≤ 9216 }
@@ -105,7 +105,7 @@ pub fn leave(
     at: usize,
     out: &mut Out,
 ) -> Option<Verdict>
-    requires exists { at < 385 }
+    requires exists { at < length (frames_of frames.now) }
     requires fits { IsRunnable config.now }
     ensures { AnswersIf (leaving_if config.now place.now (frame_at frames.now at) place.now.taken) result out.new }
 {

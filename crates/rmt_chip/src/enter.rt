@@ -57,7 +57,7 @@ pub fn enter_if(
     config: &Config,
     frame: Option<Frame<'_>>,
 )
-    requires exists { moment.newest < 385 }
+    requires exists { moment.newest < length (frames_of frames.old) }
     requires fits { IsRunnable config.now }
     requires frame { MayEnter frame }
     ensures room { place.new.pending ≡ place.old.pending }

@@ -1,16 +1,12 @@
 //! The frames of the packets in the chip, in linked cells.
 
-ghost use Rattle.std.specs.Prelude.{◌≡◌, ◌+◌, ◌++◌, ◌∷◌, ◌≤◌, ℕ, List, [], Option, None, replicate, map, length, IfOk, vec_len};
+ghost use Rattle.std.specs.Prelude.{◌≡◌, ◌+◌, ◌++◌, ◌∷◌, ◌≤◌, ℕ, List, [], Option, None, replicate, map, length, IfOk};
 ghost use Rattle.std.proofs.Props.{props};
 ghost use Rattle.rmt_cells.specs.Stands.{Held, Stands, cells_held};
 ghost use Rattle.rmt_chip.specs.Frames.{AreFrames, frames_in, held_if};
 
-use crate::ring::PLACES;
 use rmt_cells::cells::{Cells, Chain};
 use std::alloc::{AllocError, Global};
-
-/// How many cells there are: more than 385 frames of 9,216 bytes take.
-const CELLS: u32 = 65_536;
 
 /// The frames of the packets in the chip, one for each packet slot, each a chain of linked cells.
 #[derive(Drop)]
@@ -18,7 +14,6 @@ pub struct Frames {
     cells: Cells,
     chains: Vec<Option<Chain>>,
     sizes: Vec<u32>,
-    ghost all: { vec_len chains ≡ 385 },
     ghost stand: { AreFrames cells chains.items (frames_in cells chains.items) } by { Prim.hlevel props },
     ghost sized: { sizes.items ≡ map length (frames_in cells chains.items) },
 }
@@ -27,16 +22,17 @@ impl Frames {
     ghost use Rattle.std.specs.Prelude.{◌<◌, take, drop, slice_set};
     ghost use Rattle.rmt_chip.specs.FrameList.{frames_of, frame_at};
 
-    /// No frame in any packet slot. It takes all memory that frames ever need.
-    pub fn new(alloc: Global) -> Result<Frames, AllocError>
-        ensures { IfOk result (λ frames. frames_of frames ≡ replicate 385 []) }
+    /// No frame in any of so many packet slots. It takes all memory that frames ever need.
+    pub fn new(alloc: Global, count: usize) -> Result<Frames, AllocError>
+        requires { count ≤ 385 }
+        ensures { IfOk result (λ frames. frames_of frames ≡ replicate count []) }
     {
-        let cells = match Cells::new(alloc, CELLS) {
+        let cells = match Cells::new(alloc, 144 * (count as u32 + 1)) {
             Ok(cells) => cells,
             Err(_) => return Err(AllocError),
         };
-        let chains = no_chains(alloc)?;
-        let sizes = no_sizes(alloc)?;
+        let chains = no_chains(alloc, count)?;
+        let sizes = no_sizes(alloc, count)?;
         Ok(Frames {
             cells,
             chains,
@@ -46,7 +42,7 @@ impl Frames {
 
     /// Puts a frame in the place of the one that stood in this packet slot.
     pub fn put(&mut self, at: usize, bytes: &[u8])
-        requires exists { at < 385 }
+        requires exists { at < length (frames_of self.old) }
         requires some { 1 ≤ length bytes.now }
         requires short { length bytes.now ≤ 9216 }
         ensures { frames_of self.new ≡ slice_set (frames_of self.old) at bytes.now }
@@ -60,7 +56,7 @@ impl Frames {
 
     /// How many bytes the frame in a packet slot has, 0 where there is none.
     pub fn len(&self, at: usize) -> u32
-        requires { at < 385 }
+        requires { at < length (frames_of self.now) }
         ensures len { result ≡ length (frame_at self.now at) }
         ensures short { result ≤ 9216 }
     {
@@ -69,7 +65,7 @@ impl Frames {
 
     /// Reads bytes of the frame in a packet slot, from a place in it on.
     pub fn read(&self, at: usize, from: u32, into: &mut [u8])
-        requires exists { at < 385 }
+        requires exists { at < length (frames_of self.now) }
         requires within { from + length into.old ≤ length (frame_at self.now at) }
         ensures { into.new ≡ take (length into.old) (drop from (frame_at self.now at)) }
     {
@@ -79,23 +75,23 @@ impl Frames {
     }
 }
 
-/// No chain for any packet slot.
-fn no_chains(alloc: Global) -> Result<Vec<Option<Chain>>, AllocError>
-    ensures { IfOk result (λ chains. chains.items ≡ replicate 385 None) }
+/// No chain for any of so many packet slots.
+fn no_chains(alloc: Global, count: usize) -> Result<Vec<Option<Chain>>, AllocError>
+    ensures { IfOk result (λ chains. chains.items ≡ replicate count None) }
 {
-    let mut chains = Vec::with_capacity(alloc, PLACES)?;
-    for _at in 0..PLACES {
+    let mut chains = Vec::with_capacity(alloc, count)?;
+    for _at in 0..count {
         chains.push(None)?;
     }
     Ok(chains)
 }
 
-/// No byte for any packet slot.
-fn no_sizes(alloc: Global) -> Result<Vec<u32>, AllocError>
-    ensures { IfOk result (λ sizes. sizes.items ≡ replicate 385 0) }
+/// No byte for any of so many packet slots.
+fn no_sizes(alloc: Global, count: usize) -> Result<Vec<u32>, AllocError>
+    ensures { IfOk result (λ sizes. sizes.items ≡ replicate count 0) }
 {
-    let mut sizes = Vec::with_capacity(alloc, PLACES)?;
-    for _at in 0..PLACES {
+    let mut sizes = Vec::with_capacity(alloc, count)?;
+    for _at in 0..count {
         sizes.push(0)?;
     }
     Ok(sizes)
@@ -103,9 +99,9 @@ fn no_sizes(alloc: Global) -> Result<Vec<u32>, AllocError>
 
 /// Gives the cells of a chain back, if one is there.
 fn clear(cells: &mut Cells, chain: Option<Chain>)
-    requires { (front : List Held) × (back : List Held) × (bytes : List ℕ) × Stands 65536 (front ++ (held_if chain bytes ++ back)) cells.old }
-    ensures { (front back : List Held) (bytes : List ℕ) →
-        Stands 65536 (front ++ (held_if chain bytes ++ back)) cells.old → Stands 65536 (front ++ back) cells.new }
+    requires { (count : ℕ) × (front : List Held) × (back : List Held) × (bytes : List ℕ) × Stands count (front ++ (held_if chain bytes ++ back)) cells.old }
+    ensures { (count : ℕ) (front back : List Held) (bytes : List ℕ) →
+        Stands count (front ++ (held_if chain bytes ++ back)) cells.old → Stands count (front ++ back) cells.new }
 {
     if let Some(chain) = chain {
         cells.give_back(chain);
@@ -116,9 +112,9 @@ fn clear(cells: &mut Cells, chain: Option<Chain>)
 fn put_short(cells: &mut Cells, bytes: &[u8]) -> Chain
     requires some { 1 ≤ length bytes.now }
     requires short { length bytes.now ≤ 9216 }
-    requires room { (held : List Held) × Stands 65536 held cells.old × (cells_held held + 144 ≤ 65536) }
-    ensures { (held : List Held) → Stands 65536 held cells.old →
-        Stands 65536 (record { chain = result; bytes = bytes.now } ∷ held) cells.new }
+    requires room { (count : ℕ) × (held : List Held) × Stands count held cells.old × (cells_held held + 144 ≤ count) }
+    ensures { (count : ℕ) (held : List Held) → Stands count held cells.old →
+        Stands count (record { chain = result; bytes = bytes.now } ∷ held) cells.new }
 {
     match cells.put(bytes) {
         Ok(chain) => chain,

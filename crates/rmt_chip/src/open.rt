@@ -8,7 +8,6 @@ ghost use Rattle.rmt_chip.specs.Writes.{most_ops};
 
 use crate::packet_slot::PacketSlot;
 use crate::pending::Pending;
-use crate::ring::PLACES;
 use crate::room::room;
 use rmt_config::config::{Stage, Vliw};
 use rmt_config::tails::Tails;
@@ -71,14 +70,18 @@ fn empty_place(alloc: Global, stages: &[Stage]) -> Result<PacketSlot, AllocError
     })
 }
 
-/// The 385 packet slots of a chip, all without a packet.
-pub fn all_places(alloc: Global, stages: &[Stage]) -> Result<Vec<PacketSlot>, AllocError>
-    ensures full { IfOk result (λ places. vec_len places ≡ 385) }
+/// So many packet slots, all without a packet.
+pub fn all_places(
+    alloc: Global,
+    stages: &[Stage],
+    count: usize,
+) -> Result<Vec<PacketSlot>, AllocError>
+    ensures full { IfOk result (λ places. vec_len places ≡ count) }
     ensures free { IfOk result (λ places. All IsFree places.items) }
     ensures room { IfOk result (λ places. All (λ (p : PlaceOf). HaveRoomFor stages.now p.pending.items) places.items) }
 {
-    let mut places = Vec::with_capacity(alloc, PLACES)?;
-    for _at in 0..PLACES {
+    let mut places = Vec::with_capacity(alloc, count)?;
+    for _at in 0..count {
         places.push(empty_place(alloc, stages)?)?;
     }
     Ok(places)

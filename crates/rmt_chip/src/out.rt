@@ -35,7 +35,7 @@ impl Model for Out {
 
 impl Out {
     ghost use Rattle.std.specs.Prelude.{◌++◌, ◌<◌, [], IfOk, take, drop};
-    ghost use Rattle.rmt_chip.specs.FrameList.{frame_at};
+    ghost use Rattle.rmt_chip.specs.FrameList.{frame_at, frames_of};
 
     /// An empty buffer with room for every answer. It can only be refused for memory.
     pub fn new(alloc: Global) -> Result<Out, ChipFault>
@@ -61,7 +61,7 @@ impl Out {
 
     /// Adds so many bytes of the frame in a packet slot, from a place in it on.
     pub(crate) fn push_frame(&mut self, frames: &Frames, at: usize, from: u32, size: u32)
-        requires exists { at < 385 }
+        requires exists { at < length (frames_of frames.now) }
         requires within { from + size ≤ length (frame_at frames.now at) }
         requires room { length self.old + size ≤ 13312 }
         ensures { self.new ≡ self.old ++ take size (drop from (frame_at frames.now at)) }

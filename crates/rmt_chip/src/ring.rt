@@ -2,11 +2,12 @@
 //! touches, for each stage, the one packet at the age at which the stage acts.
 
 ghost use Rattle.std.specs.Prelude.{◌≡◌, ◌+◌, ◌<◌, ◌≤◌, ℕ, Option, length};
+ghost use Rattle.rmt_config.specs.ChipRun.{latency_of};
 ghost use Rattle.rmt_config.specs.RunCells.{RunCells};
 ghost use Rattle.rmt_chip.specs.Held.{Entered};
 ghost use Rattle.rmt_chip.specs.Hits.{hits_upto};
 ghost use Rattle.rmt_chip.specs.Ran.{CountsAlso};
-ghost use Rattle.rmt_chip.specs.Ring.{ring_at, now, past, next, IsRing, AllHold, LooksNow, oldest_below};
+ghost use Rattle.rmt_chip.specs.Ring.{ring_at, ring_after, now, past, next, IsRing, AllHold, LooksNow, oldest_below};
 ghost use Rattle.rmt_chip.specs.Runnable.{StagesFit, start_of};
 ghost use Rattle.rmt_config.specs.declared.config.Config.{Config as ConfigOf};
 ghost use Rattle.rmt_chip.specs.StageMemories.{MemoriesOf, MemoriesHold};
@@ -18,45 +19,55 @@ use crate::{keys, operands, outcomes, words};
 use rmt_bits::counts::Counts;
 use rmt_config::config::Config;
 
-/// The number of packet slots: ages 0 to 384.
-pub const PLACES: usize = 385;
-
-/// The place of the packet of this age, counted back from the newest place.
-pub fn place_of(newest: usize, age: usize) -> usize
-    requires newest { newest < 385 }
-    requires age { age < 385 }
-    ensures place { result ≡ ring_at newest age }
-    ensures within { result < 385 }
+/// The place of the packet of this age, counted back from the newest place of a ring of so many.
+pub fn place_of(size: usize, newest: usize, age: usize) -> usize
+    requires newest { newest < size }
+    requires age { age < size }
+    ensures place { result ≡ ring_at size newest age }
+    ensures within { result < size }
 {
-    (newest + PLACES - age) % PLACES
+    if age <= newest {
+        newest - age
+    } else {
+        size - (age - newest)
+    }
+}
+
+/// The place that is the newest in the next cycle.
+pub fn place_after(size: usize, newest: usize) -> usize
+    requires { newest < size }
+    ensures place { result ≡ ring_after size newest }
+    ensures within { result < size }
+{
+    if newest + 1 < size { newest + 1 } else { 0 }
 }
 
 /// The place of the packet that is so many cycles behind the start of a stage.
-fn place_behind(newest: usize, config: &Config, k: usize, after: u16) -> usize
-    requires newest { newest < 385 }
+fn place_behind(size: usize, newest: usize, config: &Config, k: usize, after: u16) -> usize
+    requires newest { newest < size }
     requires fits { StagesFit config.now.stages }
+    requires full { latency_of config.now.stages < size }
     requires exists { k < length config.now.stages }
     requires after { after ≤ 12 }
-    ensures place { result ≡ ring_at newest (start_of config.now.stages k + after) }
-    ensures within { result < 385 }
+    ensures place { result ≡ ring_at size newest (start_of config.now.stages k + after) }
+    ensures within { result < size }
 {
     let stages = config.stages.as_slice();
     let stage = &stages[k];
-    place_of(newest, usize::from(stage.start) + usize::from(after))
+    place_of(size, newest, usize::from(stage.start) + usize::from(after))
 }
 
 /// The version of the oldest packet of an age below this one, if there is one.
 pub fn oldest(places: &[PacketSlot], newest: usize, age: usize) -> Option<u64>
-    requires full { length places.now ≡ 385 }
-    requires newest { newest < 385 }
-    requires age { age ≤ 385 }
+    requires newest { newest < length places.now }
+    requires age { age ≤ length places.now }
     ensures { (c : ConfigOf) (item : ℕ → Option Entered) → AllHold c item now now now next newest places.now →
         result ≡ oldest_below item age }
 {
     let mut below = age;
     while below > 0 {
         below -= 1;
-        let place = &places[place_of(newest, below)];
+        let place = &places[place_of(places.len(), newest, below)];
         if place.taken {
             return Some(place.version);
         }
@@ -74,7 +85,7 @@ pub fn write_words(places: &mut [PacketSlot], newest: usize, config: &Config)
         AllHold config.now item now past past now newest places.new }
 {
     for k in 0..config.stages.len() {
-        let at = place_behind(newest, config, k, 12);
+        let at = place_behind(places.len(), newest, config, k, 12);
         words::write_words(&mut places[at], k);
     }
 }
@@ -90,7 +101,7 @@ pub fn read_operands(places: &mut [PacketSlot], newest: usize, config: &Config)
 {
     let stages = config.stages.as_slice();
     for k in 0..config.stages.len() {
-        let at = place_behind(newest, config, k, 9);
+        let at = place_behind(places.len(), newest, config, k, 9);
         operands::read_operands(&mut places[at], k, stages);
     }
 }
@@ -113,7 +124,7 @@ pub fn set_outcomes(
 {
     let stages = config.stages.as_slice();
     for k in 0..config.stages.len() {
-        let at = place_behind(newest, config, k, 8);
+        let at = place_behind(places.len(), newest, config, k, 8);
         outcomes::set_outcomes(&mut places[at], k, stages, counters);
     }
 }
@@ -137,7 +148,7 @@ pub fn read_keys(
 {
     let stages = config.stages.as_slice();
     for k in 0..config.stages.len() {
-        let at = place_behind(newest, config, k, 0);
+        let at = place_behind(places.len(), newest, config, k, 0);
         let place = &mut places[at];
         let sight = Sight {
             seed,

@@ -1,10 +1,11 @@
 -- Entries that come, in cells.
-use Rattle.std.proofs.Common.{◌≡◌, ℕ, ◌+◌, ◌-◌, ◌*◌, ◌/◌, ◌%◌, ◌^◌, ◌<◌, true, false, List, [], Option, Some, None, map, option_map, refl, sym, ap, subst, ◌∙◌, arith}
+use Rattle.std.proofs.Common.{◌≡◌, ℕ, ◌+◌, ◌-◌, ◌*◌, ◌/◌, ◌%◌, ◌^◌, ◌<◌, true, false, List, [], Option, Some, None, length, map, option_map, refl, sym, ap, subst, ◌∙◌, arith}
 use Rattle.std.specs.Prelude.{IsSomeAnd, if◌then◌else◌, slice_get, slice_index_or, sum, unwrap_or}
 use Rattle.std.specs.List.{AllZip}
 use Rattle.std.proofs.lemmas.Bool.{false≢true}
 use Rattle.std.proofs.lemmas.Option.{get_or_from_slice_get, slice_get-map}
 use Rattle.rmt_bits.specs.Bits.{number_of}
+use Rattle.rmt_bits.proofs.ByteLaws.{length-bytes_of}
 use Rattle.rmt_ast.specs.declared.entry.Entry.{Entry}
 use Rattle.rmt_ast.specs.declared.names.ActionName.{ActionName}
 use Rattle.rmt_ast.specs.declared.names.TableName.{TableName}
@@ -16,17 +17,19 @@ use Rattle.rmt_ast.specs.NameRules.{terms_of_name}
 use Rattle.rmt_ast.specs.WellFormed.{Fits}
 use Rattle.rmt_config.specs.declared.config.Memory.{Memory}
 use Rattle.rmt_config.specs.declared.config.Memory.TheVariants.{Without, Exact, Ternary}
+use Rattle.rmt_config.specs.BlockCounts.{divided_up}
 use Rattle.rmt_config.specs.LaneForm.{bits_of_lanes}
 use Rattle.rmt_config.specs.NamesForm.{args_of_data, is_of_kind, params_in, tests_of_key}
-use Rattle.rmt_config.specs.Rooms.{args_as_one, tests_as_one}
+use Rattle.rmt_config.specs.Rooms.{args_as_one, key_number, tests_as_one}
 use Rattle.rmt_config.specs.RunCells.{written_mask}
 use Rattle.rmt_update.specs.declared.book.kept.Kept.{Kept}
-use Rattle.rmt_update.specs.Coming.{KeepsEntry}
+use Rattle.rmt_update.specs.Coming.{KeepsEntry, key_bytes}
 use Rattle.rmt_config.specs.Rooms.{mask_or_value}
 use Rattle.rmt_update.specs.Told.{is_whole, told_entry}
 use Rattle.rmt_update.proofs.NamedLaws.{params-at}
+use Rattle.rmt_refine.proofs.LayoutLaws.{bytes_hold}
 use Rattle.rmt_refine.proofs.SpelledFieldLaws.{tests_spelled}
-use Rattle.rmt_update.proofs.SpelledLaws.{args-spelled, whole-mask}
+use Rattle.rmt_update.proofs.SpelledLaws.{args-spelled, tests-lt, whole-mask}
 
 abbrev widths : ActionName → List ℕ
 widths a = a.params
@@ -52,6 +55,13 @@ mask-whole t e fit is = sym (whole-mask t.keys e.tests (by t.kind is fit.rank))
     by kind.Keyless is rank = cc
     by kind.Prefix is rank = cc
     by kind.Ternary is rank = cc
+
+-- the bytes of the key are as many as hold its bits, and their number is that of the tests
+pub key-long : (t : TableName) (e : Entry) (key : List ℕ) → key ≡ key_bytes t e → length key ≡ divided_up (sum t.keys) 8
+key-long t e key is = ap length is ∙ length-bytes_of (divided_up (sum t.keys) 8) (key_number (terms_of_name t) e)
+
+pub key-told : (t : TableName) (e : Entry) (key : List ℕ) → IsEntry t.node (terms_of_name t) e → key ≡ key_bytes t e → number_of key ≡ tests_as_one (mask_or_value false) t.keys e.tests
+key-told t e key fit is = ap number_of is ∙ bytes_hold (sum t.keys) (key_number (terms_of_name t) e) (tests-lt false t.keys e.tests fit.tests)
 
 -- the mask that a part's memory has
 mask-written : (k : Kind) (m : Memory) (bits : ℕ) (mask : List ℕ) → is_of_kind k m ≡ true → written_mask bits m mask ≡ (if is_whole k then 2 ^ bits - 1 else number_of mask)

@@ -130,9 +130,9 @@ there-part ts s t is there = subst (λ (o : Option TableCells). IsSomeAnd o (λ 
 
 -- ---- turns one after another
 
-turned-append : (xs : List CellTurn) (x : CellTurn) (s : BookSpot) (o : Option Kept) → turned (xs ++ x ∷ []) s o ≡ turned xs s (cond (is_spot x.spot s) (turned_by x.turn o) o)
-turned-append [] x s o = refl
-turned-append (y ∷ ys) x s o = ap (λ q. cond (is_spot y.spot s) (turned_by y.turn q) q) (turned-append ys x s o)
+pub turned-append : (xs ys : List CellTurn) (s : BookSpot) (o : Option Kept) → turned (xs ++ ys) s o ≡ turned xs s (turned ys s o)
+turned-append [] ys s o = refl
+turned-append (x ∷ xs) ys s o = ap (λ q. cond (is_spot x.spot s) (turned_by x.turn q) q) (turned-append xs ys s o)
 
 -- the turns that are left, and those that were made
 pub record AreTurning (ts us : List TableCells) (all left : List CellTurn) : Type 0 where
@@ -160,7 +160,7 @@ turning-more ts us vs all left rest x is h put = record {
   spots =
       All-weaker (λ (y : CellTurn). IsSpotIn us y.spot) (λ (y : CellTurn). IsSpotIn vs y.spot) (λ y. still-there us vs y.spot put.same) rest
       (all-front (λ (y : CellTurn). IsSpotIn us y.spot) rest x (subst (All (λ (y : CellTurn). IsSpotIn us y.spot)) is h.spots));
-  each = λ s. ap (turned rest s) (put.each s) ∙ sym (turned-append rest x s (kept_at us s)) ∙ ap (λ xs. turned xs s (kept_at us s)) (sym is) ∙ h.each s;
+  each = λ s. ap (turned rest s) (put.each s) ∙ sym (turned-append rest (x ∷ []) s (kept_at us s)) ∙ ap (λ xs. turned xs s (kept_at us s)) (sym is) ∙ h.each s;
 }
 
 pub turning-all : (ts us : List TableCells) (all left : List CellTurn) → left ≡ [] → AreTurning ts us all left → HaveCells ts us (λ s. turned all s (kept_at ts s))
@@ -190,7 +190,7 @@ lead-more turns x k us vs there put ts lead = record {
   spots =
       All-push (λ (y : CellTurn). IsSpotIn vs y.spot) turns (record { spot = x; turn = turn_to (kept_at us x) })
       (All-weaker (λ (y : CellTurn). IsSpotIn us y.spot) (λ (y : CellTurn). IsSpotIn vs y.spot) (λ y. still-there us vs y.spot put.same) turns lead.spots) (still-there us vs x put.same there);
-  each = λ s. turned-append turns (record { spot = x; turn = turn_to (kept_at us x) }) s (kept_at vs s) ∙ ap (turned turns s) (back-at x k us vs s put) ∙ lead.each s;
+  each = λ s. turned-append turns (record { spot = x; turn = turn_to (kept_at us x) } ∷ []) s (kept_at vs s) ∙ ap (turned turns s) (back-at x k us vs s put) ∙ lead.each s;
 }
 
 -- it came and was turned back at once

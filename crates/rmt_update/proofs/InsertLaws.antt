@@ -8,7 +8,7 @@ use Rattle.std.specs.declared.cmp.Ordering.{Ordering}
 use Rattle.std.specs.declared.cmp.Ordering.TheVariants.{Less, Equal, Greater}
 use Rattle.std.proofs.lemmas.Map.Lookups.{CmpEqualImpliesEq}
 
-is-equal : (o : Ordering) → is_eq o ≡ true → o ≡ Equal
+pub is-equal : (o : Ordering) → is_eq o ≡ true → o ≡ Equal
 is-equal Less e = cc
 is-equal Equal e = refl
 is-equal Greater e = cc

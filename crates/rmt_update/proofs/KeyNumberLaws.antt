@@ -38,11 +38,19 @@ one_key keys slot a b s t =
 pub place_at : (slots key numbers : List ℕ) (count place : ℕ) → count ≡ length slots → numbers ≡ key → place ≡ place_of count numbers → place ≡ place_of (length slots) key
 place_at slots key numbers count place all same own = own ∙ ap (λ (n : ℕ). place_of n numbers) all ∙ ap (place_of (length slots)) same
 
+-- a key that was found at its place is there
+pub there_seen : (slots keys key ks : List ℕ) (slot : ℕ) → ks ≡ keys → slot ≡ slot_of slots key → is_at ks slot key ≡ true → is_at keys (slot_of slots key) key ≡ true
+there_seen slots keys key ks slot same at found = ap (λ (k : List ℕ). is_at k (slot_of slots key) key) (sym same) ∙ ap (λ (n : ℕ). is_at ks n key) (sym at) ∙ found
+
+-- the first number of a place that was looked up
+pub first_seen : (firsts : List (Option ℕ)) (place : ℕ) (first : Option ℕ) → first ≡ get_or firsts place first → place < length firsts → first_at firsts place ≡ first
+first_seen firsts place first is within = sym (is ∙ get_or_default firsts place first None within)
+
 -- the number that was looked up is that of the key's place
 pub own_placed : (slots : List ℕ) (firsts : List (Option ℕ)) (keys key ks ns : List ℕ) (slot place : ℕ) (first own : Option ℕ) → ks ≡ keys → ns ≡ key → slot ≡ slot_of slots key → place ≡ place_of (length slots) key
     → place < length firsts → first ≡ get_or firsts place first → listed own ≡ cond (is_at ks slot ns) (listed first) [] → listed own ≡ placed slots firsts keys key
 own_placed slots firsts keys key ks ns slot place first own same_keys same_key at own_place within is result =
-    let here : first ≡ first_at firsts (place_of (length slots) key) = is ∙ get_or_default firsts place first None within ∙ ap (first_at firsts) own_place in
+    let here : first ≡ first_at firsts (place_of (length slots) key) = sym (first_seen firsts place first is within) ∙ ap (first_at firsts) own_place in
     result ∙ ap (λ (k : List ℕ). cond (is_at k slot ns) (listed first) []) same_keys ∙ ap (λ (k : List ℕ). cond (is_at keys slot k) (listed first) []) same_key
     ∙ ap (λ (n : ℕ). cond (is_at keys n key) (listed first) []) at ∙ ap (λ (f : Option ℕ). cond (is_at keys (slot_of slots key) key) (listed f) []) here
 
@@ -193,61 +201,70 @@ module _ (slots : List ℕ) (firsts : List (Option ℕ)) (keys : List ℕ) (crow
   pub same_stands : (next : List (List ℕ × List ℕ)) → ((q : Vec ℕ Global) → paired next q.items ≡ paired crowded q.items) → Stand slots firsts keys next
   same_stands next same = record { some = s.some; count = s.count; whole = s.whole; taken = λ q free. same q ∙ s.taken q free }
 
-  -- ---- the number at a key's place goes
-  module _ (key : List ℕ) (number : ℕ) (own_number : listed (Some number) ≡ placed slots firsts keys key) (within : place_of (length slots) key < length slots) where
-    abbrev pub key_place : ℕ
+  -- ---- what a key's place has is replaced
+  module _ (key : List ℕ) (next : Option ℕ) (there : is_at keys (slot_of slots key) key ≡ true) (within : place_of (length slots) key < length slots) where
+    abbrev key_place : ℕ
     key_place = place_of (length slots) key
 
-    abbrev pub left : List (Option ℕ)
-    left = slice_set firsts key_place None
-
-    gone : first_at left key_place ≡ None
-    gone = let inside : key_place < length firsts = rw s.count within in get_or-set_same firsts key_place None None inside
-
-    is_there : is_at keys (slot_of slots key) key ≡ true
-    is_there = by (is_at keys (slot_of slots key) key) own_number
-      where
-        by : (b : Bool) → (number ∷ []) ≡ cond b (listed (first_at firsts (place_of (length slots) key))) [] → b ≡ true
-        by true e = refl
-        by false e = cc
+    abbrev replaced : List (Option ℕ)
+    replaced = slice_set firsts key_place next
 
     not_there : (q : List ℕ) → place_of (length slots) q ≡ key_place → bytes_eq key q ≡ false → is_at keys (slot_of slots q) q ≡ false
     not_there q same apart = elim (cases_Bool (is_at keys (slot_of slots q) q)) [
       | inl t ↦
-          let there : is_at keys (slot_of slots key) q ≡ true = ap (λ (p : ℕ). is_at keys (get_or slots p 0) q) (sym same) ∙ t in
-          absurd (false≢true (sym apart ∙ (bytes_eq-Decides key q).1 (one_key keys (slot_of slots key) key q is_there there)))
+          let here : is_at keys (slot_of slots key) q ≡ true = ap (λ (p : ℕ). is_at keys (get_or slots p 0) q) (sym same) ∙ t in
+          absurd (false≢true (sym apart ∙ (bytes_eq-Decides key q).1 (one_key keys (slot_of slots key) key q there here)))
       | inr f ↦ f
     ]
 
-    placed_left : (q : List ℕ) → bytes_eq key q ≡ false → placed slots left keys q ≡ placed slots firsts keys q
-    placed_left q apart = elim (cases_eq (place_of (length slots) q) key_place) [
+    placed_others : (q : List ℕ) → bytes_eq key q ≡ false → placed slots replaced keys q ≡ placed slots firsts keys q
+    placed_others q apart = elim (cases_eq (place_of (length slots) q) key_place) [
       | inl same ↦
           let other = not_there q same apart in
-          ap (λ (b : Bool). cond b (listed (first_at left (place_of (length slots) q))) []) other ∙ sym (ap (λ (b : Bool). cond b (listed (first_at firsts (place_of (length slots) q))) []) other)
-      | inr other ↦ ap (λ (f : Option ℕ). cond (is_at keys (slot_of slots q) q) (listed f) []) (get_or-set_other firsts key_place (place_of (length slots) q) None None other)
+          ap (λ (b : Bool). cond b (listed (first_at replaced (place_of (length slots) q))) []) other ∙ sym (ap (λ (b : Bool). cond b (listed (first_at firsts (place_of (length slots) q))) []) other)
+      | inr other ↦ ap (λ (f : Option ℕ). cond (is_at keys (slot_of slots q) q) (listed f) []) (get_or-set_other firsts key_place (place_of (length slots) q) next None other)
     ]
 
-    emptied : placed slots left keys key ≡ []
-    emptied = ap (λ (f : Option ℕ). cond (is_at keys (slot_of slots key) key) (listed f) []) gone ∙ by (is_at keys (slot_of slots key) key)
-      where
-        by : (b : Bool) → cond b (listed None) [] ≡ []
-        by true = refl
-        by false = refl
+    placed_next : (q : List ℕ) → bytes_eq key q ≡ true → placed slots replaced keys q ≡ listed next
+    placed_next q same =
+        let inside : key_place < length firsts = rw s.count within in
+        ap (placed slots replaced keys) (sym (alike key q same)) ∙ ap (λ (b : Bool). cond b (listed (first_at replaced key_place)) []) there ∙ ap listed (get_or-set_same firsts key_place next None inside)
 
-    pub pop_all : (q : Vec ℕ Global) → all_at slots left keys crowded q.items ≡ without_first key q.items (all_at slots firsts keys crowded q.items)
-    pop_all q = elim (cases_Bool (bytes_eq key q.items)) [
-      | inl t ↦
-          let now : placed slots left keys q.items ≡ [] = ap (placed slots left keys) (sym (alike key q.items t)) ∙ emptied in
-          let was : placed slots firsts keys q.items ≡ number ∷ [] = ap (placed slots firsts keys) (sym (alike key q.items t)) ∙ sym own_number in
-          rw (t, now, was) refl
-      | inr f ↦ rw f (ap (λ (ns : List ℕ). ns ++ paired crowded q.items) (placed_left q.items f))
-    ]
-
+  -- the number at a key's place goes
   pub pop_seen : (key : List ℕ) (number place : ℕ) → listed (Some number) ≡ placed slots firsts keys key → place ≡ place_of (length slots) key → place < length slots
       → (q : Vec ℕ Global) → all_at slots (slice_set firsts place None) keys crowded q.items ≡ without_first key q.items (all_at slots firsts keys crowded q.items)
   pop_seen key number place own_number at inside q =
       let within : place_of (length slots) key < length slots = rw (← at) inside in
-      rw at (pop_all key number own_number within q)
+      rw at (elim (cases_Bool (bytes_eq key q.items)) [
+        | inl t ↦
+            let now : placed slots (slice_set firsts (place_of (length slots) key) None) keys q.items ≡ [] = placed_next key None is_there within q.items t in
+            let was : placed slots firsts keys q.items ≡ number ∷ [] = ap (placed slots firsts keys) (sym (alike key q.items t)) ∙ sym own_number in
+            rw (t, now, was) refl
+        | inr f ↦ rw f (ap (λ (ns : List ℕ). ns ++ paired crowded q.items) (placed_others key None is_there within q.items f))
+      ])
+    where
+      by : (b : Bool) → (number ∷ []) ≡ cond b (listed (first_at firsts (place_of (length slots) key))) [] → b ≡ true
+      by true e = refl
+      by false e = cc
+
+      is_there : is_at keys (slot_of slots key) key ≡ true
+      is_there = by (is_at keys (slot_of slots key) key) own_number
+
+  -- a number comes to the place of a key that has none
+  pub refill_seen : (key : List ℕ) (number place : ℕ) → is_at keys (slot_of slots key) key ≡ true → first_at firsts place ≡ None → paired crowded key ≡ [] → place ≡ place_of (length slots) key → place < length slots
+      → (q : Vec ℕ Global) → all_at slots (slice_set firsts place (Some number)) keys crowded q.items ≡ all_at slots firsts keys crowded q.items ++ with_number key number q.items
+  refill_seen key number place there empty none at inside q =
+      let within : place_of (length slots) key < length slots = rw (← at) inside in
+      rw at (elim (cases_Bool (bytes_eq key q.items)) [
+        | inl t ↦
+            let same : q.items ≡ key = sym (alike key q.items t) in
+            let now : placed slots (slice_set firsts (place_of (length slots) key) (Some number)) keys q.items ≡ number ∷ [] = placed_next key (Some number) there within q.items t in
+            let was : placed slots firsts keys q.items ≡ [] =
+            ap (placed slots firsts keys) same ∙ ap (λ (b : Bool). cond b (listed (first_at firsts (place_of (length slots) key))) []) there ∙ ap (λ (p : ℕ). listed (first_at firsts p)) (sym at) ∙ ap listed empty in
+            let behind : paired crowded q.items ≡ [] = ap (paired crowded) same ∙ none in
+            rw (t, now, was, behind) refl
+        | inr f ↦ rw f (ap (λ (ns : List ℕ). ns ++ paired crowded q.items) (placed_others key (Some number) there within q.items f) ∙ sym (append-nil (all_at slots firsts keys crowded q.items)))
+      ])
 
   -- ---- the first number in the ordered map goes
   module _ (key : List ℕ) (next : List (List ℕ × List ℕ)) (none : listed None ≡ placed slots firsts keys key) (pop : (q : Vec ℕ Global) → paired next q.items ≡ without_first key q.items (paired crowded q.items)) where

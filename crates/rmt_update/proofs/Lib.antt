@@ -8,6 +8,7 @@ pub mod ByNumberLaws
 pub mod BytesLaws
 pub mod CandidateLaws
 pub mod CellsFound
+pub mod ChangesLaws
 pub mod ComeCount
 pub mod ComeLaws
 pub mod ComeSeen
@@ -84,6 +85,7 @@ pub mod PlacingLaws
 pub mod PlacingSteps
 pub mod PutBackLaws
 pub mod PutChanges
+pub mod PutInOrder
 pub mod PutRows
 pub mod RankLaws
 pub mod RecentLaws
@@ -121,6 +123,7 @@ pub mod TableRules
 pub mod TakenLaws
 pub mod ToldEntryLaws
 pub mod ToldLaws
+pub mod TurnOrder
 pub mod TurnWriteLaws
 pub mod TurnedLaws
 pub mod WordLaws

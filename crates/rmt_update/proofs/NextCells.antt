@@ -3,6 +3,7 @@ use Rattle.std.proofs.Common.{◌≡◌, ◌≢◌, ◌⊎◌, ℕ, zero, suc, B
 use Rattle.std.specs.Prelude.{All, AllPairs, Contains, find, option_and_then, slice_get, zip}
 use Rattle.std.specs.Global.{Global}
 use Rattle.std.specs.List.{AllZip}
+use Rattle.std.specs.List.Sorted.{IsStrictlySortedBy}
 use Rattle.std.specs.BTreeMap.{IsOrdered, get}
 use Rattle.std.specs.Cmp.{eq_by_cmp_equiv}
 use Rattle.std.specs.Map.{keys_of}
@@ -30,7 +31,7 @@ use Rattle.rmt_update.specs.BookSpots.{kept_at}
 use Rattle.rmt_update.specs.Changing.{ChangeKey, change_key, key_cmp}
 use Rattle.rmt_update.specs.Come.{AreOrdered}
 use Rattle.rmt_update.specs.Coming.{empty_write, kept_write}
-use Rattle.rmt_update.specs.Differences.{AreDifferences, Changes, Goal, IsGoal, all_pairs, change_by, change_in, is_exact, is_same_kept, pairs_of, write_at}
+use Rattle.rmt_update.specs.Differences.{AreDifferences, Changes, Goal, IsGoal, all_pairs, change_at, change_by, change_in, is_exact, is_same_kept, pairs_of, write_at}
 use Rattle.rmt_update.specs.NextKept.{bit_of}
 use Rattle.rmt_update.specs.Running.{is_among}
 use Rattle.rmt_update.specs.Seen.{is_seen}
@@ -77,7 +78,7 @@ module _ (s : BookSpot) (o : Option Kept) where
   Turns_to t es = All (λ (e : ChangeKey × CellChange). is_spot e.1.spot s ≡ true → turn_of e.1.write.visible ≡ t) es
 
   -- where no changed cell stands nothing turns
-  none-turn : (es : List (ChangeKey × CellChange)) → All (λ (e : ChangeKey × CellChange). is_spot e.1.spot s ≡ false) es → turned (map cell_turn es) s o ≡ o
+  pub none-turn : (es : List (ChangeKey × CellChange)) → All (λ (e : ChangeKey × CellChange). is_spot e.1.spot s ≡ false) es → turned (map cell_turn es) s o ≡ o
   none-turn [] all = refl
   none-turn (e ∷ es) all =
       ap (λ b. cond b (turned_by (turn_of e.1.write.visible) (turned (map cell_turn es) s o)) (turned (map cell_turn es) s o)) (All-head (λ (d : ChangeKey × CellChange). is_spot d.1.spot s ≡ false) e es all)
@@ -180,19 +181,19 @@ left-after exact stage place n odd gone (Some k) w is = by (is_seen odd k) w is
 
 -- ---- all spots
 
-module _ (odd : Bool) (gone : List ℕ) (come : List Coming) (ts : List TableCells) (slots : HaveOwnSlots ts) (fresh : All (IsFresh ts) come) (m : Changes) (ordered : IsOrdered key_cmp m) where
+module _ (odd : Bool) (gone : List ℕ) (come : List Coming) (ts : List TableCells) (slots : HaveOwnSlots ts) (fresh : All (IsFresh ts) come) (m : Changes) (ordered : IsStrictlySortedBy key_cmp (keys_of m)) where
   abbrev next : BookSpot → Option Kept
   next s = come_to come s (left_kept odd gone (kept_at ts s))
 
   module _ (changed : AreChanged ts next m) where
-    of-tables : (e : ChangeKey × CellChange) → Contains m.entries e → IsOfTables ts e
-    of-tables e there = All-contains (IsOfTables ts) m.entries e changed.spots there
+    of-tables : (e : ChangeKey × CellChange) → Contains m e → IsOfTables ts e
+    of-tables e there = All-contains (IsOfTables ts) m e changed.spots there
 
-    found-there : (e : ChangeKey × CellChange) → Contains m.entries e → get key_cmp m e.0 ≡ Some e.1
-    found-there e there = lookup-from_Contains {eq = eq_by_cmp key_cmp} (eq_by_cmp_equiv key-total) e.0 e.1 m.entries (IsDistinct-from_sorted key_cmp (keys_of m.entries) ordered) there
+    found-there : (e : ChangeKey × CellChange) → Contains m e → change_at m e.0 ≡ Some e.1
+    found-there e there = lookup-from_Contains {eq = eq_by_cmp key_cmp} (eq_by_cmp_equiv key-total) e.0 e.1 m (IsDistinct-from_sorted key_cmp (keys_of m) ordered) there
 
     -- a changed cell of a spot stands by the spot's key
-    own-entry : (s : BookSpot) (p : PartCells) → part_of ts s ≡ Some p → (e : ChangeKey × CellChange) → Contains m.entries e → is_spot e.1.spot s ≡ true → e.0 ≡ key_in p s
+    own-entry : (s : BookSpot) (p : PartCells) → part_of ts s ≡ Some p → (e : ChangeKey × CellChange) → Contains m e → is_spot e.1.spot s ≡ true → e.0 ≡ key_in p s
     own-entry s p at e there is =
         let h = of-tables e there in
         let one : e.1.spot ≡ s = same-spot e.1.spot s is in
@@ -200,30 +201,30 @@ module _ (odd : Bool) (gone : List ℕ) (come : List Coming) (ts : List TableCel
         h.2 ∙ ap (λ (q : PartCells). key_in q e.1.spot) two ∙ ap (key_in p) one
 
     -- of each cell the change is its turn
-    turned-at : (s : BookSpot) (p : PartCells) → part_of ts s ≡ Some p → (o : Option Kept) → turned (map cell_turn m.entries) s o ≡ after (write_at m (key_in p s)) o
-    turned-at s p at o = by (get key_cmp m (key_in p s)) refl
+    turned-at : (s : BookSpot) (p : PartCells) → part_of ts s ≡ Some p → (o : Option Kept) → turned (map cell_turn m) s o ≡ after (write_at m (key_in p s)) o
+    turned-at s p at o = by (change_at m (key_in p s)) refl
       where
-        by : (c : Option CellChange) → get key_cmp m (key_in p s) ≡ c → turned (map cell_turn m.entries) s o ≡ after (option_map (λ (x : CellChange). x.write) (get key_cmp m (key_in p s))) o
+        by : (c : Option CellChange) → change_at m (key_in p s) ≡ c → turned (map cell_turn m) s o ≡ after (option_map (λ (x : CellChange). x.write) (change_at m (key_in p s))) o
         by None is =
-            none-turn s o m.entries (all_at (λ (e : ChangeKey × CellChange). is_spot e.1.spot s ≡ false) m.entries (λ e there.
-            false_from_ne_true (is_spot e.1.spot s) (λ t. none-some e.1 (sym (sym (found-there e there) ∙ ap (get key_cmp m) (own-entry s p at e there t) ∙ is)))))
+            none-turn s o m (all_at (λ (e : ChangeKey × CellChange). is_spot e.1.spot s ≡ false) m (λ e there.
+            false_from_ne_true (is_spot e.1.spot s) (λ t. none-some e.1 (sym (sym (found-there e there) ∙ ap (change_at m) (own-entry s p at e there t) ∙ is)))))
             ∙ ap (λ (c : Option CellChange). after (option_map (λ (x : CellChange). x.write) c) o) (sym is)
         by (Some c) is =
-            let there : Contains m.entries (key_in p s, c) = Contains-from_lookup {eq = eq_by_cmp key_cmp} (tells_apart key-exact) (key_in p s) c m.entries is in
+            let there : Contains m (key_in p s, c) = Contains-from_lookup {eq = eq_by_cmp key_cmp} (tells_apart key-exact) (key_in p s) c m is in
             let h = of-tables (key_in p s, c) there in
             let here : c.spot ≡ s = one-key ts slots c.spot s h.0 p h.1 at (sym h.2) in
-            one-turns s o (turn_of c.write.visible) m.entries (all_at (λ (e : ChangeKey × CellChange). is_spot e.1.spot s ≡ true → turn_of e.1.write.visible ≡ turn_of c.write.visible) m.entries (λ e among t.
-            ap (λ (x : CellChange). turn_of x.write.visible) (same_Some e.1 c (sym (found-there e among) ∙ ap (get key_cmp m) (own-entry s p at e among t) ∙ is)))) (key_in p s, c) there
+            one-turns s o (turn_of c.write.visible) m (all_at (λ (e : ChangeKey × CellChange). is_spot e.1.spot s ≡ true → turn_of e.1.write.visible ≡ turn_of c.write.visible) m (λ e among t.
+            ap (λ (x : CellChange). turn_of x.write.visible) (same_Some e.1 c (sym (found-there e among) ∙ ap (change_at m) (own-entry s p at e among t) ∙ is)))) (key_in p s, c) there
             (ap (λ z. is_spot z s) here ∙ spot-itself s) ∙ ap (λ (x : Option CellChange). after (option_map (λ (y : CellChange). y.write) x) o) (sym is)
 
     -- nothing turns outside of the tables
-    turned-nowhere : (s : BookSpot) → part_of ts s ≡ None → (o : Option Kept) → turned (map cell_turn m.entries) s o ≡ o
+    turned-nowhere : (s : BookSpot) → part_of ts s ≡ None → (o : Option Kept) → turned (map cell_turn m) s o ≡ o
     turned-nowhere s nowhere o =
-        none-turn s o m.entries (all_at (λ (e : ChangeKey × CellChange). is_spot e.1.spot s ≡ false) m.entries (λ e there.
+        none-turn s o m (all_at (λ (e : ChangeKey × CellChange). is_spot e.1.spot s ≡ false) m (λ e there.
         let h = of-tables e there in
         false_from_ne_true (is_spot e.1.spot s) (λ t. none-some h.0 (sym nowhere ∙ ap (part_of ts) (sym (same-spot e.1.spot s t)) ∙ h.1))))
 
-    module _ (us : List TableCells) (have : HaveCells ts us (λ s. turned (map cell_turn m.entries) s (come_to come s (kept_at ts s)))) where
+    module _ (us : List TableCells) (have : HaveCells ts us (λ s. turned (map cell_turn m) s (come_to come s (kept_at ts s)))) where
       pub next-kept : (s : BookSpot) → kept_at us s ≡ next s
       next-kept s = have.each s ∙ by (part_of ts s) refl
         where
@@ -238,7 +239,7 @@ module _ (odd : Bool) (gone : List ℕ) (come : List Coming) (ts : List TableCel
               (changed.each s p at ∙ ap (change_to p s) (is (left_kept odd gone (kept_at ts s)))
               ∙ ap (λ o. change_by (is_exact p.shape.grid) p.stage p.place s.at.cell o (left_kept odd gone (kept_at ts s))) (sym (kept-part ts s p at))) ∙ sym (is (left_kept odd gone (kept_at ts s)))
 
-          by : (o : Option PartCells) → part_of ts s ≡ o → turned (map cell_turn m.entries) s (come_to come s (kept_at ts s)) ≡ next s
+          by : (o : Option PartCells) → part_of ts s ≡ o → turned (map cell_turn m) s (come_to come s (kept_at ts s)) ≡ next s
           by None at = turned-nowhere s at (come_to come s (kept_at ts s)) ∙ ap (come_to come s) (nothing ∙ sym (ap (left_kept odd gone) nothing))
             where
               nothing : kept_at ts s ≡ None
@@ -378,10 +379,10 @@ module _ (odd : Bool) (gone : List ℕ) (come : List Coming) (ts : List TableCel
             by false h = ap (λ c. ((stage, place), c)) (sym (own k refl)) ∙ ap change_key (same_Some (kept_write stage place k.visible k) w h)
 
         -- a changed cell stands by its own key
-        entry-write : (e : ChangeKey × CellChange) → Contains m.entries e → write_at m e.0 ≡ Some e.1.write
+        entry-write : (e : ChangeKey × CellChange) → Contains m e → write_at m e.0 ≡ Some e.1.write
         entry-write e there = ap (option_map (λ (x : CellChange). x.write)) (found-there e there)
 
-        entry-key : (e : ChangeKey × CellChange) → Contains m.entries e → e.0 ≡ change_key e.1.write
+        entry-key : (e : ChangeKey × CellChange) → Contains m e → e.0 ≡ change_key e.1.write
         entry-key e there =
             let h = of-tables e there in
             let s = e.1.spot in
@@ -389,14 +390,14 @@ module _ (odd : Bool) (gone : List ℕ) (come : List Coming) (ts : List TableCel
             ∙ own-key-by (is_exact h.0.shape.grid) h.0.stage h.0.place s.at.cell (get nat_cmp h.0.cells s.at.cell) (next s) e.1.write (next-own s)
             (sym (changed.each s h.0 h.1) ∙ ap (write_at m) (sym h.2) ∙ entry-write e there)
 
-        pub turned-differ : (writes : List CellWrite) → writes ≡ map (λ (x : ChangeKey × CellChange). x.1.write) m.entries → (g : Goal) → All (IsGoal g) (all_pairs ts moved) → AreDifferences (all_pairs ts moved) writes g
+        pub turned-differ : (writes : List CellWrite) → writes ≡ map (λ (x : ChangeKey × CellChange). x.1.write) m → (g : Goal) → All (IsGoal g) (all_pairs ts moved) → AreDifferences (all_pairs ts moved) writes g
         turned-differ writes are goal goals =
-            let keyed : All IsKeyed m.entries = all_at IsKeyed m.entries entry-key in
+            let keyed : All IsKeyed m = all_at IsKeyed m entry-key in
             record {
-              in_order = subst (AllPairs (λ a b. writes_before a b ≡ true)) (sym are) (keyed-order m.entries keyed ordered);
+              in_order = subst (AllPairs (λ a b. writes_before a b ≡ true)) (sym are) (keyed-order m keyed ordered);
               each = subst (All (λ (w : CellWrite). goal (change_key w) ≡ Some w)) (sym are)
-                  (All-map (λ (w : CellWrite). goal (change_key w) ≡ Some w) (λ (x : ChangeKey × CellChange). x.1.write) m.entries
-                  (all_at (λ (e : ChangeKey × CellChange). goal (change_key e.1.write) ≡ Some e.1.write) m.entries (λ e there.
+                  (All-map (λ (w : CellWrite). goal (change_key w) ≡ Some w) (λ (x : ChangeKey × CellChange). x.1.write) m
+                  (all_at (λ (e : ChangeKey × CellChange). goal (change_key e.1.write) ≡ Some e.1.write) m (λ e there.
                   let h = of-tables e there in
                   let pair = there-pair e.1.spot h.0 h.1 in
                   let at = pair-at (h.0, pair.0) pair.1 in
@@ -406,5 +407,5 @@ module _ (odd : Bool) (gone : List ℕ) (come : List Coming) (ts : List TableCel
                   ap goal own ∙ All-contains (IsGoal goal) (all_pairs ts moved) (h.0, pair.0) goals pair.1 e.1.spot.at.cell ∙ sym (pair-change (h.0, pair.0) at e.1.spot.at.cell)
                   ∙ ap (write_at m) (sym own ∙ sym (entry-key e there)) ∙ entry-write e there)));
               all = all_at (λ (p : PartCells × PartCells). (n : ℕ) → find (λ (w : CellWrite). is_changed w p.1.stage p.1.place n) writes ≡ change_in p.0 p.1 n) (all_pairs ts moved) (λ p there n.
-                  ap (find (λ (w : CellWrite). is_changed w p.1.stage p.1.place n)) are ∙ keyed-found p.1.stage p.1.place n m.entries keyed ∙ pair-change p (pair-at p there) n);
+                  ap (find (λ (w : CellWrite). is_changed w p.1.stage p.1.place n)) are ∙ keyed-found p.1.stage p.1.place n m keyed ∙ pair-change p (pair-at p there) n);
             }

@@ -1,14 +1,15 @@
 -- The index of a book behind a commit that moves no cell is that of the next tables.
-use Rattle.std.proofs.Common.{◌≡◌, ◌≢◌, ◌⊎◌, ℕ, ◌+◌, ◌/◌, ◌%◌, ◌<◌, ◌≤◌, ◌==◌, ◌&&◌, ◌||◌, Bool, true, false, not, cond, List, [], ◌∷◌, ◌++◌, Option, Some, None, get_or, length, map, option_map, refl, sym, ap, ◌∙◌, subst, inl, inr, arith}
+use Rattle.std.proofs.Common.{◌≡◌, ◌≢◌, ◌⊎◌, ℕ, ◌+◌, ◌/◌, ◌%◌, ◌<◌, ◌≤◌, ◌==◌, ◌&&◌, ◌||◌, Bool, true, false, not, cond, List, [], ◌∷◌, ◌++◌, Option, Some, None, Vec, get_or, length, map, option_map, refl, sym, ap, ◌∙◌, subst, inl, inr, arith}
 use Rattle.std.specs.Prelude.{All, Contains, IsSome, IsTrue, option_and_then, slice_get, unwrap_or}
+use Rattle.std.specs.Global.{Global}
 use Rattle.std.specs.List.{AllZip, filter_map, flat_map, list_any}
 use Rattle.std.specs.BTreeMap.{BTreeMap, get}
-use Rattle.std.specs.BTreeSet.{contains}
+use Rattle.std.specs.BTreeSet.{BTreeSet, contains}
 use Rattle.std.specs.Ordering.{nat_cmp}
 use Rattle.std.proofs.lemmas.Bool.{and_parts, cases_lt, eq-eqb, eqb-true, false≢true, false_from_ne_true}
 use Rattle.std.proofs.lemmas.List.Elements.{All-contains, All-weaker, Contains-append_cases, Contains-append_left, Contains-append_right, Contains-get_or}
 use Rattle.std.proofs.lemmas.Option.{none-some, same_Some, slice_get-get_or, slice_get_past, slice_get_within}
-use Rattle.rmt_bits.proofs.ListLaws.{slice_get-item}
+use Rattle.rmt_bits.proofs.ListLaws.{AllZip-slice_get, slice_get-item}
 use Rattle.rmt_bits.proofs.MemberLaws.{Contains-first, Contains-from_any, Contains-item, Contains-later, Contains-map, Contains-split, Contains-unmap, any_item, from_flat_map, list_any-Contains}
 use Rattle.rmt_ast.specs.Answers.{entry_numbers}
 use Rattle.rmt_ast.specs.RankPairs.{pair_cmp}
@@ -35,7 +36,7 @@ use Rattle.rmt_update.specs.BookSpots.{kept_at, kept_in}
 use Rattle.rmt_update.specs.BookStands.{BookStands}
 use Rattle.rmt_update.specs.Come.{AreOrdered, IsRunOf, Run}
 use Rattle.rmt_update.specs.ComeIndex.{AreNextRows, HasPlaced, IsNextIndex, next_row}
-use Rattle.rmt_update.specs.NextIndex.{AreAllFreed, AreAllRenewed, AreFreed, AreSeenSpots, HasFewRows, IsRenewed, is_row_of, is_unseen_of, spot_behind}
+use Rattle.rmt_update.specs.NextIndex.{AreAllFreed, AreFreed, AreSeenSpots, HasFewRows, IsRenewed, is_row_of, is_unseen_of, spot_behind}
 use Rattle.rmt_update.specs.NextKept.{bit_of}
 use Rattle.rmt_update.specs.Open.{is_kept_seen}
 use Rattle.rmt_update.specs.Placing.{ArePlaced, IsBookSpot, TakesCell}
@@ -508,9 +509,9 @@ module _ (c : Config) (names : Names) (cells : RunCells) (lists : List (List Ent
     -- ---- the indexes of tables
 
     index-next : (i : ℕ) (t u : TableCells) → slice_get b.tables.items i ≡ Some t → slice_get us i ≡ Some u → IsSameTable t u → (o p q : TableIndex) → IsNextIndex b.odd ch.gone xs i t o
-        → AreFreed i t.parts.items (filter_map (get nat_cmp ix.spots) ch.gone) o p → IsRenewed (length t.parts.items) p q → IsIndex (not b.odd) never u q
+        → AreFreed i t.parts.items (filter_map (get nat_cmp ix.spots) ch.gone) o p → IsRenewed p q → IsIndex (not b.odd) never u q
     index-next i t u at_t at_u same (Cells o) (Cells p) (Cells q) is freed renewed =
-        (ap (λ (n : TableName). has_rows n.kind) same.0 ∙ is, renewed.0 ∙ zip-length IsSamePart t.parts.items u.parts.items same.1, renewed.1)
+        (ap (λ (n : TableName). has_rows n.kind) same.0 ∙ is.0, renewed.0 ∙ ap (λ (g : Vec (BTreeSet ℕ) Global). length g.items) freed ∙ is.1 ∙ zip-length IsSamePart t.parts.items u.parts.items same.1, renewed.1)
     index-next i t u at_t at_u same (Cells o) (Cells p) (Rows q) is freed renewed = absurd renewed
     index-next i t u at_t at_u same (Cells o) (Rows p) q is freed renewed = absurd freed
     index-next i t u at_t at_u same (Rows o) (Cells p) q is freed renewed = absurd freed
@@ -524,22 +525,22 @@ module _ (c : Config) (names : Names) (cells : RunCells) (lists : List (List Ent
               (subst (λ (n : TableName). AreRows n.kind (not b.odd) never (rows_of u.parts.items) p) (sym same.0) (rows-next i t u at_t at_u same o p is.2 freed.0 freed.1)),
         )
 
-    indexes-next : (freed renewed : List TableIndex) → AreAllFreed b.tables.items (filter_map (get nat_cmp ix.spots) ch.gone) ix.tables.items freed → AreAllRenewed b.tables.items freed renewed → AllZip (IsIndex (not b.odd) never) us renewed
+    indexes-next : (freed renewed : List TableIndex) → AreAllFreed b.tables.items (filter_map (get nat_cmp ix.spots) ch.gone) ix.tables.items freed → AllZip IsRenewed freed renewed → AllZip (IsIndex (not b.odd) never) us renewed
     indexes-next freed renewed f r =
         let count = index.count in
         let f_count = f.count in
-        let r_count = r.count in
+        let r_count = zip-length IsRenewed freed renewed r in
         let u_count = zip-length IsSameTable ts us next.same in
         zip-made (IsIndex (not b.odd) never) us renewed (omega (arith, count, f_count, r_count, u_count)) (λ i u q at_u at_q.
         let t = zip-right IsSameTable ts us i u next.same at_u in
         let lt = slice_get_within renewed i q at_q in
         let o = slice_get-item ix.tables.items i (omega (arith, lt, f_count, r_count)) in
         let p = slice_get-item freed i (omega (arith, lt, r_count)) in
-        index-next i t.0 u t.1 at_u t.2 o.0 p.0 q (index.tables i t.0 o.0 t.1 o.1) (f.each i t.0 o.0 p.0 t.1 o.1 p.1) (r.each i t.0 p.0 q t.1 p.1 at_q))
+        index-next i t.0 u t.1 at_u t.2 o.0 p.0 q (index.tables i t.0 o.0 t.1 o.1) (f.each i t.0 o.0 p.0 t.1 o.1 p.1) (AllZip-slice_get IsRenewed freed renewed i p.0 q r p.1 at_q))
 
     pub index-stands : (kept : BTreeMap ℕ BookSpot) (d : BookIndex) (freed : List TableIndex) → AreSeenSpots b.odd b.tables.items ix.recent.items ix.spots kept
         → ((n : ℕ) → get nat_cmp d.spots n ≡ spot_behind xs n (get nat_cmp kept n)) → d.recent.items ≡ filter_map (get nat_cmp ix.spots) ch.gone ++ map (λ (x : Coming). x.spot) xs
-        → AreAllFreed b.tables.items (filter_map (get nat_cmp ix.spots) ch.gone) ix.tables.items freed → AreAllRenewed b.tables.items freed d.tables.items → IsBookIndex (not b.odd) us d
+        → AreAllFreed b.tables.items (filter_map (get nat_cmp ix.spots) ch.gone) ix.tables.items freed → AllZip IsRenewed freed d.tables.items → IsBookIndex (not b.odd) us d
     index-stands kept d freed seen behind list f r = record {
       cells = next-cells kept d.spots seen behind d refl list;
       tables = indexes-next freed d.tables.items f r;

@@ -1,15 +1,15 @@
 -- How the index of a book goes on to the next version, one step after another.
-use Rattle.std.proofs.Common.{◌≡◌, ◌≢◌, ℕ, ◌+◌, ◌<◌, ◌≤◌, ◌^◌, ◌==◌, ◌&&◌, ◌||◌, Bool, true, false, not, cond, List, [], ◌∷◌, ◌++◌, Option, Some, None, length, slice_set, take, refl, sym, ap, ◌∙◌, subst, inl, inr, arith}
+use Rattle.std.proofs.Common.{◌≡◌, ◌≢◌, ℕ, ◌+◌, ◌<◌, ◌≤◌, ◌^◌, ◌==◌, ◌&&◌, ◌||◌, Bool, true, false, not, cond, List, [], ◌∷◌, ◌++◌, Option, Some, None, length, slice_set, take, refl, sym, ap, ◌∙◌, subst, arith}
 use Rattle.std.specs.Prelude.{Contains, slice_get}
-use Rattle.std.specs.List.{filter_map, list_any}
+use Rattle.std.specs.List.{AllZip, filter_map, list_any}
 use Rattle.std.specs.BTreeMap.{BTreeMap, get, is_at}
 use Rattle.std.specs.BTreeSet.{contains}
 use Rattle.std.specs.Ordering.{nat_cmp}
-use Rattle.std.proofs.lemmas.Bool.{cases_lt, eq-eqb, eqb-true, false≢true}
-use Rattle.std.proofs.lemmas.List.{append-nil, length-set}
-use Rattle.std.proofs.lemmas.List.Elements.{All-contains, filter_map-append}
+use Rattle.std.proofs.lemmas.Bool.{eq-eqb, eqb-true, false≢true}
+use Rattle.std.proofs.lemmas.List.{append-nil, length-set, take_all, take_more_set}
+use Rattle.std.proofs.lemmas.List.Elements.{All-contains, all_zip_more, filter_map-append}
 use Rattle.std.proofs.lemmas.List.Folds.{list_any-append}
-use Rattle.std.proofs.lemmas.Option.{same_Some, slice_get_within}
+use Rattle.std.proofs.lemmas.Option.{get_or_from_slice_get, same_Some, slice_get_within}
 use Rattle.rmt_bits.proofs.ListLaws.{slice_get-item, slice_get-set_other, slice_get-set_same}
 use Rattle.rmt_update.specs.declared.book.index.TableIndex.{TableIndex}
 use Rattle.rmt_update.specs.declared.book.index.TableIndex.TheVariants.{Cells, Rows}
@@ -18,7 +18,7 @@ use Rattle.rmt_update.specs.declared.book.spot.BookSpot.{BookSpot}
 use Rattle.rmt_update.specs.declared.book.table.PartCells.{PartCells}
 use Rattle.rmt_update.specs.declared.book.table.TableCells.{TableCells}
 use Rattle.rmt_update.specs.BookSpots.{kept_at}
-use Rattle.rmt_update.specs.NextIndex.{AreAllFreed, AreAllRenewed, AreFreed, AreSeenSpots, HasFewRows, IsFewRow, IsRenewed, IsRowFreed, is_row_of, is_unseen_of}
+use Rattle.rmt_update.specs.NextIndex.{AreAllFreed, AreFreed, AreSeenSpots, HasFewRows, IsFewRow, IsRenewed, IsRowFreed, is_row_of, is_unseen_of}
 use Rattle.rmt_update.specs.RowIndex.{row_number}
 use Rattle.rmt_update.specs.Seen.{is_seen}
 use Rattle.rmt_update.proofs.RankLaws.{same-number}
@@ -70,7 +70,7 @@ module _ (odd : Bool) (ts : List TableCells) (among : List BookSpot) (i : ℕ) (
 -- ---- the rows of the entries that go
 
 freed-itself : (at : ℕ) (parts : List PartCells) (o : TableIndex) → AreFreed at parts [] o o
-freed-itself at parts (Cells given) = tt
+freed-itself at parts (Cells given) = refl
 freed-itself at parts (Rows order) = (refl, λ row. alone (contains nat_cmp order.free row))
   where
     alone : (b : Bool) → b ≡ (b || false)
@@ -82,7 +82,7 @@ freed-none ts os = record { count = refl; each = λ i t o p at_t at_o at_p. subs
 
 -- a further row of the table
 freed-here : (at : ℕ) (parts : List PartCells) (xs : List BookSpot) (s : BookSpot) (o m new : TableIndex) → s.table ≡ at → AreFreed at parts xs o m → IsRowFreed (row_number parts s.at) m new → AreFreed at parts (xs ++ s ∷ []) o new
-freed-here at parts xs s (Cells o) (Cells m) (Cells new) here before freed = tt
+freed-here at parts xs s (Cells o) (Cells m) (Cells new) here before freed = freed ∙ before
 freed-here at parts xs s (Cells o) (Cells m) (Rows new) here before freed = absurd freed
 freed-here at parts xs s (Cells o) (Rows m) new here before freed = absurd before
 freed-here at parts xs s (Rows o) (Cells m) new here before freed = absurd before
@@ -106,7 +106,7 @@ freed-here at parts xs s (Rows o) (Rows m) (Rows new) here before freed = (
 
 -- one of another table
 freed-other : (at : ℕ) (parts : List PartCells) (xs : List BookSpot) (s : BookSpot) (o m : TableIndex) → (s.table == at) ≡ false → AreFreed at parts xs o m → AreFreed at parts (xs ++ s ∷ []) o m
-freed-other at parts xs s (Cells o) (Cells m) other before = tt
+freed-other at parts xs s (Cells o) (Cells m) other before = before
 freed-other at parts xs s (Cells o) (Rows m) other before = absurd before
 freed-other at parts xs s (Rows o) (Cells m) other before = absurd before
 freed-other at parts xs s (Rows o) (Rows m) other before = (
@@ -162,30 +162,27 @@ module _ (ts : List TableCells) (among : List BookSpot) (i : ℕ) (s : BookSpot)
 -- ---- the cells that exact tables gave
 
 -- those of the first tables are taken back
-pub record RenewedSoFar (ts : List TableCells) (n : ℕ) (old new : List TableIndex) : Type 0 where
-  pub count : length new ≡ length old
-  pub done : (i : ℕ) (t : TableCells) (o p : TableIndex) → i < n → slice_get ts i ≡ Some t → slice_get old i ≡ Some o → slice_get new i ≡ Some p → IsRenewed (length t.parts.items) o p
+pub record RenewedSoFar (n : ℕ) (old new : List TableIndex) : Type 0 where
+  pub done : AllZip IsRenewed (take n old) (take n new)
   pub rest : (i : ℕ) → n ≤ i → slice_get new i ≡ slice_get old i
 
-pub renewed-none : (ts : List TableCells) (os : List TableIndex) → RenewedSoFar ts 0 os os
-renewed-none ts os = record { count = refl; done = λ i t o p lt. absurd (omega (arith, lt)); rest = λ i le. refl }
+pub renewed-none : (os : List TableIndex) → RenewedSoFar 0 os os
+renewed-none os = record { done = none os; rest = λ i le. refl }
+  where
+    none : (ps : List TableIndex) → AllZip IsRenewed (take 0 ps) (take 0 ps)
+    none [] = tt
+    none (p ∷ ps) = tt
 
-pub renewed-next : (ts : List TableCells) (n : ℕ) (t : TableCells) (old mid : List TableIndex) (m new : TableIndex) → RenewedSoFar ts n old mid → slice_get ts n ≡ Some t → slice_get mid n ≡ Some m → IsRenewed (length t.parts.items) m new
-    → RenewedSoFar ts (n + 1) old (slice_set mid n new)
-renewed-next ts n t old mid m new h at_t at_m renewed = record {
-  count = length-set mid n new ∙ h.count;
-  done = λ i u o p lt at_u at_o at_p. elim (cases_lt i n) [
-    | inl less ↦ let ne : i ≢ n = omega (arith, less) in h.done i u o p less at_u at_o (sym (slice_get-set_other mid n i new ne) ∙ at_p)
-    | inr ge ↦
-        let here : n ≡ i = omega (arith, lt, ge) in
-        let table : t ≡ u = same_Some t u (sym at_t ∙ ap (slice_get ts) here ∙ at_u) in
-        let index : new ≡ p = same_Some new p (sym (slice_get-set_same mid n m new at_m) ∙ ap (slice_get (slice_set mid n new)) here ∙ at_p) in
-        let before : m ≡ o = same_Some m o (sym at_m ∙ h.rest n (omega arith) ∙ ap (slice_get old) here ∙ at_o) in
-        subst (λ (q : TableIndex). IsRenewed (length u.parts.items) q p) before
-        (subst (λ (q : TableIndex). IsRenewed (length u.parts.items) m q) index (subst (λ (v : TableCells). IsRenewed (length v.parts.items) m new) table renewed))
-  ];
+pub renewed-next : (n : ℕ) (old mid : List TableIndex) (m new : TableIndex) → RenewedSoFar n old mid → slice_get mid n ≡ Some m → IsRenewed m new → RenewedSoFar (n + 1) old (slice_set mid n new)
+renewed-next n old mid m new h at_m renewed = record {
+  done = subst (AllZip IsRenewed (take (n + 1) old)) (sym (take_more_set mid n new (slice_get_within mid n m at_m)))
+      (all_zip_more IsRenewed old (take n mid) n m new (slice_get_within old n m at_old) (sym (get_or_from_slice_get old n m m at_old)) h.done renewed);
   rest = λ i le. let ne : i ≢ n = omega (arith, le) in slice_get-set_other mid n i new ne ∙ h.rest i (omega (arith, le));
 }
+  where
+    at_old : slice_get old n ≡ Some m
+    at_old = sym (h.rest n (omega arith)) ∙ at_m
 
-pub renewed-all : (ts : List TableCells) (n : ℕ) (old new : List TableIndex) → length ts ≤ n → RenewedSoFar ts n old new → AreAllRenewed ts old new
-renewed-all ts n old new le h = record { count = h.count; each = λ i t o p at_t. let lt = slice_get_within ts i t at_t in h.done i t o p (omega (arith, le, lt)) at_t }
+pub renewed-all : (n : ℕ) (old new : List TableIndex) → length old ≤ n → length new ≤ n → RenewedSoFar n old new → AllZip IsRenewed old new
+renewed-all n old new le le_new h =
+    subst (AllZip IsRenewed old) (take_all n new le_new) (subst (λ os. AllZip IsRenewed os (take n new)) (take_all n old le) h.done)

@@ -2,9 +2,10 @@
 use Rattle.std.proofs.Common.{◌≡◌, ◌≢◌, ℕ, ◌<◌, ◌&&◌, Bool, true, false, not, cond, List, [], ◌∷◌, ◌++◌, Option, Some, None, length, option_map, refl, sym, ap, ◌∙◌, subst}
 use Rattle.std.specs.Prelude.{All, slice_get, unwrap_or}
 use Rattle.std.specs.BTreeMap.{get, is_at}
-use Rattle.std.specs.BTreeSet.{contains}
+use Rattle.std.specs.BTreeSet.{BTreeSet, contains}
 use Rattle.std.specs.Ordering.{nat_cmp}
 use Rattle.std.proofs.lemmas.Bool.{and_parts, false≢true}
+use Rattle.std.proofs.lemmas.List.{length-set}
 use Rattle.std.proofs.lemmas.List.Elements.{All-weaker}
 use Rattle.std.proofs.lemmas.Option.{none-some, same_Some, slice_get_within}
 use Rattle.rmt_ast.specs.RankPairs.{pair_cmp}
@@ -189,7 +190,7 @@ module _ (kind : Kind) (odd : Bool) (gone : List ℕ) (at : ℕ) (parts : List P
 -- ---- the index of a table
 
 pub index-left : (odd : Bool) (gone : List ℕ) (xs : List Coming) (at : ℕ) (t : TableCells) (o : TableIndex) → All (λ (x : Coming). x.spot.table ≢ at) xs → IsIndex odd (is_among gone) t o → IsNextIndex odd gone xs at t o
-index-left odd gone xs at t (Cells given) apart h = h.0
+index-left odd gone xs at t (Cells given) apart h = (h.0, h.1)
 index-left odd gone xs at t (Rows o) apart h = (h.0, h.1, rows-left t.name.kind odd gone at t.parts.items xs o apart h.2)
 
 pub index-other : (odd : Bool) (gone : List ℕ) (xs more : List Coming) (at : ℕ) (t : TableCells) (o : TableIndex) → All (λ (x : Coming). x.spot.table ≢ at) more → IsNextIndex odd gone xs at t o → IsNextIndex odd gone (xs ++ more) at t o
@@ -198,7 +199,8 @@ index-other odd gone xs more at t (Rows o) apart h = (h.0, h.1, rows-other t.nam
 
 pub index-more : (odd : Bool) (seed : ℕ) (gone : List ℕ) (xs : List Coming) (at : ℕ) (t : TableCells) (e : Entry) (old new : TableIndex) (s : Spot) (c : Coming) → MayGive t e old → TakesFrom odd seed t e old new (Some s) → IsComing odd at t e s c
     → is_seen (not odd) c.kept ≡ true → IsNextIndex odd gone xs at t old → IsNextIndex odd gone (xs ++ c ∷ []) at t new
-index-more odd seed gone xs at t e (Cells given) (Cells new) s c may takes coming seen h = h
+index-more odd seed gone xs at t e (Cells given) (Cells new) s c may takes coming seen h =
+    (h.0, ap (λ (gs : List (BTreeSet ℕ)). length gs) takes.given.changed ∙ length-set given.items s.part takes.given.behind ∙ h.1)
 index-more odd seed gone xs at t e (Cells given) (Rows new) s c may takes coming seen h = absurd takes
 index-more odd seed gone xs at t e (Rows o) (Cells new) s c may takes coming seen h = absurd takes
 index-more odd seed gone xs at t e (Rows o) (Rows new) s c may takes coming seen h = (h.0, h.1, by takes.row takes.spot_is takes.first takes.given)

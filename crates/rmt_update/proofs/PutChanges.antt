@@ -2,16 +2,19 @@
 use Rattle.std.proofs.Common.{◌≡◌, ◌⊎◌, ℕ, zero, suc, ◌+◌, ◌≤◌, Bool, true, false, cond, List, [], ◌∷◌, ◌++◌, Option, Some, None, option_map, get_or, length, map, take, refl, sym, ap, ◌∙◌, subst, inl, inr, arith}
 use Rattle.std.specs.Prelude.{All, AllPairs, Contains, Vec, find, is_some, slice_get, zip}
 use Rattle.std.specs.Global.{Global}
-use Rattle.std.specs.BTreeMap.{IsOrdered, get, insert_entry, is_at, keys}
+use Rattle.std.specs.BTreeMap.{get, insert_entry, is_at, keys}
+use Rattle.std.specs.Cmp.{eq_by_cmp_equiv}
 use Rattle.std.proofs.lemmas.Cmp.{nat_cmp_total}
 use Rattle.std.specs.List.{flat_map}
-use Rattle.std.specs.Map.{lookup}
-use Rattle.std.specs.Ordering.{nat_cmp}
-use Rattle.std.proofs.lemmas.List.Elements.{All-append, All-cons, All-head, All-map, All-nil, All-tail, All-weaker}
+use Rattle.std.specs.List.Sorted.{IsStrictlySortedBy}
+use Rattle.std.specs.Map.{keys_of, lookup}
+use Rattle.std.specs.Ordering.{eq_by_cmp, nat_cmp}
+use Rattle.std.proofs.lemmas.List.Elements.{All-append, All-cons, All-head, All-map, All-nil, All-tail, All-weaker, Contains-get_or}
 use Rattle.std.proofs.lemmas.Grind.{flat_map-append}
 use Rattle.std.proofs.lemmas.List.{append-nil}
+use Rattle.std.proofs.lemmas.Map.Keys.{IsDistinct-from_sorted}
 use Rattle.std.proofs.lemmas.Map.Lookups.{exact_unsigned}
-use Rattle.std.proofs.lemmas.Map.Views.{All-found, btree_map_contains_key_iff}
+use Rattle.std.proofs.lemmas.Map.Views.{btree_map_contains_key_iff, lookup-from_Contains}
 use Rattle.std.proofs.lemmas.Option.{none-some, same_Some}
 use Rattle.rmt_bits.proofs.ListLaws.{take-slice_get}
 use Rattle.rmt_config.specs.declared.cell_write.CellWrite.{CellWrite}
@@ -24,7 +27,7 @@ use Rattle.rmt_update.specs.declared.book.table.PartCells.{PartCells}
 use Rattle.rmt_update.specs.declared.book.table.TableCells.{TableCells}
 use Rattle.rmt_update.specs.Changing.{ChangeKey, change_key, key_cmp}
 use Rattle.rmt_update.specs.Coming.{kept_write}
-use Rattle.rmt_update.specs.Differences.{AllPut, AreDifferences, AreMore, AreSome, Changes, Goal, IsDone, IsGoal, Puts, change_by, change_in, is_exact, pairs_of, write_at}
+use Rattle.rmt_update.specs.Differences.{AllPut, AreDifferences, AreMore, AreSome, Changes, Goal, IsDone, IsGoal, Puts, change_at, change_by, change_in, is_exact, pairs_of, write_at}
 use Rattle.rmt_update.proofs.InsertLaws.{lookup-insert, own-key, same-key}
 use Rattle.rmt_update.proofs.KeyedLaws.{key-exact, key-total, keyed-found, keyed-more, keyed-order}
 
@@ -32,15 +35,15 @@ use Rattle.rmt_update.proofs.KeyedLaws.{key-exact, key-total, keyed-found, keyed
 
 module _ (m m2 : Changes) (q : ChangeKey) (s : BookSpot) (w : Option CellWrite) (goal : Goal) (own : (v : CellWrite) → w ≡ Some v → q ≡ change_key v) (is : goal q ≡ w)
     (some : AreSome m goal) where
-  same-map : m2.entries ≡ m.entries → (r : ChangeKey) → write_at m2 r ≡ write_at m r
+  same-map : m2 ≡ m → (r : ChangeKey) → write_at m2 r ≡ write_at m r
   same-map e r = ap (λ es. option_map (λ (x : CellChange). x.write) (lookup (is_at (key_cmp r)) es)) e
 
-  put-at : (v : CellWrite) → m2.entries ≡ insert_entry key_cmp m.entries q (record { spot = s; write = v }) → (r : ChangeKey) → write_at m2 r ≡ cond (is_at (key_cmp r) q) (Some v) (write_at m r)
+  put-at : (v : CellWrite) → m2 ≡ insert_entry key_cmp m q (record { spot = s; write = v }) → (r : ChangeKey) → write_at m2 r ≡ cond (is_at (key_cmp r) q) (Some v) (write_at m r)
   put-at v e r =
       ap (λ es. option_map (λ (x : CellChange). x.write) (lookup (is_at (key_cmp r)) es)) e
-      ∙ ap (option_map (λ (x : CellChange). x.write)) (lookup-insert key-total key-exact m.entries q r (record { spot = s; write = v })) ∙ by (is_at (key_cmp r) q)
+      ∙ ap (option_map (λ (x : CellChange). x.write)) (lookup-insert key-total key-exact m q r (record { spot = s; write = v })) ∙ by (is_at (key_cmp r) q)
     where
-      by : (b : Bool) → option_map (λ (x : CellChange). x.write) (cond b (Some (record { spot = s; write = v })) (get key_cmp m r)) ≡ cond b (Some v) (write_at m r)
+      by : (b : Bool) → option_map (λ (x : CellChange). x.write) (cond b (Some (record { spot = s; write = v })) (change_at m r)) ≡ cond b (Some v) (write_at m r)
       by true = refl
       by false = refl
 
@@ -69,7 +72,7 @@ module _ (m m2 : Changes) (q : ChangeKey) (s : BookSpot) (w : Option CellWrite) 
           let here : write_at m2 q ≡ goal q = put-at v e q ∙ ap (λ b. cond b (Some v) (write_at m q)) (own-key key-total key-exact q) ∙ sym (is ∙ put_v) in (
             record {
               some = record {
-                keyed = subst (All (λ (x : ChangeKey × CellChange). x.0 ≡ change_key x.1.write)) (sym e) (keyed-more m.entries q (record { spot = s; write = v }) some.keyed (own v put_v));
+                keyed = subst (All (λ (x : ChangeKey × CellChange). x.0 ≡ change_key x.1.write)) (sym e) (keyed-more m q (record { spot = s; write = v }) some.keyed (own v put_v));
                 each = λ r. at r (is_at (key_cmp r) q) refl (some.each r);
               };
               stay = λ r a. still r (is_at (key_cmp r) q) refl a;
@@ -201,8 +204,8 @@ zip-short (x ∷ xs) (y ∷ ys) = let le = zip-short xs ys in omega (arith, le)
 
 -- ---- all changes
 
-pub all-differences : (ps : List (PartCells × PartCells)) (m m2 : Changes) (writes : List CellWrite) → m.entries ≡ [] → IsOrdered key_cmp m2 → AllPut ps m m2
-    → writes ≡ map (λ (x : ChangeKey × CellChange). x.1.write) m2.entries → (goal : Goal) → All (IsGoal goal) ps → AreDifferences ps writes goal
+pub all-differences : (ps : List (PartCells × PartCells)) (m m2 : Changes) (writes : List CellWrite) → m ≡ [] → IsStrictlySortedBy key_cmp (keys_of m2) → AllPut ps m m2
+    → writes ≡ map (λ (x : ChangeKey × CellChange). x.1.write) m2 → (goal : Goal) → All (IsGoal goal) ps → AreDifferences ps writes goal
 all-differences ps m m2 writes empty ordered put are goal goals =
     let none : AreSome m goal = record {
       keyed = subst (All (λ (x : ChangeKey × CellChange). x.0 ≡ change_key x.1.write)) (sym empty) (All-nil (λ (x : ChangeKey × CellChange). x.0 ≡ change_key x.1.write));
@@ -210,9 +213,9 @@ all-differences ps m m2 writes empty ordered put are goal goals =
     } in
     let all = put goal goals none in
     let found : (k place n : ℕ) → find (λ (w : CellWrite). is_changed w k place n) writes ≡ write_at m2 ((k, place), n) =
-    λ k place n. ap (find (λ (w : CellWrite). is_changed w k place n)) are ∙ keyed-found k place n m2.entries all.0.some.keyed in
+    λ k place n. ap (find (λ (w : CellWrite). is_changed w k place n)) are ∙ keyed-found k place n m2 all.0.some.keyed in
     record {
-      in_order = subst (AllPairs (λ a b. writes_before a b ≡ true)) (sym are) (keyed-order m2.entries all.0.some.keyed ordered);
+      in_order = subst (AllPairs (λ a b. writes_before a b ≡ true)) (sym are) (keyed-order m2 all.0.some.keyed ordered);
       each = subst (All (λ (w : CellWrite). goal (change_key w) ≡ Some w)) (sym are) (own all.0.some);
       all = goal-by ps all.1 goals found;
     }
@@ -222,11 +225,11 @@ all-differences ps m m2 writes empty ordered put are goal goals =
         → All (λ (p : PartCells × PartCells). (n : ℕ) → find (λ (w : CellWrite). is_changed w p.1.stage p.1.place n) writes ≡ change_in p.0 p.1 n) qs
     goal-by qs done is found i d lt n = found (get_or qs i d).1.stage (get_or qs i d).1.place n ∙ done i d lt n ∙ is i d lt n
 
-    own : AreSome m2 goal → All (λ (w : CellWrite). goal (change_key w) ≡ Some w) (map (λ (x : ChangeKey × CellChange). x.1.write) m2.entries)
+    own : AreSome m2 goal → All (λ (w : CellWrite). goal (change_key w) ≡ Some w) (map (λ (x : ChangeKey × CellChange). x.1.write) m2)
     own some =
-        All-map (λ (w : CellWrite). goal (change_key w) ≡ Some w) (λ (x : ChangeKey × CellChange). x.1.write) m2.entries
-        (λ i d lt. one (get_or m2.entries i d) (some.keyed i d lt) (All-found key-total m2 ordered i d lt) (some.each (get_or m2.entries i d).0))
+        All-map (λ (w : CellWrite). goal (change_key w) ≡ Some w) (λ (x : ChangeKey × CellChange). x.1.write) m2
+        (λ i d lt. one (get_or m2 i d) (some.keyed i d lt) (lookup-from_Contains {eq = eq_by_cmp key_cmp} (eq_by_cmp_equiv key-total) (get_or m2 i d).0 (get_or m2 i d).1 m2 (IsDistinct-from_sorted key_cmp (keys_of m2) ordered) (Contains-get_or m2 i d lt)) (some.each (get_or m2 i d).0))
       where
-        one : (x : ChangeKey × CellChange) → x.0 ≡ change_key x.1.write → get key_cmp m2 x.0 ≡ Some x.1 → (write_at m2 x.0 ≡ None) ⊎ (write_at m2 x.0 ≡ goal x.0) → goal (change_key x.1.write) ≡ Some x.1.write
+        one : (x : ChangeKey × CellChange) → x.0 ≡ change_key x.1.write → change_at m2 x.0 ≡ Some x.1 → (write_at m2 x.0 ≡ None) ⊎ (write_at m2 x.0 ≡ goal x.0) → goal (change_key x.1.write) ≡ Some x.1.write
         one x key there (inl none) = absurd (none-some x.1.write (sym none ∙ ap (option_map (λ (y : CellChange). y.write)) there))
         one x key there (inr is) = ap goal (sym key) ∙ sym is ∙ ap (option_map (λ (y : CellChange). y.write)) there

@@ -2,8 +2,10 @@
 use Rattle.std.proofs.Common.{◌≡◌, ◌≢◌, ℕ, suc, ◌<◌, Bool, true, List, [], ◌∷◌, ◌++◌, get_or, length, map, Option, Some, None, refl, sym, ap, ◌∙◌, subst, inl, inr, arith}
 use Rattle.std.specs.Prelude.{All, Contains, IsSomeAnd, is_some, nat_lt, option_and_then, slice_get}
 use Rattle.std.specs.List.{AllZip}
-use Rattle.std.specs.BTreeMap.{IsOrdered, get, keys}
+use Rattle.std.specs.BTreeMap.{get, keys}
 use Rattle.std.specs.Cmp.{nat_cmp_total}
+use Rattle.std.specs.List.Sorted.{IsStrictlySortedBy}
+use Rattle.std.specs.Map.{keys_of}
 use Rattle.std.specs.Ordering.{nat_cmp}
 use Rattle.std.proofs.lemmas.Bool.{and_parts, cases_lt, ltb-true}
 use Rattle.std.proofs.lemmas.List.Elements.{All-contains}
@@ -205,9 +207,9 @@ changed-from odd ts ts2 gone gone2 xs xs2 m same same_gone same_xs changed =
 -- ---- the tables behind the commit, once entries came to their cells and the changed cells turned
 
 module _ (c : Config) (names : Names) (cells : RunCells) (lists : List (List Entry)) (ch : Changes) (b : Book) (xs : List Coming) (stands : BookStands c cells lists b) (named : c.names ≡ Some names)
-    (may : MayChange c names cells lists ch) (placed : ArePlaced c names cells lists ch b.odd b.tables.items xs) (m : CellChanges) (ordered : IsOrdered key_cmp m)
+    (may : MayChange c names cells lists ch) (placed : ArePlaced c names cells lists ch b.odd b.tables.items xs) (m : CellChanges) (ordered : IsStrictlySortedBy key_cmp (keys_of m))
     (changed : AreChanged b.tables.items (λ s. come_to xs s (left_kept b.odd ch.gone (kept_at b.tables.items s))) m) (us : List TableCells)
-    (have : HaveCells b.tables.items us (λ s. turned (map cell_turn m.entries) s (come_to xs s (kept_at b.tables.items s)))) (rise : All AreOrdered b.tables.items) where
+    (have : HaveCells b.tables.items us (λ s. turned (map cell_turn m) s (come_to xs s (kept_at b.tables.items s)))) (rise : All AreOrdered b.tables.items) where
   slots : HaveOwnSlots b.tables.items
   slots = own-slots c cells lists b stands
 
@@ -217,7 +219,7 @@ module _ (c : Config) (names : Names) (cells : RunCells) (lists : List (List Ent
   pub settled-next : AreNext b.odd ch.gone xs b.tables.items us
   settled-next = turned-next b.odd ch.gone xs b.tables.items slots fresh m ordered changed us have rise
 
-  module _ (writes : List CellWrite) (are : writes ≡ map (λ (x : ChangeKey × CellChange). x.1.write) m.entries) where
+  module _ (writes : List CellWrite) (are : writes ≡ map (λ (x : ChangeKey × CellChange). x.1.write) m) where
     differ : (g : Goal) → All (IsGoal g) (all_pairs b.tables.items (map (λ (u : TableCells). u.parts) us)) → AreDifferences (all_pairs b.tables.items (map (λ (u : TableCells). u.parts) us)) writes g
     differ = turned-differ b.odd ch.gone xs b.tables.items slots fresh m ordered changed us have (own-cells c cells lists b stands) writes are
 

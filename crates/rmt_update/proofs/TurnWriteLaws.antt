@@ -1,15 +1,14 @@
 -- Which cells change in a commit that moves none, put together one after another.
-use Rattle.std.proofs.Common.{◌≡◌, ◌⊎◌, ℕ, zero, suc, ◌+◌, ◌/◌, ◌%◌, ◌<◌, ◌≤◌, Bool, true, false, not, ◌&&◌, ◌||◌, ◌==◌, cond, eqb, List, [], ◌∷◌, ◌++◌, length, map, take, Option, Some, None, option_map, refl, sym, ap, ◌∙◌, subst, inl, inr, arith}
+use Rattle.std.proofs.Common.{◌≡◌, ◌⊎◌, ℕ, zero, suc, ◌+◌, ◌/◌, ◌%◌, ◌<◌, ◌≤◌, Bool, true, false, not, ◌&&◌, ◌||◌, ◌==◌, cond, eqb, List, [], ◌∷◌, ◌++◌, length, take, Option, Some, None, option_map, refl, sym, ap, ◌∙◌, subst, inl, inr, arith}
 use Rattle.std.specs.Prelude.{All, Contains, IsSomeAnd, option_and_then, slice_get}
 use Rattle.std.specs.List.{AllZip}
 use Rattle.std.specs.BTreeMap.{BTreeMap, get, insert_entry, is_at}
-use Rattle.std.specs.BTreeSet.{BTreeSet, contains}
 use Rattle.std.specs.Map.{lookup}
 use Rattle.std.specs.Ordering.{match_ordering, nat_cmp}
 use Rattle.std.specs.declared.cmp.Ordering.{Ordering}
 use Rattle.std.specs.declared.cmp.Ordering.TheVariants.{Less, Equal, Greater}
 use Rattle.std.proofs.lemmas.Bool.{and_from, eq-eqb, eqb-true, false_from_ne_true, false≢true}
-use Rattle.std.proofs.lemmas.List.Elements.{All-cons, All-head, All-map, All-nil, All-tail, All-weaker, Contains-push_cases}
+use Rattle.std.proofs.lemmas.List.Elements.{All-cons, All-head, All-nil, All-tail, All-weaker, Contains-push_cases}
 use Rattle.std.proofs.lemmas.Option.{none-some, same_Some, slice_get_within}
 use Rattle.rmt_bits.specs.Bits.{number_of}
 use Rattle.rmt_bits.proofs.ListLaws.{take-slice_get}
@@ -23,18 +22,17 @@ use Rattle.rmt_update.specs.declared.book.placing.Coming.{Coming}
 use Rattle.rmt_update.specs.declared.book.spot.BookSpot.{BookSpot}
 use Rattle.rmt_update.specs.declared.book.table.PartCells.{PartCells}
 use Rattle.rmt_update.specs.declared.book.table.TableCells.{TableCells}
-use Rattle.rmt_update.specs.declared.book.turning.CellTurn.{CellTurn}
 use Rattle.rmt_update.specs.BookIndex.{FindsCells}
 use Rattle.rmt_update.specs.BookSpots.{kept_at}
 use Rattle.rmt_update.specs.Changing.{ChangeKey, key_cmp}
 use Rattle.rmt_update.specs.Coming.{kept_write}
-use Rattle.rmt_update.specs.Differences.{Changes, Puts, change_by, is_exact, is_same_kept, write_at}
-use Rattle.rmt_update.specs.NextKept.{bit_of, next_kept}
+use Rattle.rmt_update.specs.Differences.{Changes, Puts, change_at, change_by, is_exact, is_same_kept, write_at}
+use Rattle.rmt_update.specs.NextKept.{bit_of}
 use Rattle.rmt_update.specs.Recent.{is_recent}
 use Rattle.rmt_update.specs.Running.{is_among}
 use Rattle.rmt_update.specs.Seen.{is_seen}
-use Rattle.rmt_update.specs.TurnWrites.{AreChanged, AreOnWay, HaveOwnSlots, IsChanged, IsFresh, IsOfTables, MoreChanged, PutsLeft, cell_turn, change_to, key_in, left_write, shown_write}
-use Rattle.rmt_update.specs.Turning.{IsSpotIn, IsStillTable, come_to, is_spot, left_by, left_kept, part_of}
+use Rattle.rmt_update.specs.TurnWrites.{AreChanged, AreOnWay, HaveOwnSlots, IsChanged, IsFresh, IsOfTables, MoreChanged, PutsLeft, change_to, key_in, left_write, shown_write}
+use Rattle.rmt_update.specs.Turning.{IsSpotIn, IsStillTable, come_to, is_spot, left_kept, part_of}
 use Rattle.rmt_update.proofs.EnteringLaws.{come-last, still-there}
 use Rattle.rmt_update.proofs.InsertLaws.{lookup-insert, own-key, same-key}
 use Rattle.rmt_update.proofs.KeyedLaws.{key-exact, key-total}
@@ -68,17 +66,17 @@ one-key ts slots s z p q at_s at_z same =
     (and_from _ _ (and_from _ _ (eq-eqb s.table z.table one.0) (eq-eqb s.at.part z.at.part one.1)) (eq-eqb s.at.cell z.at.cell (ap (λ (k : ChangeKey). k.1) same)))
 
 -- a changed cell that is put is found, and all others as before
-found-put : (m m2 : Changes) (q : ChangeKey) (s : BookSpot) (w : CellWrite) → m2.entries ≡ insert_entry key_cmp m.entries q (record { spot = s; write = w }) → (r : ChangeKey)
+found-put : (m m2 : Changes) (q : ChangeKey) (s : BookSpot) (w : CellWrite) → m2 ≡ insert_entry key_cmp m q (record { spot = s; write = w }) → (r : ChangeKey)
     → write_at m2 r ≡ cond (is_at (key_cmp r) q) (Some w) (write_at m r)
 found-put m m2 q s w is r =
     ap (λ es. option_map (λ (x : CellChange). x.write) (lookup (is_at (key_cmp r)) es)) is
-    ∙ ap (option_map (λ (x : CellChange). x.write)) (lookup-insert key-total key-exact m.entries q r (record { spot = s; write = w })) ∙ by (is_at (key_cmp r) q)
+    ∙ ap (option_map (λ (x : CellChange). x.write)) (lookup-insert key-total key-exact m q r (record { spot = s; write = w })) ∙ by (is_at (key_cmp r) q)
   where
-    by : (b : Bool) → option_map (λ (x : CellChange). x.write) (cond b (Some (record { spot = s; write = w })) (get key_cmp m r)) ≡ cond b (Some w) (write_at m r)
+    by : (b : Bool) → option_map (λ (x : CellChange). x.write) (cond b (Some (record { spot = s; write = w })) (change_at m r)) ≡ cond b (Some w) (write_at m r)
     by true = refl
     by false = refl
 
-found-same : (m m2 : Changes) → m2.entries ≡ m.entries → (r : ChangeKey) → write_at m2 r ≡ write_at m r
+found-same : (m m2 : Changes) → m2 ≡ m → (r : ChangeKey) → write_at m2 r ≡ write_at m r
 found-same m m2 is r = ap (λ es. option_map (λ (x : CellChange). x.write) (lookup (is_at (key_cmp r)) es)) is
 
 -- what holds of all changed cells, and of one that is put, holds of all then
@@ -108,18 +106,18 @@ same-bits exact k v =
     all false c n x h m e oc on ox oh om = refl
 
 -- the write of other visible bits is that of what is left
-left-is : (odd : Bool) (goes : ℕ → Bool) (p : PartCells) (s : BookSpot) → left_write odd goes p s.at.cell (get nat_cmp p.cells s.at.cell) ≡ change_to p s (left_by odd goes (get nat_cmp p.cells s.at.cell))
-left-is odd goes p s = by (get nat_cmp p.cells s.at.cell)
+left-is : (odd : Bool) (gone : List ℕ) (p : PartCells) (s : BookSpot) → left_write odd gone p s.at.cell (get nat_cmp p.cells s.at.cell) ≡ change_to p s (left_kept odd gone (get nat_cmp p.cells s.at.cell))
+left-is odd gone p s = by (get nat_cmp p.cells s.at.cell)
   where
     exact : Bool
     exact = is_exact p.shape.grid
 
-    by : (o : Option Kept) → left_write odd goes p s.at.cell o ≡ change_by exact p.stage p.place s.at.cell o (left_by odd goes o)
+    by : (o : Option Kept) → left_write odd gone p s.at.cell o ≡ change_by exact p.stage p.place s.at.cell o (left_kept odd gone o)
     by None = refl
     by (Some k) = seen (is_seen odd k)
       where
         v : ℕ
-        v = cond (goes k.number) (bit_of odd) 3
+        v = cond (is_among gone k.number) (bit_of odd) 3
 
         flip : (a b : ℕ) (x : Option CellWrite) → cond (a == b) None x ≡ cond (b == a) None x
         flip a b x = ap (λ t. cond t None x) (eqb-sym a b)
@@ -154,7 +152,7 @@ module _ (ts : List TableCells) (next : BookSpot → Option Kept) (slots : HaveO
           ])
   put-more m m2 s p at (Some w) is put way = record {
     some = record {
-      spots = subst (All (IsOfTables ts)) (sym put) (all-put (IsOfTables ts) m.entries (key_in p s) (record { spot = s; write = w }) way.spots (p, at, refl));
+      spots = subst (All (IsOfTables ts)) (sym put) (all-put (IsOfTables ts) m (key_in p s) (record { spot = s; write = w }) way.spots (p, at, refl));
       each = λ z q at_z. by z q at_z (is_at (key_cmp (key_in q z)) (key_in p s)) refl (way.each z q at_z);
     };
     stay = λ z h q at_z. still z q at_z (is_at (key_cmp (key_in q z)) (key_in p s)) refl (h q at_z);
@@ -200,14 +198,14 @@ module _ (ts : List TableCells) (next : BookSpot → Option Kept) (slots : HaveO
 abbrev pub HasOne : BTreeMap ℕ BookSpot → List ℕ → BookSpot → Type 0
 HasOne found ns s = (n : ℕ) × Contains ns n × (get nat_cmp found n ≡ Some s)
 
-module _ (ts : List TableCells) (odd : Bool) (goes : ℕ → Bool) (slots : HaveOwnSlots ts) where
+module _ (ts : List TableCells) (odd : Bool) (gone : List ℕ) (slots : HaveOwnSlots ts) where
   abbrev pub left_at : BookSpot → Option Kept
-  left_at s = left_by odd goes (kept_at ts s)
+  left_at s = left_kept odd gone (kept_at ts s)
 
-  pub left-more : (m m2 : Changes) (s : BookSpot) → PutsLeft odd goes (part_of ts s) s m m2 → AreOnWay ts left_at m → MoreChanged ts left_at m m2 (λ z. s ≡ z)
+  pub left-more : (m m2 : Changes) (s : BookSpot) → PutsLeft odd gone (part_of ts s) s m m2 → AreOnWay ts left_at m → MoreChanged ts left_at m m2 (λ z. s ≡ z)
   left-more m m2 s put way = by (part_of ts s) refl put
     where
-      by : (o : Option PartCells) → part_of ts s ≡ o → PutsLeft odd goes o s m m2 → MoreChanged ts left_at m m2 (λ z. s ≡ z)
+      by : (o : Option PartCells) → part_of ts s ≡ o → PutsLeft odd gone o s m m2 → MoreChanged ts left_at m m2 (λ z. s ≡ z)
       by None is e = record {
         some = record {
           spots = subst (All (IsOfTables ts)) (sym e) way.spots;
@@ -220,8 +218,8 @@ module _ (ts : List TableCells) (odd : Bool) (goes : ℕ → Bool) (slots : Have
         done = λ z same q at_z. absurd (none-some q (sym is ∙ ap (part_of ts) same ∙ at_z));
       }
       by (Some p) is e =
-          put-more ts left_at slots m m2 s p is (left_write odd goes p s.at.cell (get nat_cmp p.cells s.at.cell))
-          (left-is odd goes p s ∙ ap (λ o. change_to p s (left_by odd goes o)) (sym (kept-part ts s p is))) e way
+          put-more ts left_at slots m m2 s p is (left_write odd gone p s.at.cell (get nat_cmp p.cells s.at.cell))
+          (left-is odd gone p s ∙ ap (λ o. change_to p s (left_kept odd gone o)) (sym (kept-part ts s p is))) e way
 
   -- ---- one after another
 
@@ -231,7 +229,7 @@ module _ (ts : List TableCells) (odd : Bool) (goes : ℕ → Bool) (slots : Have
   pub recent-start : (m : Changes) (xs : List BookSpot) → More m m (Contains (take 0 xs))
   recent-start m xs way = record { some = way; stay = λ s h. h; done = λ s there. absurd (let lt = there.1 in omega (arith, lt)) }
 
-  pub recent-more : (m m2 m3 : Changes) (xs : List BookSpot) (i : ℕ) (s : BookSpot) → slice_get xs i ≡ Some s → More m m2 (Contains (take i xs)) → PutsLeft odd goes (part_of ts s) s m2 m3 → More m m3 (Contains (take (i + 1) xs))
+  pub recent-more : (m m2 m3 : Changes) (xs : List BookSpot) (i : ℕ) (s : BookSpot) → slice_get xs i ≡ Some s → More m m2 (Contains (take i xs)) → PutsLeft odd gone (part_of ts s) s m2 m3 → More m m3 (Contains (take (i + 1) xs))
   recent-more m m2 m3 xs i s at before put way =
       let one = before way in
       more-more ts left_at slots m m2 m3 (Contains (take i xs)) (λ z. s ≡ z) (Contains (take (i + 1) xs))
@@ -251,7 +249,7 @@ module _ (ts : List TableCells) (odd : Bool) (goes : ℕ → Bool) (slots : Have
       ]
 
   pub gone-more : (m m2 m3 : Changes) (found : BTreeMap ℕ BookSpot) (ns : List ℕ) (i n : ℕ) (s : BookSpot) → slice_get ns i ≡ Some n → get nat_cmp found n ≡ Some s → More m m2 (HasOne found (take i ns))
-      → PutsLeft odd goes (part_of ts s) s m2 m3 → More m m3 (HasOne found (take (i + 1) ns))
+      → PutsLeft odd gone (part_of ts s) s m2 m3 → More m m3 (HasOne found (take (i + 1) ns))
   gone-more m m2 m3 found ns i n s at is before put way =
       let one = before way in
       more-more ts left_at slots m m2 m3 (HasOne found (take i ns)) (λ z. s ≡ z) (HasOne found (take (i + 1) ns))
@@ -271,11 +269,11 @@ module _ (ts : List TableCells) (odd : Bool) (goes : ℕ → Bool) (slots : Have
   gone-end m m2 found ns i past h = subst (λ ys. More m m2 (HasOne found ys)) (take-past ns i past) h
 
 -- all cells that change are among those without both visible bits, and those from which entries go
-module _ (ts : List TableCells) (odd : Bool) (gone : List ℕ) (set : BTreeSet ℕ) (same : (n : ℕ) → contains nat_cmp set n ≡ is_among gone n) (slots : HaveOwnSlots ts) (ix : BookIndex) (finds : FindsCells ts ix) where
+module _ (ts : List TableCells) (odd : Bool) (gone : List ℕ) (slots : HaveOwnSlots ts) (ix : BookIndex) (finds : FindsCells ts ix) where
   abbrev goes : ℕ → Bool
-  goes n = contains nat_cmp set n
+  goes n = is_among gone n
 
-  left-still : (k : Kept) → is_recent k ≡ false → goes k.number ≡ false → left_by odd goes (Some k) ≡ Some k
+  left-still : (k : Kept) → is_recent k ≡ false → goes k.number ≡ false → left_kept odd gone (Some k) ≡ Some k
   left-still k both stays =
       let three : k.visible ≡ 3 = eqb-true k.visible 3 (true_from_not (k.visible == 3) both) in
       ap (λ b. cond b (Some (record k { visible = cond (goes k.number) (bit_of odd) 3 })) None) (three-seen odd three)
@@ -297,46 +295,42 @@ module _ (ts : List TableCells) (odd : Bool) (gone : List ℕ) (set : BTreeSet �
   change-nothing : (p : PartCells) (s : BookSpot) → get nat_cmp p.cells s.at.cell ≡ None → change_to p s None ≡ None
   change-nothing p s got = ap (λ o. change_by (is_exact p.shape.grid) p.stage p.place s.at.cell o None) got
 
-  pub all-left : (m m2 m3 : Changes) → m.entries ≡ []
-      → (AreOnWay ts (left_at ts odd goes slots) m → MoreChanged ts (left_at ts odd goes slots) m m2 (Contains ix.recent.items))
-      → (AreOnWay ts (left_at ts odd goes slots) m2 → MoreChanged ts (left_at ts odd goes slots) m2 m3 (λ (s : BookSpot). (n : ℕ) × Contains gone n × (get nat_cmp ix.spots n ≡ Some s)))
+  pub all-left : (m m2 m3 : Changes) → m ≡ []
+      → (AreOnWay ts (left_at ts odd gone slots) m → MoreChanged ts (left_at ts odd gone slots) m m2 (Contains ix.recent.items))
+      → (AreOnWay ts (left_at ts odd gone slots) m2 → MoreChanged ts (left_at ts odd gone slots) m2 m3 (λ (s : BookSpot). (n : ℕ) × Contains gone n × (get nat_cmp ix.spots n ≡ Some s)))
       → AreChanged ts (λ s. left_kept odd gone (kept_at ts s)) m3
   all-left m m2 m3 empty first second = record {
     spots = two.some.spots;
-    each = λ s p at. by s p at (kept_at ts s) refl ∙ ap (change_to p s) (left-same (kept_at ts s));
+    each = λ s p at. by s p at (kept_at ts s) refl;
   }
     where
-      none : AreOnWay ts (left_at ts odd goes slots) m
+      none : AreOnWay ts (left_at ts odd gone slots) m
       none = record {
         spots = subst (All (IsOfTables ts)) (sym empty) (All-nil (IsOfTables ts));
         each = λ s p at. inl (ap (λ es. option_map (λ (x : CellChange). x.write) (lookup (is_at (key_cmp (key_in p s))) es)) empty);
       }
 
-      one : MoreChanged ts (left_at ts odd goes slots) m m2 (Contains ix.recent.items)
+      one : MoreChanged ts (left_at ts odd gone slots) m m2 (Contains ix.recent.items)
       one = first none
 
-      two : MoreChanged ts (left_at ts odd goes slots) m2 m3 (λ (s : BookSpot). (n : ℕ) × Contains gone n × (get nat_cmp ix.spots n ≡ Some s))
+      two : MoreChanged ts (left_at ts odd gone slots) m2 m3 (λ (s : BookSpot). (n : ℕ) × Contains gone n × (get nat_cmp ix.spots n ≡ Some s))
       two = second one.some
 
-      left-same : (o : Option Kept) → left_by odd goes o ≡ left_kept odd gone o
-      left-same None = refl
-      left-same (Some k) = ap (λ b. next_kept odd b (Some k)) (same k.number)
-
-      by : (s : BookSpot) (p : PartCells) → part_of ts s ≡ Some p → (o : Option Kept) → kept_at ts s ≡ o → write_at m3 (key_in p s) ≡ change_to p s (left_by odd goes (kept_at ts s))
+      by : (s : BookSpot) (p : PartCells) → part_of ts s ≡ Some p → (o : Option Kept) → kept_at ts s ≡ o → write_at m3 (key_in p s) ≡ change_to p s (left_kept odd gone (kept_at ts s))
       by s p at None is =
-          let nothing : change_to p s (left_by odd goes (kept_at ts s)) ≡ None = ap (λ q. change_to p s (left_by odd goes q)) is ∙ change-nothing p s (sym (kept-part ts s p at) ∙ is) in
+          let nothing : change_to p s (left_kept odd gone (kept_at ts s)) ≡ None = ap (λ q. change_to p s (left_kept odd gone q)) is ∙ change-nothing p s (sym (kept-part ts s p at) ∙ is) in
           elim (two.some.each s p at) [
             | inl a ↦ a ∙ sym nothing
             | inr a ↦ a
           ]
       by s p at (Some k) is = case (is_recent k) refl (goes k.number) refl
         where
-          case : (r : Bool) → is_recent k ≡ r → (g : Bool) → goes k.number ≡ g → write_at m3 (key_in p s) ≡ change_to p s (left_by odd goes (kept_at ts s))
+          case : (r : Bool) → is_recent k ≡ r → (g : Bool) → goes k.number ≡ g → write_at m3 (key_in p s) ≡ change_to p s (left_kept odd gone (kept_at ts s))
           case true e g f = two.stay s (one.done s (finds.recent s k is e)) p at
-          case false e true f = two.done s (k.number, Contains-from_any gone k.number (sym (same k.number) ∙ f), finds.all s k is) p at
+          case false e true f = two.done s (k.number, Contains-from_any gone k.number f, finds.all s k is) p at
           case false e false f =
-              let nothing : change_to p s (left_by odd goes (kept_at ts s)) ≡ None =
-              ap (λ q. change_to p s (left_by odd goes q)) is ∙ ap (change_to p s) (left-still k e f) ∙ change-none p s k (sym (kept-part ts s p at) ∙ is) in
+              let nothing : change_to p s (left_kept odd gone (kept_at ts s)) ≡ None =
+              ap (λ q. change_to p s (left_kept odd gone q)) is ∙ ap (change_to p s) (left-still k e f) ∙ change-none p s k (sym (kept-part ts s p at) ∙ is) in
               elim (two.some.each s p at) [
                 | inl a ↦ a ∙ sym nothing
                 | inr a ↦ a
@@ -366,10 +360,10 @@ module _ (ts : List TableCells) (slots : HaveOwnSlots ts) where
               off false c n y h m e = refl
 
   pub come-put : (next : BookSpot → Option Kept) (xs : List Coming) (x : Coming) (p : PartCells) (m m2 : Changes) → part_of ts x.spot ≡ Some p → IsFresh ts x
-      → m2.entries ≡ insert_entry key_cmp m.entries (key_in p x.spot) (record { spot = x.spot; write = kept_write p.stage p.place x.kept.visible x.kept })
+      → m2 ≡ insert_entry key_cmp m (key_in p x.spot) (record { spot = x.spot; write = kept_write p.stage p.place x.kept.visible x.kept })
       → AreChanged ts (λ s. come_to xs s (next s)) m → AreChanged ts (λ s. come_to (xs ++ x ∷ []) s (next s)) m2
   come-put next xs x p m m2 at fresh put changed = record {
-    spots = subst (All (IsOfTables ts)) (sym put) (all-put (IsOfTables ts) m.entries (key_in p x.spot) (record { spot = x.spot; write = w }) changed.spots (p, at, refl));
+    spots = subst (All (IsOfTables ts)) (sym put) (all-put (IsOfTables ts) m (key_in p x.spot) (record { spot = x.spot; write = w }) changed.spots (p, at, refl));
     each = λ z q at_z. found-put m m2 (key_in p x.spot) x.spot w put (key_in q z) ∙ by z q at_z (is_at (key_cmp (key_in q z)) (key_in p x.spot)) refl ∙ ap (change_to q z) (sym (come-last xs x z (next z)));
   }
     where
@@ -398,7 +392,7 @@ module _ (ts : List TableCells) (slots : HaveOwnSlots ts) where
   CameTo next xs m = AreChanged ts (λ s. come_to xs s (next s)) m
 
   pub come-step : (m m2 m3 : Changes) (xs : List Coming) (i : ℕ) (x : Coming) (p : PartCells) → slice_get xs i ≡ Some x → part_of ts x.spot ≡ Some p → IsFresh ts x
-      → m3.entries ≡ insert_entry key_cmp m2.entries (key_in p x.spot) (record { spot = x.spot; write = kept_write p.stage p.place x.kept.visible x.kept })
+      → m3 ≡ insert_entry key_cmp m2 (key_in p x.spot) (record { spot = x.spot; write = kept_write p.stage p.place x.kept.visible x.kept })
       → ((next : BookSpot → Option Kept) → AreChanged ts next m → CameTo next (take i xs) m2) → (next : BookSpot → Option Kept) → AreChanged ts next m → CameTo next (take (i + 1) xs) m3
   come-step m m2 m3 xs i x p at at_p fresh put before next changed =
       subst (λ ys. CameTo next ys m3) (sym (take-slice_get xs i x at)) (come-put next (take i xs) x p m2 m3 at_p fresh put (before next changed))
@@ -427,8 +421,8 @@ part-there ts s p is = by (slice_get ts s.table) is
     by None h = absurd (none-some p h)
     by (Some t) h = slice_get_within t.parts.items s.at.part p h
 
--- the turns of changed cells are of cells of tables
-pub turns-there : (ts us : List TableCells) (es : List (ChangeKey × CellChange)) (turns : List CellTurn) → turns ≡ map cell_turn es → All (IsOfTables ts) es → AllZip IsStillTable ts us → All (λ (x : CellTurn). IsSpotIn us x.spot) turns
-turns-there ts us es turns are all same =
-    subst (All (λ (x : CellTurn). IsSpotIn us x.spot)) (sym are)
-    (All-map (λ (x : CellTurn). IsSpotIn us x.spot) cell_turn es (All-weaker (IsOfTables ts) (λ (e : ChangeKey × CellChange). IsSpotIn us e.1.spot) (λ e h. still-there ts us e.1.spot same (part-there ts e.1.spot h.0 h.1)) es all))
+-- changed cells are of tables, also once their cells changed
+pub changes-there : (ts us : List TableCells) (es xs : Changes) → xs ≡ es → All (IsOfTables ts) es → AllZip IsStillTable ts us → All (λ (x : ChangeKey × CellChange). IsSpotIn us x.1.spot) xs
+changes-there ts us es xs are all same =
+    subst (All (λ (x : ChangeKey × CellChange). IsSpotIn us x.1.spot)) (sym are)
+    (All-weaker (IsOfTables ts) (λ (e : ChangeKey × CellChange). IsSpotIn us e.1.spot) (λ e h. still-there ts us e.1.spot same (part-there ts e.1.spot h.0 h.1)) es all)

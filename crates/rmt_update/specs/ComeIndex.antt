@@ -35,7 +35,7 @@ pub record AreNextRows (kind : Kind) (odd : Bool) (gone : List ℕ) (come : List
 
 -- the index of the table at a place once entries of these numbers went, and these came
 abbrev pub IsNextIndex : Bool → List ℕ → List Coming → ℕ → TableCells → TableIndex → Type 0
-IsNextIndex odd gone come at t (Cells given) = has_rows t.name.kind ≡ false
+IsNextIndex odd gone come at t (Cells given) = (has_rows t.name.kind ≡ false) × (length given.items ≡ length t.parts.items)
 IsNextIndex odd gone come at t (Rows order) =
     (has_rows t.name.kind ≡ true) × (length (rows_of t.parts.items) ≤ 2 ^ 31) × AreNextRows t.name.kind odd gone come at t.parts.items order
 

@@ -1,16 +1,21 @@
 -- An entry that comes, as the cell keeps it to which it comes, and a kept cell as a changed one.
-use Rattle.std.specs.Prelude.{◌≡◌, ℕ, [], IsTrue, if◌then◌else◌, length, sum}
+use Rattle.std.specs.Prelude.{◌≡◌, ℕ, List, [], IsTrue, if◌then◌else◌, length, sum}
+use Rattle.rmt_bits.specs.Bits.{bytes_of}
 use Rattle.rmt_ast.specs.declared.entry.Entry.{Entry}
 use Rattle.rmt_ast.specs.declared.names.TableName.{TableName}
 use Rattle.rmt_ast.specs.NameRules.{terms_of_name}
 use Rattle.rmt_config.specs.declared.cell_write.CellWrite.{CellWrite}
 use Rattle.rmt_config.specs.LaneForm.{bits_of_lanes}
 use Rattle.rmt_config.specs.NamesForm.{is_of_kind}
-use Rattle.rmt_config.specs.Rooms.{PartAt, entry_content}
+use Rattle.rmt_config.specs.Rooms.{PartAt, entry_content, key_number}
 use Rattle.rmt_config.specs.BlockCounts.{divided_up}
 use Rattle.rmt_update.specs.declared.book.kept.Kept.{Kept}
 use Rattle.rmt_update.specs.Kept.{IsKept}
 use Rattle.rmt_update.specs.Told.{is_whole, told_entry}
+
+-- the key of an entry as bytes, the highest first
+abbrev pub key_bytes : TableName → Entry → List ℕ
+key_bytes t e = bytes_of (divided_up (sum t.keys) 8) (key_number (terms_of_name t) e)
 
 -- A cell of a part, whose first instruction has that number, keeps an entry of a table with these visible bits: what the cell of such a part
 -- holds of the entry, and the entry can be told.

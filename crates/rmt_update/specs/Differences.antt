@@ -1,8 +1,9 @@
 -- The changed cells between the parts of tables as they are and as they are next.
-use Rattle.std.specs.Prelude.{◌≡◌, ◌⊎◌, ◌<◌, ℕ, Bool, true, false, ◌&&◌, ◌||◌, ◌==◌, List, if◌then◌else◌, Option, Some, None, Vec, All, AllPairs, find, option_map, zip}
+use Rattle.std.specs.Prelude.{◌≡◌, ◌⊎◌, ◌<◌, ℕ, Bool, true, false, ◌&&◌, ◌||◌, ◌==◌, List, [], if◌then◌else◌, Option, Some, None, Vec, All, AllPairs, find, fold, option_map, zip}
 use Rattle.std.specs.Global.{Global}
-use Rattle.std.specs.BTreeMap.{BTreeMap, get, insert_entry}
+use Rattle.std.specs.BTreeMap.{get, insert_entry, is_at}
 use Rattle.std.specs.List.{flat_map}
+use Rattle.std.specs.Map.{lookup}
 use Rattle.std.specs.Ordering.{nat_cmp}
 use Rattle.rmt_bits.specs.Bits.{number_of}
 use Rattle.rmt_config.specs.declared.cell_write.CellWrite.{CellWrite}
@@ -39,17 +40,25 @@ change_by exact stage place n (Some a) (Some b) = if is_same_kept exact a b then
 abbrev pub change_in : PartCells → PartCells → ℕ → Option CellWrite
 change_in x y n = change_by (is_exact y.shape.grid) y.stage y.place n (get nat_cmp x.cells n) (get nat_cmp y.cells n)
 
--- what is changed of a cell so far
+-- changed cells, in order
 abbrev pub Changes : Type 0
-Changes = BTreeMap ChangeKey CellChange
+Changes = List (ChangeKey × CellChange)
+
+-- those of changes one after another, of which the last one of a cell counts
+abbrev pub changes_in : List (ChangeKey × CellChange) → Changes
+changes_in xs = fold (λ (m : Changes) (x : ChangeKey × CellChange). insert_entry key_cmp m x.0 x.1) [] xs
+
+-- what is changed of a cell
+abbrev pub change_at : Changes → ChangeKey → Option CellChange
+change_at m q = lookup (is_at (key_cmp q)) m
 
 abbrev pub write_at : Changes → ChangeKey → Option CellWrite
-write_at m q = option_map (λ (x : CellChange). x.write) (get key_cmp m q)
+write_at m q = option_map (λ (x : CellChange). x.write) (change_at m q)
 
 -- a change is put to the others, if there is one
 abbrev pub Puts : Changes → Changes → ChangeKey → BookSpot → Option CellWrite → Type 0
-Puts m m2 q s None = m2.entries ≡ m.entries
-Puts m m2 q s (Some w) = m2.entries ≡ insert_entry key_cmp m.entries q (record { spot = s; write = w })
+Puts m m2 q s None = m2 ≡ m
+Puts m m2 q s (Some w) = m2 ≡ insert_entry key_cmp m q (record { spot = s; write = w })
 
 -- the changes that are to be, by where they stand
 abbrev pub Goal : Type 0
@@ -64,7 +73,7 @@ IsDone m goal p = (n : ℕ) → write_at m ((p.1.stage, p.1.place), n) ≡ goal 
 
 -- some of the changes that are to be, each by its own key
 pub record AreSome (m : Changes) (goal : Goal) : Type 0 where
-  pub keyed : All (λ (x : ChangeKey × CellChange). x.0 ≡ change_key x.1.write) m.entries
+  pub keyed : All (λ (x : ChangeKey × CellChange). x.0 ≡ change_key x.1.write) m
   pub each : (q : ChangeKey) → (write_at m q ≡ None) ⊎ (write_at m q ≡ goal q)
 
 -- more of the changes that are to be: all of those that were there, and others

@@ -49,7 +49,7 @@ IsFewRow row (Rows order) = row < 2 ^ 32
 
 -- a row is free from now on
 abbrev pub IsRowFreed : ℕ → TableIndex → TableIndex → Type 0
-IsRowFreed row (Cells given) (Cells new) = Unit {0}
+IsRowFreed row (Cells given) (Cells new) = new ≡ given
 IsRowFreed row (Cells given) (Rows new) = ⊥
 IsRowFreed row (Rows order) (Cells given) = ⊥
 IsRowFreed row (Rows order) (Rows new) =
@@ -57,7 +57,7 @@ IsRowFreed row (Rows order) (Rows new) =
 
 -- the rows of these cells of the table at a place are free too
 abbrev pub AreFreed : ℕ → List PartCells → List BookSpot → TableIndex → TableIndex → Type 0
-AreFreed at parts among (Cells given) (Cells new) = Unit {0}
+AreFreed at parts among (Cells given) (Cells new) = new ≡ given
 AreFreed at parts among (Cells given) (Rows new) = ⊥
 AreFreed at parts among (Rows order) (Cells given) = ⊥
 AreFreed at parts among (Rows order) (Rows new) =
@@ -67,13 +67,9 @@ pub record AreAllFreed (ts : List TableCells) (among : List BookSpot) (old new :
   pub count : length new ≡ length old
   pub each : (i : ℕ) (t : TableCells) (o p : TableIndex) → slice_get ts i ≡ Some t → slice_get old i ≡ Some o → slice_get new i ≡ Some p → AreFreed i t.parts.items among o p
 
--- the index of a table with so many parts, in which no cell is given
-abbrev pub IsRenewed : ℕ → TableIndex → TableIndex → Type 0
-IsRenewed parts (Cells given) (Cells new) = (length new.items ≡ parts) × All IsNone new.items
-IsRenewed parts (Cells given) (Rows new) = ⊥
-IsRenewed parts (Rows order) (Cells given) = ⊥
-IsRenewed parts (Rows order) (Rows new) = new ≡ order
-
-pub record AreAllRenewed (ts : List TableCells) (old new : List TableIndex) : Type 0 where
-  pub count : length new ≡ length old
-  pub each : (i : ℕ) (t : TableCells) (o p : TableIndex) → slice_get ts i ≡ Some t → slice_get old i ≡ Some o → slice_get new i ≡ Some p → IsRenewed (length t.parts.items) o p
+-- the index of a table in which no cell is given any more
+abbrev pub IsRenewed : TableIndex → TableIndex → Type 0
+IsRenewed (Cells given) (Cells new) = (length new.items ≡ length given.items) × All IsNone new.items
+IsRenewed (Cells given) (Rows new) = ⊥
+IsRenewed (Rows order) (Cells given) = ⊥
+IsRenewed (Rows order) (Rows new) = new ≡ order

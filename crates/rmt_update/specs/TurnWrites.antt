@@ -16,8 +16,7 @@ use Rattle.rmt_update.specs.BookSpots.{kept_at}
 use Rattle.rmt_update.specs.Changing.{ChangeKey}
 use Rattle.rmt_update.specs.Coming.{empty_write, kept_write}
 use Rattle.rmt_update.specs.Differences.{Changes, Puts, change_by, is_exact, write_at}
-use Rattle.rmt_update.specs.NextKept.{next_kept}
-use Rattle.rmt_update.specs.Turning.{IsSpotIn, part_of}
+use Rattle.rmt_update.specs.Turning.{IsSpotIn, left_kept, part_of}
 
 -- ---- the tables
 
@@ -52,13 +51,13 @@ shown_write stage place n k None = Some (empty_write stage place n)
 shown_write stage place n k (Some v) = if v == k.visible then None else Some (kept_write stage place v k)
 
 -- how a cell changes to which no entry comes, where these numbers go
-abbrev pub left_write : Bool → (ℕ → Bool) → PartCells → ℕ → Option Kept → Option CellWrite
-left_write odd goes p n None = None
-left_write odd goes p n (Some k) = shown_write p.stage p.place n k (option_map (λ (j : Kept). j.visible) (next_kept odd (goes k.number) (Some k)))
+abbrev pub left_write : Bool → List ℕ → PartCells → ℕ → Option Kept → Option CellWrite
+left_write odd gone p n None = None
+left_write odd gone p n (Some k) = shown_write p.stage p.place n k (option_map (λ (j : Kept). j.visible) (left_kept odd gone (Some k)))
 
-abbrev pub PutsLeft : Bool → (ℕ → Bool) → Option PartCells → BookSpot → Changes → Changes → Type 0
-PutsLeft odd goes None s m m2 = m2.entries ≡ m.entries
-PutsLeft odd goes (Some p) s m m2 = Puts m m2 (key_in p s) s (left_write odd goes p s.at.cell (get nat_cmp p.cells s.at.cell))
+abbrev pub PutsLeft : Bool → List ℕ → Option PartCells → BookSpot → Changes → Changes → Type 0
+PutsLeft odd gone None s m m2 = m2 ≡ m
+PutsLeft odd gone (Some p) s m m2 = Puts m m2 (key_in p s) s (left_write odd gone p s.at.cell (get nat_cmp p.cells s.at.cell))
 
 -- ---- all cells
 
@@ -72,7 +71,7 @@ IsChanged ts next m s = (p : PartCells) → part_of ts s ≡ Some p → write_at
 
 -- some cells are, and others not yet
 pub record AreOnWay (ts : List TableCells) (next : BookSpot → Option Kept) (m : Changes) : Type 0 where
-  pub spots : All (IsOfTables ts) m.entries
+  pub spots : All (IsOfTables ts) m
   pub each : (s : BookSpot) (p : PartCells) → part_of ts s ≡ Some p → (write_at m (key_in p s) ≡ None) ⊎ (write_at m (key_in p s) ≡ change_to p s (next s))
 
 -- more of them are: all that were, and these
@@ -83,7 +82,7 @@ pub record MoreChanged (ts : List TableCells) (next : BookSpot → Option Kept) 
 
 -- all of them are
 pub record AreChanged (ts : List TableCells) (next : BookSpot → Option Kept) (m : Changes) : Type 0 where
-  pub spots : All (IsOfTables ts) m.entries
+  pub spots : All (IsOfTables ts) m
   pub each : (s : BookSpot) → IsChanged ts next m s
 
 -- ---- turns

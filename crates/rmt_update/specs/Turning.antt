@@ -60,11 +60,6 @@ pub record IsSamePart (x y : PartCells) : Type 0 where
 abbrev pub IsSameTable : TableCells → TableCells → Type 0
 IsSameTable t u = (u.name ≡ t.name) × AllZip IsSamePart t.parts.items u.parts.items
 
--- what is left of a cell, where these numbers go
-abbrev pub left_by : Bool → (ℕ → Bool) → Option Kept → Option Kept
-left_by odd goes None = None
-left_by odd goes (Some k) = next_kept odd (goes k.number) (Some k)
-
 -- ---- cells that change in their places
 
 -- the part of a spot

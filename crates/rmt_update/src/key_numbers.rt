@@ -1,7 +1,7 @@
 //! Numbers by lists of numbers, their keys. Nearly each key has a place of its own, found by its print; an ordered map has
 //! the keys whose place another one took, and further numbers of a key, so that no choice of keys makes it slow.
 
-ghost use Rattle.std.specs.Prelude.{◌≡◌, ◌≢◌, ◌<◌, ◌≤◌, ◌+◌, ◌-◌, ◌++◌, ◌∷◌, [], IfOk, OnOk, OnErr, Vec as Words, bytes_eq, drop, if◌then◌else◌, length, slice_get, slice_index_or};
+ghost use Rattle.std.specs.Prelude.{◌≡◌, ◌≢◌, ◌<◌, ◌≤◌, ◌+◌, ◌-◌, ◌++◌, ◌∷◌, [], None, true, IfOk, OnOk, OnErr, Vec as Words, bytes_eq, drop, if◌then◌else◌, length, slice_get, slice_index_or};
 ghost use Rattle.std.specs.Global.{Global as Memory};
 ghost use Rattle.rmt_entries.specs.KeySets.{is_at};
 ghost use Rattle.rmt_update.specs.KeyNumbers.{listed, numbers_at, queued};
@@ -80,6 +80,11 @@ impl KeyNumbers {
         let place = place_of(self.slots.len(), key.as_slice());
         let slot = self.slots[place];
         if slot > 0 {
+            let first = self.firsts[place];
+            if is_emptied(self.keys.as_slice(), slot, first, &self.crowded, &key) {
+                self.firsts[place] = Some(number);
+                return Ok(());
+            }
             return push_queued(alloc, &mut self.crowded, key, number);
         }
         let begin = self.keys.len();
@@ -122,6 +127,23 @@ fn own_number(keys: &[u128], slot: u32, first: Option<u32>, key: &[u128]) -> Opt
     } else {
         None
     }
+}
+
+/// Whether a place is that of a key, all numbers of which went.
+fn is_emptied(
+    keys: &[u128],
+    slot: u32,
+    first: Option<u32>,
+    queues: &BTreeMap<Vec<u128>, VecDeque<u32>>,
+    key: &Vec<u128>,
+) -> bool
+    requires { slot ≢ 0 → slot + slice_index_or keys.now (slot - 1) 0 ≤ length keys.now }
+    ensures { result ≡ true → (is_at keys.now slot key.now.items ≡ true) × ((first ≡ None) × (queued queues.now key.now ≡ [])) }
+{
+    slot > 0
+        && first.is_none()
+        && is_list_at(keys, slot as usize - 1, key.as_slice())
+        && first_queued(queues, key).is_none()
 }
 
 /// The first number at a key of an ordered map.

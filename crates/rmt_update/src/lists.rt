@@ -15,7 +15,7 @@ ghost use Rattle.rmt_update.specs.Stands.{IsRefusal, Stands, StandsFor};
 use crate::fault::{ChangeFault, UpdateFault};
 use crate::held::{Held, refusal_of, spelled};
 use crate::reading::{begins, behind_sign, read_entry, read_key, terms_at};
-use crate::settle::{come_of, gone_of, settle};
+use crate::settle::{come_count, come_of, gone_of, settle};
 use crate::start::{held_of, next_number};
 use rmt_ast::entry::{Entry, EntryLists};
 use rmt_ast::names::Names;
@@ -214,11 +214,12 @@ impl Lists {
         ensures kept { OnErr result ((r : Running) → Stands r self.old → Stands r self.new) }
     {
         let gone = gone_of(alloc, &self.gone)?;
-        let come = come_of(alloc, self.come.as_slice())?;
         let places = self.come.as_slice();
+        let room = Vec::with_capacity(alloc, come_count(places))?;
         let held = self.held.as_slice();
         settle(alloc, &mut self.last, &self.gone, places, held, self.first)?;
         self.first += self.come.len() as u64;
+        let come = come_of(self.come.as_mut_slice(), room);
         self.come.clear();
         self.gone.clear();
         Ok(Changes { gone, come })

@@ -1,6 +1,6 @@
 //! The tables as a commit leaves them.
 
-ghost use Rattle.std.specs.Prelude.{◌≡◌, ◌<◌, ◌≤◌, ◌+◌, ℕ, All, AllPairs, IfOk, IfSome, IsTrue, OnErr, OnOk, Some, filter, length, not, slice_get};
+ghost use Rattle.std.specs.Prelude.{◌≡◌, ◌<◌, ◌≤◌, ◌+◌, ℕ, [], All, AllPairs, IfOk, IfSome, IsTrue, OnErr, OnOk, Some, filter, length, not, slice_get, vec_capacity};
 ghost use Rattle.std.specs.List.{flat_map};
 ghost use Rattle.rmt_ast.specs.Answers.{entry_numbers};
 ghost use Rattle.rmt_ast.specs.Changes.{list_of};
@@ -31,17 +31,31 @@ pub fn copied(alloc: Global, entry: &Entry) -> Result<Entry, AllocError>
     })
 }
 
-/// Equal entries of those that come, by rising number. The only fault is want of memory.
-pub fn come_of(alloc: Global, come: &[Option<Entry>]) -> Result<Sequence<Entry>, AllocError>
-    ensures { IfOk result (λ entries. entries ≡ somes come.now) }
+/// How many entries come.
+pub fn come_count(come: &[Option<Entry>]) -> usize
+    ensures { result ≡ length (somes come.now) }
 {
-    let mut entries = Sequence::new(alloc);
+    let mut count = 0;
     for place in come {
-        if let Some(entry) = place {
-            entries.push(copied(alloc, entry)?)?;
+        if place.is_some() {
+            count += 1;
         }
     }
-    Ok(entries)
+    count
+}
+
+/// The entries that come, by rising number, moved out of their places to where there is room for them.
+pub fn come_of(come: &mut [Option<Entry>], mut entries: Vec<Entry>) -> Sequence<Entry>
+    requires empty { entries.items ≡ [] }
+    requires room { length (somes come.old) ≤ vec_capacity entries }
+    ensures { result ≡ somes come.old }
+{
+    for place in come.iter_mut() {
+        if let Some(entry) = place.take() {
+            entries.push_reserved(entry);
+        }
+    }
+    Sequence::from_vec(entries)
 }
 
 /// The numbers of a set, by rising number. The only fault is want of memory.

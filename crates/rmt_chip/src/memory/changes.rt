@@ -5,23 +5,15 @@ ghost use Rattle.rmt_chip.specs.RunWrites.{RunSet, HeadCleared};
 
 use crate::memory::runs::Runs;
 
-/// Fills a run with one byte, and the bytes of two parts behind it.
-fn fill(run: &mut [u8], head: u8, first: &[u8], second: &[u8])
-    requires { length run.old ≡ 1 + length first.now + length second.now }
-    ensures { run.new ≡ head ∷ first.now ++ second.now }
-{
-    run[0] = head;
-    run[1..1 + first.len()].copy_from_slice(first);
-    run[1 + first.len()..].copy_from_slice(second);
-}
-
 /// Fills a run with one byte, and the bytes of three parts behind it.
-fn fill_all(run: &mut [u8], head: u8, first: &[u8], second: &[u8], third: &[u8])
+fn fill(run: &mut [u8], head: u8, first: &[u8], second: &[u8], third: &[u8])
     requires { length run.old ≡ 1 + length first.now + length second.now + length third.now }
     ensures { run.new ≡ head ∷ (first.now ++ (second.now ++ third.now)) }
 {
     let (front, back) = run.split_at_mut(1 + first.len() + second.len());
-    fill(front, head, first, second);
+    front[0] = head;
+    front[1..1 + first.len()].copy_from_slice(first);
+    front[1 + first.len()..].copy_from_slice(second);
     back.copy_from_slice(third);
 }
 
@@ -33,7 +25,7 @@ pub fn set_run(runs: &mut Runs, at: usize, head: u8, first: &[u8], second: &[u8]
 {
     let from = at * runs.size;
     let size = runs.size;
-    fill_all(
+    fill(
         &mut runs.bytes[from..from + size],
         head,
         first,

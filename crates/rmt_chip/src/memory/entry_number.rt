@@ -1,11 +1,12 @@
 //! The numbers of entries in the cells of a memory.
 
-ghost use Rattle.std.specs.Prelude.{◌≡◌, ◌^◌, ◌<◌, ◌≤◌, true, length};
+ghost use Rattle.std.specs.Prelude.{◌≡◌, ◌^◌, ◌<◌, ◌≤◌, true, false, length};
 ghost use Rattle.std.specs.Int.{from_be_bytes, to_be_bytes, w32};
 
 /// In how many bytes the number of an entry stands in its cell.
 pub fn number_size(counted: bool) -> usize
     ensures counted { counted ≡ true → result ≡ 4 }
+    ensures uncounted { counted ≡ false → result ≡ 0 }
     ensures few { result ≤ 4 }
 {
     if counted { 4 } else { 0 }

@@ -1,13 +1,13 @@
 //! Entries that come, as cells keep them.
 
-ghost use Rattle.std.specs.Prelude.{◌≡◌, ◌+◌, ◌-◌, ◌^◌, ◌<◌, ◌≤◌, [], IfOk, IsTrue, Some, if◌then◌else◌, length, slice_get, slice_index_or, sum, false, true};
+ghost use Rattle.std.specs.Prelude.{◌≡◌, ◌+◌, ◌-◌, ◌^◌, ◌<◌, ◌≤◌, [], IfOk, IsTrue, Some, if◌then◌else◌, length, slice_get, slice_index_or, sum, true};
 ghost use Rattle.rmt_bits.specs.Bits.{number_of};
 ghost use Rattle.rmt_ast.specs.EntryLists.{IsEntry};
 ghost use Rattle.rmt_ast.specs.NameRules.{table_is_formed, terms_of_name};
 ghost use Rattle.rmt_ast.specs.declared.names.ActionName.{ActionName as ActionOf};
 ghost use Rattle.rmt_config.specs.Rooms.{args_as_one, tests_as_one};
 ghost use Rattle.rmt_config.specs.BlockCounts.{divided_up};
-ghost use Rattle.rmt_update.specs.Coming.{HasSizes, KeepsEntry};
+ghost use Rattle.rmt_update.specs.Coming.{HasSizes, KeepsEntry, key_bytes};
 ghost use Rattle.rmt_config.specs.Rooms.{mask_or_value};
 ghost use Rattle.rmt_update.specs.Told.{is_whole};
 
@@ -17,18 +17,6 @@ use rmt_ast::entry::Entry;
 use rmt_ast::names::TableName;
 use rmt_ast::program::Kind;
 use std::alloc::{AllocError, Global};
-
-/// The key of an entry. The only fault is want of memory.
-pub fn key_of(alloc: Global, table: &TableName, entry: &Entry) -> Result<Vec<u8>, AllocError>
-    requires formed { IsTrue (table_is_formed table.now) }
-    requires entry { IsEntry table.now.node (terms_of_name table.now) entry.now }
-    requires keys { sum table.now.keys ≤ 640 }
-    ensures size { IfOk result (λ key. length key.items ≡ divided_up (sum table.now.keys) 8) }
-    ensures number { IfOk result (λ key. number_of key.items ≡ tests_as_one (mask_or_value false) table.now.keys entry.now.tests) }
-{
-    let tests = entry.tests.as_slice();
-    tests_bytes(alloc, table.keys.as_slice(), tests, false)
-}
 
 /// The mask of an entry; nothing where all bits of its key count. The only fault is want of memory.
 fn mask_of(alloc: Global, table: &TableName, entry: &Entry) -> Result<Vec<u8>, AllocError>
@@ -71,8 +59,8 @@ fn held_of(
     }
 }
 
-/// An entry as a cell of a part keeps it, with these visible bits, where the part's first instruction has that number,
-/// and each cell of it so many bits of data. The only fault is want of memory.
+/// An entry of this key as a cell of a part keeps it, with these visible bits, where the part's first instruction has
+/// that number, and each cell of it so many bits of data. The only fault is want of memory.
 pub fn kept_of(
     alloc: Global,
     table: &TableName,
@@ -81,6 +69,7 @@ pub fn kept_of(
     cell: u32,
     visible: u8,
     entry: &Entry,
+    key: Vec<u8>,
 ) -> Result<Kept, AllocError>
     requires formed { IsTrue (table_is_formed table.now) }
     requires entry { IsEntry table.now.node (terms_of_name table.now) entry.now }
@@ -89,10 +78,10 @@ pub fn kept_of(
     requires room { (a : ActionOf) → slice_get table.now.actions entry.now.action ≡ Some a → sum a.params ≤ held }
     requires code { first + entry.now.action < 256 }
     requires visible { visible < 4 }
+    requires key { key.items ≡ key_bytes table.now entry.now }
     ensures keeps { IfOk result (KeepsEntry table.now first cell visible entry.now) }
     ensures sizes { IfOk result (HasSizes table.now held) }
 {
-    let key = key_of(alloc, table, entry)?;
     let mask = mask_of(alloc, table, entry)?;
     let held = held_of(alloc, table, held, entry)?;
     Ok(Kept {

@@ -1,17 +1,17 @@
 //! The cells that change where all entries are put into cells anew.
 
 ghost use Rattle.std.specs.Prelude.{◌≡◌, ◌<◌, ◌∷◌, [], ℕ, All, Contains, Some, IfOk, OnOk, length, map, zip};
-ghost use Rattle.std.specs.BTreeMap.{IsOrdered, get, keys};
+ghost use Rattle.std.specs.BTreeMap.{get, keys};
 ghost use Rattle.std.specs.List.{AllZip};
 ghost use Rattle.std.specs.Ordering.{nat_cmp};
 ghost use Rattle.std.specs.declared.vec.Vec.{Vec as VecOf};
-ghost use Rattle.rmt_update.specs.Changing.{ChangeKey, key_cmp};
-ghost use Rattle.rmt_update.specs.Differences.{AllPut, AreDifferences, AreMore, AreSome, CanChange, Goal, IsGoal, Puts, all_pairs, change_in, is_exact, write_at};
+ghost use Rattle.rmt_update.specs.Changing.{ChangeKey};
+ghost use Rattle.rmt_update.specs.Differences.{AllPut, AreDifferences, AreMore, AreSome, CanChange, Goal, IsGoal, Puts, all_pairs, change_in, changes_in, is_exact, write_at};
 ghost use Rattle.rmt_update.specs.declared.book.changing.CellChange.{CellChange as ChangeOf};
 ghost use Rattle.rmt_update.specs.declared.book.kept.Kept.{Kept as KeptOf};
 ghost use Rattle.rmt_update.specs.declared.book.table.PartCells.{PartCells as PartOf};
 
-use crate::book::changing::{CellChanges, put_empty, put_kept};
+use crate::book::changing::{CellChanges, in_order, put_empty, put_kept};
 use crate::book::grid::Grid;
 use crate::book::kept::Kept;
 use crate::book::same::is_same_kept;
@@ -43,7 +43,7 @@ fn put_change(
 ) -> Result<(), AllocError>
     requires stage { new.now.stage < 256 }
     requires place { new.now.place < 256 }
-    ensures { OnOk result (Puts changes.old changes.new ((new.now.stage, new.now.place), spot.at.cell) spot (change_in old.now new.now spot.at.cell)) }
+    ensures { OnOk result (Puts (changes_in changes.old.items) (changes_in changes.new.items) ((new.now.stage, new.now.place), spot.at.cell) spot (change_in old.now new.now spot.at.cell)) }
 {
     let cell = spot.at.cell;
     match new.cells.get(&cell) {
@@ -76,8 +76,8 @@ fn put_changes(
     requires stage { new.now.stage < 256 }
     requires place { new.now.place < 256 }
     requires own { (n : ℕ) (k : KeptOf) → get nat_cmp new.now.cells n ≡ Some k → k.cell ≡ n }
-    ensures { OnOk result ((goal : Goal) → IsGoal goal (old.now, new.now) → AreSome changes.old goal →
-        AreMore changes.old changes.new goal × ((n : ℕ) → Contains (keys cells.now) n → write_at changes.new ((new.now.stage, new.now.place), n) ≡ goal ((new.now.stage, new.now.place), n))) }
+    ensures { OnOk result ((goal : Goal) → IsGoal goal (old.now, new.now) → AreSome (changes_in changes.old.items) goal →
+        AreMore (changes_in changes.old.items) (changes_in changes.new.items) goal × ((n : ℕ) → Contains (keys cells.now) n → write_at (changes_in changes.new.items) ((new.now.stage, new.now.place), n) ≡ goal ((new.now.stage, new.now.place), n))) }
 {
     let (table, part) = at;
     for cell in cells.keys() {
@@ -99,7 +99,7 @@ fn put_part(
     at: (usize, usize),
 ) -> Result<(), AllocError>
     requires { CanChange new.now }
-    ensures { OnOk result (AllPut ((old.now, new.now) ∷ []) changes.old changes.new) }
+    ensures { OnOk result (AllPut ((old.now, new.now) ∷ []) (changes_in changes.old.items) (changes_in changes.new.items)) }
 {
     put_changes(alloc, changes, &old.cells, old, new, at)?;
     put_changes(alloc, changes, &new.cells, old, new, at)?;
@@ -116,7 +116,7 @@ fn put_parts(
 ) -> Result<(), AllocError>
     requires same { length new.now ≡ length old.now }
     requires can { All CanChange new.now }
-    ensures { OnOk result (AllPut (zip old.now new.now) changes.old changes.new) }
+    ensures { OnOk result (AllPut (zip old.now new.now) (changes_in changes.old.items) (changes_in changes.new.items)) }
 {
     for part in 0..old.len() {
         put_part(alloc, changes, &old[part], &new[part], (table, part))?;
@@ -124,13 +124,13 @@ fn put_parts(
     Ok(())
 }
 
-/// Changed cells, one after another. The only fault is want of memory.
-pub fn written(alloc: Global, changes: CellChanges) -> Result<Vec<CellWrite>, AllocError>
-    ensures ordered { OnOk result (IsOrdered key_cmp changes) }
-    ensures writes { IfOk result (λ writes. writes.items ≡ map (λ (x : ChangeKey × ChangeOf). x.1.write) changes.entries) }
+/// Changed cells by stage, unit and cell. The only fault is want of memory.
+fn written(alloc: Global, changes: CellChanges) -> Result<Vec<CellWrite>, AllocError>
+    ensures { IfOk result (λ writes. writes.items ≡ map (λ (x : ChangeKey × ChangeOf). x.1.write) (changes_in changes.items)) }
 {
-    let mut writes = Vec::with_capacity(alloc, changes.len())?;
-    for (_, change) in changes {
+    let ordered = in_order(changes)?;
+    let mut writes = Vec::with_capacity(alloc, ordered.len())?;
+    for (_, change) in ordered {
         writes.push(change.write)?;
     }
     Ok(writes)

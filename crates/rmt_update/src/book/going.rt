@@ -1,25 +1,33 @@
 //! Entries that go leave the rows of a book's index.
 
-ghost use Rattle.std.specs.Prelude.{◌≡◌, ℕ, Bool, length};
+ghost use Rattle.std.specs.Prelude.{◌≡◌, ℕ, Bool, Some, length, slice_get};
 ghost use Rattle.std.specs.List.{AllZip};
 ghost use Rattle.rmt_update.specs.BookIndex.{AreApart, FindsCells};
-ghost use Rattle.rmt_update.specs.RowIndex.{IsIndex, IsRowGone, never, or_is};
+ghost use Rattle.rmt_update.specs.BookSpots.{kept_at as kept_at_of};
+ghost use Rattle.rmt_update.specs.RowIndex.{IsIndex, IsRowGone, kept_key, never, or_is};
 ghost use Rattle.rmt_update.specs.Running.{is_among};
+ghost use Rattle.rmt_update.specs.Turning.{IsSpotIn};
+ghost use Rattle.rmt_update.specs.declared.book.kept.Kept.{Kept as KeptOf};
+ghost use Rattle.rmt_update.specs.declared.book.table.TableCells.{TableCells as TableOf};
 
 use crate::book::book_index::BookIndex;
 use crate::book::index::TableIndex;
-use crate::book::row_order::{RowKey, row_key};
-use crate::book::spot::kept_at;
+use crate::book::row_order::row_key;
+use crate::book::spot::{BookSpot, kept_at};
 use crate::book::table::TableCells;
 
-/// Takes the row of an entry out of those of its table.
-fn remove_row(index: &mut TableIndex, key: RowKey)
-    ensures { IsRowGone key index.old index.new }
+/// The entry of a cell leaves the rows of its table.
+fn leave_row(tables: &[TableCells], spot: BookSpot, index: &mut TableIndex)
+    requires { IsSpotIn tables.now spot }
+    ensures { (t : TableOf) (k : KeptOf) → slice_get tables.now spot.table ≡ Some t → kept_at_of tables.now spot ≡ Some k → IsRowGone (kept_key t.name.kind k) index.old index.new }
 {
     match index {
         TableIndex::Cells(_) => {}
         TableIndex::Rows(order) => {
-            order.rows.remove(&key);
+            if let Some(kept) = kept_at(tables, spot) {
+                let key = row_key(tables[spot.table].name.kind, kept.rank, kept.number);
+                order.rows.remove(&key);
+            }
         }
     }
 }
@@ -37,10 +45,7 @@ fn leave_one(tables: &[TableCells], number: u32, index: &mut BookIndex)
     let Some(spot) = index.spots.get(&number).copied() else {
         return;
     };
-    if let Some(kept) = kept_at(tables, spot) {
-        let key = row_key(tables[spot.table].name.kind, kept.rank, kept.number);
-        remove_row(&mut index.tables[spot.table], key);
-    }
+    leave_row(tables, spot, &mut index.tables[spot.table]);
 }
 
 /// The entries of these numbers leave the rows of their tables.

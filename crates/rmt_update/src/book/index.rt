@@ -32,7 +32,7 @@ fn has_rows(kind: Kind) -> bool
 }
 
 /// So many sets of nothing. The only fault is want of memory.
-pub fn none_given(alloc: Global, parts: usize) -> Result<Vec<BTreeSet<u32>>, AllocError>
+fn none_given(alloc: Global, parts: usize) -> Result<Vec<BTreeSet<u32>>, AllocError>
     ensures count { IfOk result (λ given. length given.items ≡ parts) }
     ensures none { IfOk result (λ given. All IsNone given.items) }
 {

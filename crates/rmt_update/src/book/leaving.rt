@@ -1,14 +1,13 @@
 //! How cells change to which no entry comes in a commit that moves none.
 
-ghost use Rattle.std.specs.Prelude.{◌≡◌, ◌<◌, ℕ, Contains, OnOk, Some, option_copied, option_map};
+ghost use Rattle.std.specs.Prelude.{◌≡◌, ◌<◌, ℕ, AllPairs, Contains, OnOk, Some, option_copied, option_map};
 ghost use Rattle.std.specs.BTreeMap.{get};
-ghost use Rattle.std.specs.BTreeSet.{contains};
 ghost use Rattle.std.specs.Ordering.{nat_cmp};
 ghost use Rattle.rmt_update.specs.BookSpots.{kept_at};
-ghost use Rattle.rmt_update.specs.Differences.{Puts};
-ghost use Rattle.rmt_update.specs.NextKept.{next_kept};
+ghost use Rattle.rmt_update.specs.Differences.{Puts, changes_in};
+ghost use Rattle.rmt_update.specs.Running.{is_among};
 ghost use Rattle.rmt_update.specs.TurnWrites.{AreOnWay, AreSmall, HaveOwnSlots, MoreChanged, PutsLeft, shown_write};
-ghost use Rattle.rmt_update.specs.Turning.{left_by, part_of};
+ghost use Rattle.rmt_update.specs.Turning.{left_kept, part_of};
 ghost use Rattle.rmt_update.specs.declared.book.kept.Kept.{Kept as KeptOf};
 ghost use Rattle.rmt_update.specs.declared.book.spot.BookSpot.{BookSpot as SpotOf};
 
@@ -18,7 +17,7 @@ use crate::book::seen::is_seen;
 use crate::book::spot::BookSpot;
 use crate::book::table::{PartCells, TableCells};
 use std::alloc::{AllocError, Global};
-use std::collections::{BTreeMap, BTreeSet};
+use std::collections::BTreeMap;
 
 /// The part of a spot.
 pub fn part_at(tables: &[TableCells], spot: BookSpot) -> Option<&PartCells>
@@ -30,14 +29,23 @@ pub fn part_at(tables: &[TableCells], spot: BookSpot) -> Option<&PartCells>
     }
 }
 
+/// Whether a number is among rising ones.
+fn is_gone(gone: &[u32], number: u32) -> bool
+    requires { AllPairs (λ (a b : ℕ). a < b) gone.now }
+    ensures { result ≡ is_among gone.now number }
+{
+    gone.binary_search(&number).is_ok()
+}
+
 /// The visible bits that a cell has next to which no entry comes; None where it is emptied.
-fn next_visible(odd: bool, gone: &BTreeSet<u32>, kept: &Kept) -> Option<u8>
-    ensures { result ≡ option_map (λ (k : KeptOf). k.visible) (next_kept odd (contains nat_cmp gone.now kept.now.number) (Some kept.now)) }
+fn next_visible(odd: bool, gone: &[u32], kept: &Kept) -> Option<u8>
+    requires { AllPairs (λ (a b : ℕ). a < b) gone.now }
+    ensures { result ≡ option_map (λ (k : KeptOf). k.visible) (left_kept odd gone.now (Some kept.now)) }
 {
     if !is_seen(odd, kept) {
         return None;
     }
-    if gone.contains(&kept.number) {
+    if is_gone(gone, kept.number) {
         Some(if odd { 2 } else { 1 })
     } else {
         Some(3)
@@ -56,7 +64,7 @@ fn put_shown(
 ) -> Result<(), AllocError>
     requires stage { part.now.stage < 256 }
     requires place { part.now.place < 256 }
-    ensures { OnOk result (Puts changes.old changes.new ((part.now.stage, part.now.place), spot.at.cell) spot (shown_write part.now.stage part.now.place spot.at.cell kept.now visible)) }
+    ensures { OnOk result (Puts (changes_in changes.old.items) (changes_in changes.new.items) ((part.now.stage, part.now.place), spot.at.cell) spot (shown_write part.now.stage part.now.place spot.at.cell kept.now visible)) }
 {
     match visible {
         None => put_empty(alloc, changes, part, spot),
@@ -75,12 +83,13 @@ fn put_left(
     alloc: Global,
     changes: &mut CellChanges,
     odd: bool,
-    gone: &BTreeSet<u32>,
+    gone: &[u32],
     tables: &[TableCells],
     spot: BookSpot,
 ) -> Result<(), AllocError>
-    requires { AreSmall tables.now }
-    ensures { OnOk result (PutsLeft odd (contains nat_cmp gone.now) (part_of tables.now spot) spot changes.old changes.new) }
+    requires small { AreSmall tables.now }
+    requires rise { AllPairs (λ (a b : ℕ). a < b) gone.now }
+    ensures { OnOk result (PutsLeft odd gone.now (part_of tables.now spot) spot (changes_in changes.old.items) (changes_in changes.new.items)) }
 {
     let Some(part) = part_at(tables, spot) else {
         return Ok(());
@@ -97,14 +106,15 @@ pub fn put_recent(
     alloc: Global,
     changes: &mut CellChanges,
     odd: bool,
-    gone: &BTreeSet<u32>,
+    gone: &[u32],
     tables: &[TableCells],
     spots: &[BookSpot],
 ) -> Result<(), AllocError>
     requires small { AreSmall tables.now }
     requires slots { HaveOwnSlots tables.now }
-    ensures { OnOk result (AreOnWay tables.now (λ s. left_by odd (contains nat_cmp gone.now) (kept_at tables.now s)) changes.old →
-        MoreChanged tables.now (λ s. left_by odd (contains nat_cmp gone.now) (kept_at tables.now s)) changes.old changes.new (Contains spots.now)) }
+    requires rise { AllPairs (λ (a b : ℕ). a < b) gone.now }
+    ensures { OnOk result (AreOnWay tables.now (λ s. left_kept odd gone.now (kept_at tables.now s)) (changes_in changes.old.items) →
+        MoreChanged tables.now (λ s. left_kept odd gone.now (kept_at tables.now s)) (changes_in changes.old.items) (changes_in changes.new.items) (Contains spots.now)) }
 {
     for spot in spots {
         put_left(alloc, changes, odd, gone, tables, *spot)?;
@@ -112,23 +122,23 @@ pub fn put_recent(
     Ok(())
 }
 
-/// Adds those of the cells that change whose entries have some numbers. The only fault is want of memory.
+/// Adds those of the cells that change whose entries go. The only fault is want of memory.
 pub fn put_gone(
     alloc: Global,
     changes: &mut CellChanges,
     odd: bool,
-    gone: &BTreeSet<u32>,
+    gone: &[u32],
     tables: &[TableCells],
     found: &BTreeMap<u32, BookSpot>,
-    numbers: &[u32],
 ) -> Result<(), AllocError>
     requires small { AreSmall tables.now }
     requires slots { HaveOwnSlots tables.now }
-    ensures { OnOk result (AreOnWay tables.now (λ s. left_by odd (contains nat_cmp gone.now) (kept_at tables.now s)) changes.old →
-        MoreChanged tables.now (λ s. left_by odd (contains nat_cmp gone.now) (kept_at tables.now s)) changes.old changes.new
-        (λ (s : SpotOf). (n : ℕ) × Contains numbers.now n × (get nat_cmp found.now n ≡ Some s))) }
+    requires rise { AllPairs (λ (a b : ℕ). a < b) gone.now }
+    ensures { OnOk result (AreOnWay tables.now (λ s. left_kept odd gone.now (kept_at tables.now s)) (changes_in changes.old.items) →
+        MoreChanged tables.now (λ s. left_kept odd gone.now (kept_at tables.now s)) (changes_in changes.old.items) (changes_in changes.new.items)
+        (λ (s : SpotOf). (n : ℕ) × Contains gone.now n × (get nat_cmp found.now n ≡ Some s))) }
 {
-    for number in numbers {
+    for number in gone {
         if let Some(spot) = found.get(number) {
             put_left(alloc, changes, odd, gone, tables, *spot)?;
         }

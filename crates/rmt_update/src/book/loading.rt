@@ -2,7 +2,6 @@
 
 ghost use Rattle.std.specs.Prelude.{◌≡◌, ◌⊎◌, ℕ, ◌<◌, ◌≤◌, ◌^◌, ◌++◌, All, IfErr, IfOk, IsTrue, OnOk, true, length, slice_index, sum};
 ghost use Rattle.std.specs.List.{AllZip};
-ghost use Rattle.rmt_bits.specs.Bits.{bytes_of};
 ghost use Rattle.rmt_ast.specs.Changes.{list_of};
 ghost use Rattle.rmt_ast.specs.NameRules.{AreEntriesOf, table_is_formed, terms_of_name};
 ghost use Rattle.rmt_ast.specs.WellFormed.{IsTest};
@@ -10,10 +9,9 @@ ghost use Rattle.rmt_ast.specs.declared.entry.Entry.{Entry as EntryOf};
 ghost use Rattle.rmt_ast.specs.declared.names.Names.{Names as NamesOf};
 ghost use Rattle.rmt_ast.specs.declared.program.Kind.TheVariants as kind;
 ghost use Rattle.rmt_config.specs.declared.config.Config.{Config as ConfigOf};
-ghost use Rattle.rmt_config.specs.Rooms.{key_number};
-ghost use Rattle.rmt_config.specs.BlockCounts.{divided_up};
 ghost use Rattle.rmt_cuckoo.specs.declared.layout.Ways.{Ways as WaysOf};
 ghost use Rattle.rmt_cuckoo.specs.Loading.{cells_in, cells_of};
+ghost use Rattle.rmt_update.specs.Coming.{key_bytes};
 ghost use Rattle.rmt_update.specs.FirstFull.{keys_of as keys_as_bytes};
 ghost use Rattle.rmt_update.specs.Loads.{AreLoadedKeys, AreTables, AreTried, IsLoaded, IsNotLoaded, IsTried, IsTriedAt, layout_in, table_of, ways_for};
 
@@ -114,12 +112,12 @@ pub fn are_bytes(bytes: &[u8])
     let _count = bytes.len();
 }
 
-/// The key of an entry of a table, as bytes.
+/// The key of an entry of a table, as bytes. The only fault is want of memory.
 pub fn key_of(alloc: Global, name: &TableName, entry: &Entry) -> Result<Vec<u8>, AllocError>
     requires formed { IsTrue (table_is_formed name.now) }
     requires few { sum name.now.keys ≤ 640 }
     requires tests { AllZip IsTest name.now.keys entry.now.tests }
-    ensures { IfOk result (λ key. key.items ≡ bytes_of (divided_up (sum name.now.keys) 8) (key_number (terms_of_name name.now) entry.now)) }
+    ensures { IfOk result (λ key. key.items ≡ key_bytes name.now entry.now) }
 {
     let key = tests_bytes(alloc, name.keys.as_slice(), entry.tests.as_slice(), false)?;
     are_bytes(key.as_slice());

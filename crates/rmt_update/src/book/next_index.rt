@@ -1,7 +1,7 @@
 //! The index of a book behind a commit that moves no cell.
 
 ghost use Rattle.std.specs.Prelude.{◌≡◌, ◌<◌, ◌++◌, ◌^◌, ℕ, All, IfOk, List, OnOk, Some, length, map, not, slice_get};
-ghost use Rattle.std.specs.List.{filter_map};
+ghost use Rattle.std.specs.List.{AllZip, filter_map};
 ghost use Rattle.std.specs.BTreeMap.{get};
 ghost use Rattle.std.specs.Ordering.{nat_cmp};
 ghost use Rattle.rmt_ast.specs.declared.entry.Entry.{Entry as EntryOf};
@@ -11,10 +11,10 @@ ghost use Rattle.rmt_config.specs.declared.config.Config.{Config as ConfigOf};
 ghost use Rattle.rmt_update.specs.BookIndex.{IsBookIndex};
 ghost use Rattle.rmt_update.specs.BookStands.{BookStands};
 ghost use Rattle.rmt_update.specs.ComeIndex.{HasPlaced};
-ghost use Rattle.rmt_update.specs.NextIndex.{AreAllFreed, AreAllRenewed, AreSeenSpots, HasFewRows, IsFewRow, IsRenewed, IsRowFreed, spot_behind};
+ghost use Rattle.rmt_update.specs.NextIndex.{AreAllFreed, AreSeenSpots, HasFewRows, IsFewRow, IsRenewed, IsRowFreed, spot_behind};
 ghost use Rattle.rmt_update.specs.Placing.{ArePlaced};
 ghost use Rattle.rmt_update.specs.Planned.{MayChange};
-ghost use Rattle.rmt_update.specs.RowIndex.{row_number};
+ghost use Rattle.rmt_update.specs.RowIndex.{IsNone, row_number};
 ghost use Rattle.rmt_update.specs.Turning.{AreNext, IsSpotIn};
 ghost use Rattle.rmt_update.specs.declared.book.index.TableIndex.{TableIndex as IndexOf};
 ghost use Rattle.rmt_update.specs.declared.book.placing.Coming.{Coming as ComingOf};
@@ -22,7 +22,7 @@ ghost use Rattle.rmt_update.specs.declared.book.table.TableCells.{TableCells as 
 
 use crate::book::Book;
 use crate::book::book_index::BookIndex;
-use crate::book::index::{TableIndex, none_given};
+use crate::book::index::TableIndex;
 use crate::book::placing::Coming;
 use crate::book::seen::is_seen;
 use crate::book::spot::{BookSpot, kept_at};
@@ -31,7 +31,7 @@ use crate::book::table::{PartCells, TableCells};
 use crate::lists::Changes;
 use rmt_bits::sequence::Sequence;
 use std::alloc::{AllocError, Global};
-use std::collections::BTreeMap;
+use std::collections::{BTreeMap, BTreeSet};
 
 /// The cells of the entries of these numbers. The only fault is want of memory.
 fn left_spots(
@@ -135,29 +135,32 @@ fn free_rows(
     Ok(())
 }
 
-/// Takes back all cells that an exact table gave. The only fault is want of memory.
-fn renew_one(alloc: Global, parts: usize, index: &mut TableIndex) -> Result<(), AllocError>
-    ensures { OnOk result (IsRenewed parts index.old index.new) }
+/// Takes everything out of sets.
+fn clear_all(sets: &mut [BTreeSet<u32>])
+    ensures count { length sets.new ≡ length sets.old }
+    ensures none { All IsNone sets.new }
 {
-    if let TableIndex::Cells(given) = index {
-        *given = none_given(alloc, parts)?;
+    for set in sets.iter_mut() {
+        set.clear();
     }
-    Ok(())
 }
 
-/// Takes back all cells that exact tables gave. The only fault is want of memory.
-fn renew(
-    alloc: Global,
-    tables: &[TableCells],
-    indexes: &mut Vec<TableIndex>,
-) -> Result<(), AllocError>
-    requires { length indexes.old.items ≡ length tables.now }
-    ensures { OnOk result (AreAllRenewed tables.now indexes.old.items indexes.new.items) }
+/// Takes back all cells that an exact table gave.
+fn renew_one(index: &mut TableIndex)
+    ensures { IsRenewed index.old index.new }
 {
-    for at in 0..tables.len() {
-        renew_one(alloc, tables[at].parts.len(), &mut indexes[at])?;
+    if let TableIndex::Cells(given) = index {
+        clear_all(given.as_mut_slice());
     }
-    Ok(())
+}
+
+/// Takes back all cells that exact tables gave.
+fn renew(indexes: &mut [TableIndex])
+    ensures { AllZip IsRenewed indexes.old indexes.new }
+{
+    for index in indexes.iter_mut() {
+        renew_one(index);
+    }
 }
 
 impl Book {
@@ -181,7 +184,7 @@ impl Book {
         } = index;
         let mut left = left_spots(alloc, &spots, changes.gone.as_slice())?;
         free_rows(self.tables.as_slice(), left.as_slice(), &mut tables)?;
-        renew(alloc, self.tables.as_slice(), &mut tables)?;
+        renew(tables.as_mut_slice());
         keep_seen(
             self.odd,
             self.tables.as_slice(),

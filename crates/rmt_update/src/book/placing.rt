@@ -12,6 +12,7 @@ ghost use Rattle.rmt_config.specs.declared.config.Config.{Config as ConfigOf};
 ghost use Rattle.rmt_update.specs.BookIndex.{IsBookIndex};
 ghost use Rattle.rmt_update.specs.BookStands.{BookStands};
 ghost use Rattle.rmt_update.specs.Come.{AreOrdered, HaveCome, IsRunOf, MayHaveCome, Run, come_to};
+ghost use Rattle.rmt_update.specs.Coming.{key_bytes};
 ghost use Rattle.rmt_update.specs.ComeIndex.{HasPlaced, HasPlacedIn};
 ghost use Rattle.rmt_update.specs.Placing.{IsPlacing};
 ghost use Rattle.rmt_update.specs.Planned.{MayChange};
@@ -27,6 +28,7 @@ use crate::book::coming::kept_of;
 use crate::book::going::leave;
 use crate::book::index::TableIndex;
 use crate::book::kept::Kept;
+use crate::book::loading::key_of;
 use crate::book::spot::BookSpot;
 use crate::book::spots::Spot;
 use crate::book::table::{PartCells, TableCells};
@@ -68,8 +70,8 @@ pub fn all_ordered(tables: &[TableCells])
     }
 }
 
-/// An entry as it comes to a cell of the table at a place, which the next version alone sees. For an entry whose
-/// instruction has no number of a byte, as none has within the chip's limits, there isn't enough memory.
+/// An entry of this key as it comes to a cell of the table at a place, which the next version alone sees. For an entry
+/// whose instruction has no number of a byte, as none has within the chip's limits, there isn't enough memory.
 fn coming_to(
     alloc: Global,
     odd: bool,
@@ -77,12 +79,14 @@ fn coming_to(
     table: &TableCells,
     entry: &Entry,
     spot: Spot,
+    key: Vec<u8>,
 ) -> Result<Coming, AllocError>
     requires formed { IsTrue (table_is_formed table.now.name) }
     requires entry { IsEntry table.now.name.node (terms_of_name table.now.name) entry.now }
     requires keys { sum table.now.name.keys ≤ 640 }
     requires holds { All (Holds table.now entry.now) table.now.parts.items }
     requires part { spot.part < length table.now.parts.items }
+    requires key { key.items ≡ key_bytes table.now.name entry.now }
     ensures { IfOk result (IsComing odd at table.now entry.now spot) }
 {
     let part = &table.parts[spot.part];
@@ -99,6 +103,7 @@ fn coming_to(
         spot.cell,
         visible,
         entry,
+        key,
     )?;
     let spot = BookSpot {
         table: at,
@@ -125,8 +130,12 @@ fn place_one(
     requires may { MayGive table.now entry.now index.old }
     ensures { IfOk result (λ coming. (spot : Option SpotOf) × TakesFrom odd seed table.now entry.now index.old index.new spot × MayCome odd at table.now entry.now spot coming) }
 {
-    match take_cell(alloc, odd, seed, table, index, entry)? {
-        Some(spot) => Ok(Some(coming_to(alloc, odd, at, table, entry, spot)?)),
+    let key = key_of(alloc, &table.name, entry)?;
+    match take_cell(odd, seed, table, index, entry, key.as_slice())? {
+        Some(spot) => {
+            let coming = coming_to(alloc, odd, at, table, entry, spot, key)?;
+            Ok(Some(coming))
+        }
         None => Ok(None),
     }
 }

@@ -9,6 +9,7 @@ ghost use Rattle.rmt_update.specs.declared.book.table.PartCells.{PartCells as Pa
 ghost use Rattle.std.specs.declared.vec.Vec.{Vec as VecOf};
 
 use crate::book::coming::kept_of;
+use crate::book::loading::key_of;
 use crate::book::spots::{Spot, Spots};
 use crate::book::table::{PartCells, TableCells};
 use rmt_ast::entry::{Entry, EntryLists};
@@ -59,7 +60,8 @@ fn put_entry(
         return Err(AllocError);
     }
     let held = u32::from(part.shape.held);
-    let kept = kept_of(alloc, table, part.first, held, cell, 3, entry)?;
+    let key = key_of(alloc, table, entry)?;
+    let kept = kept_of(alloc, table, part.first, held, cell, 3, entry, key)?;
     part.cells.insert(cell, kept)?;
     Ok(())
 }

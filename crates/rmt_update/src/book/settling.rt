@@ -1,7 +1,6 @@
 //! A commit that moves no cell.
 
-ghost use Rattle.std.specs.Prelude.{◌≡◌, ◌+◌, ◌≤◌, ◌++◌, All, IfOk, List, OnErr, OnOk, Option, Some, length, map};
-ghost use Rattle.std.specs.BTreeMap.{IsOrdered};
+ghost use Rattle.std.specs.Prelude.{◌≡◌, ◌+◌, ◌<◌, ◌≤◌, ◌++◌, ℕ, All, AllPairs, IfOk, List, OnErr, OnOk, Option, Some, length, map, reverse, vec_capacity};
 ghost use Rattle.rmt_ast.specs.declared.entry.Entry.{Entry as EntryOf};
 ghost use Rattle.rmt_ast.specs.declared.names.Names.{Names as NamesOf};
 ghost use Rattle.rmt_config.specs.Commits.{AreWrites, settled};
@@ -10,8 +9,9 @@ ghost use Rattle.rmt_config.specs.declared.config.Config.{Config as ConfigOf};
 ghost use Rattle.rmt_update.specs.BookIndex.{FindsCells};
 ghost use Rattle.rmt_update.specs.BookSpots.{kept_at};
 ghost use Rattle.rmt_update.specs.BookStands.{BookStands};
-ghost use Rattle.rmt_update.specs.Changing.{ChangeKey, key_cmp};
+ghost use Rattle.rmt_update.specs.Changing.{ChangeKey};
 ghost use Rattle.rmt_update.specs.ComeIndex.{HasPlaced};
+ghost use Rattle.rmt_update.specs.Differences.{changes_in};
 ghost use Rattle.rmt_update.specs.Placing.{ArePlaced};
 ghost use Rattle.rmt_update.specs.Planned.{HasLengths, MayChange, changed_lists};
 ghost use Rattle.rmt_update.specs.Recent.{recent};
@@ -24,14 +24,12 @@ ghost use Rattle.rmt_update.specs.declared.book.spot.BookSpot.{BookSpot as SpotO
 
 use crate::book::Book;
 use crate::book::book_index::BookIndex;
-use crate::book::changing::{CellChanges, put_kept};
-use crate::book::differences::written;
+use crate::book::changing::{CellChanges, in_order, put_kept};
 use crate::book::entering::enter;
 use crate::book::leaving::{part_at, put_gone, put_recent};
-use crate::book::number_set::number_set;
 use crate::book::placing::{Coming, all_ordered};
 use crate::book::table::TableCells;
-use crate::book::turning::{CellTurn, Turn, turn_all};
+use crate::book::turning::{CellTurn, Turn, turn_cell};
 use crate::lists::Changes;
 use rmt_bits::sequence::Sequence;
 use rmt_config::cell_write::CellWrite;
@@ -47,7 +45,7 @@ fn put_come(
     requires small { AreSmall tables.now }
     requires slots { HaveOwnSlots tables.now }
     requires fresh { All (IsFresh tables.now) come.now }
-    ensures { OnOk result ((next : SpotOf → Option KeptOf) → AreChanged tables.now next changes.old → AreChanged tables.now (λ s. come_to come.now s (next s)) changes.new) }
+    ensures { OnOk result ((next : SpotOf → Option KeptOf) → AreChanged tables.now next (changes_in changes.old.items) → AreChanged tables.now (λ s. come_to come.now s (next s)) (changes_in changes.new.items)) }
 {
     for coming in come {
         if let Some(part) = part_at(tables, coming.spot) {
@@ -71,21 +69,13 @@ fn changes_at(
     requires small { AreSmall tables.now }
     requires slots { HaveOwnSlots tables.now }
     requires fresh { All (IsFresh tables.now) come.now }
-    ensures { IfOk result (AreChanged tables.now (λ s. come_to come.now s (left_kept odd gone.now (kept_at tables.now s)))) }
+    requires rise { AllPairs (λ (a b : ℕ). a < b) gone.now }
+    ensures { IfOk result (λ changes. AreChanged tables.now (λ s. come_to come.now s (left_kept odd gone.now (kept_at tables.now s))) (changes_in changes.items)) }
 {
-    let numbers = number_set(alloc, gone)?;
     let recent = index.recent.as_slice();
     let mut changes = CellChanges::new(alloc);
-    put_recent(alloc, &mut changes, odd, &numbers, tables, recent)?;
-    put_gone(
-        alloc,
-        &mut changes,
-        odd,
-        &numbers,
-        tables,
-        &index.spots,
-        gone,
-    )?;
+    put_recent(alloc, &mut changes, odd, gone, tables, recent)?;
+    put_gone(alloc, &mut changes, odd, gone, tables, &index.spots)?;
     put_come(alloc, &mut changes, tables, come)?;
     Ok(changes)
 }
@@ -101,18 +91,19 @@ fn turn_of(visible: u8) -> Turn
     }
 }
 
-/// The turns of changed cells. The only fault is want of memory.
-fn turns_of(alloc: Global, changes: &CellChanges) -> Result<Vec<CellTurn>, AllocError>
-    ensures { IfOk result (λ turns. turns.items ≡ map cell_turn changes.now.entries) }
+/// Changed cells turn, one after another, and are put to others, for which there is room.
+fn turn_changed(tables: &mut Vec<TableCells>, cells: CellChanges, writes: &mut Vec<CellWrite>)
+    requires spots { All (λ (x : ChangeKey × ChangeOf). IsSpotIn tables.old.items x.1.spot) cells.items }
+    requires room { length writes.old.items + length cells.items ≤ vec_capacity writes.old }
+    ensures writes { writes.new.items ≡ writes.old.items ++ map (λ (x : ChangeKey × ChangeOf). x.1.write) cells.items }
+    ensures made { HaveCells tables.old.items tables.new.items (λ s. turned (map cell_turn (reverse cells.items)) s (kept_at tables.old.items s)) }
 {
-    let mut turns = Vec::with_capacity(alloc, changes.len())?;
-    for (_, change) in changes.iter() {
-        turns.push(CellTurn {
-            spot: change.spot,
-            turn: turn_of(change.write.visible),
-        })?;
+    for (_, change) in cells {
+        let turn = turn_of(change.write.visible);
+        let spot = change.spot;
+        turn_cell(tables, CellTurn { spot, turn });
+        writes.push_reserved(change.write);
     }
-    Ok(turns)
 }
 
 /// Entries come to their cells, and the changed cells turn; they are given one after another. After want of memory, the only
@@ -124,16 +115,15 @@ fn make_changes(
     come: Sequence<Coming>,
 ) -> Result<Vec<CellWrite>, AllocError>
     requires there { All (λ (x : ComingOf). IsSpotIn tables.old.items x.spot) come }
-    requires spots { All (IsOfTables tables.old.items) cells.entries }
-    ensures ordered { OnOk result (IsOrdered key_cmp cells) }
-    ensures writes { IfOk result (λ writes. writes.items ≡ map (λ (x : ChangeKey × ChangeOf). x.1.write) cells.entries) }
-    ensures made { OnOk result (HaveCells tables.old.items tables.new.items (λ s. turned (map cell_turn cells.entries) s (come_to come s (kept_at tables.old.items s)))) }
+    requires spots { All (IsOfTables tables.old.items) (changes_in cells.items) }
+    ensures writes { IfOk result (λ writes. writes.items ≡ map (λ (x : ChangeKey × ChangeOf). x.1.write) (changes_in cells.items)) }
+    ensures made { OnOk result (HaveCells tables.old.items tables.new.items (λ s. turned (map cell_turn (changes_in cells.items)) s (come_to come s (kept_at tables.old.items s)))) }
     ensures kept { OnErr result (HaveCells tables.old.items tables.new.items (kept_at tables.old.items)) }
 {
-    let turns = turns_of(alloc, &cells)?;
-    let writes = written(alloc, cells)?;
+    let ordered = in_order(cells)?;
+    let mut writes = Vec::with_capacity(alloc, ordered.len())?;
     enter(alloc, tables, come)?;
-    turn_all(tables, turns);
+    turn_changed(tables, ordered, &mut writes);
     Ok(writes)
 }
 

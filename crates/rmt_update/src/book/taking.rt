@@ -1,19 +1,17 @@
 //! The cell that one entry takes.
 
-ghost use Rattle.std.specs.Prelude.{◌≡◌, ◌<◌, ◌≤◌, IfOk, IfSome, IsTrue, OnOk, length, sum};
-ghost use Rattle.std.specs.List.{AllZip};
-ghost use Rattle.rmt_ast.specs.NameRules.{table_is_formed};
-ghost use Rattle.rmt_ast.specs.WellFormed.{IsTest};
+ghost use Rattle.std.specs.Prelude.{◌≡◌, ◌<◌, IfOk, IfSome, OnOk, length};
+ghost use Rattle.rmt_ast.specs.declared.entry.Entry.{Entry as EntryOf};
+ghost use Rattle.rmt_update.specs.Coming.{key_bytes};
 ghost use Rattle.rmt_update.specs.Taking.{HaveRoom, IsGiven, MayGive, TakesFrom, TakesOpen, TakesRow};
 
 use crate::book::index::TableIndex;
-use crate::book::loading::key_of;
 use crate::book::open::open_cell;
 use crate::book::row_order::{RowOrder, row_key};
 use crate::book::spots::{Spot, spot_of};
 use crate::book::table::TableCells;
 use rmt_ast::entry::Entry;
-use std::alloc::{AllocError, Global};
+use std::alloc::AllocError;
 use std::collections::BTreeSet;
 
 /// Gives a cell of an exact table. The only fault is want of memory.
@@ -25,26 +23,21 @@ fn give(given: &mut Vec<BTreeSet<u32>>, spot: Spot) -> Result<(), AllocError>
     Ok(())
 }
 
-/// The first free one of the candidate cells of an entry of an exact table, which is given from then on. The only fault
-/// is want of memory.
+/// The first free one of the candidate cells of the key of an entry of an exact table, which is given from then on. The
+/// only fault is want of memory.
 fn take_open(
-    alloc: Global,
     odd: bool,
     seed: u8,
     table: &TableCells,
     given: &mut Vec<BTreeSet<u32>>,
-    entry: &Entry,
+    key: &[u8],
 ) -> Result<Option<Spot>, AllocError>
-    requires formed { IsTrue (table_is_formed table.now.name) }
-    requires few { sum table.now.name.keys ≤ 640 }
-    requires tests { AllZip IsTest table.now.name.keys entry.now.tests }
     requires given { length given.old.items ≡ length table.now.parts.items }
-    ensures takes { IfOk result (λ spot. TakesOpen odd seed table.now entry.now given.old.items given.new.items spot) }
+    ensures takes { IfOk result (λ spot. (e : EntryOf) → key.now ≡ key_bytes table.now.name e → TakesOpen odd seed table.now e given.old.items given.new.items spot) }
     ensures within { IfOk result (λ spot. IfSome spot (λ s. s.part < length table.now.parts.items)) }
 {
     let parts = table.parts.as_slice();
-    let key = key_of(alloc, &table.name, entry)?;
-    let Some(spot) = open_cell(odd, seed, parts, given.as_slice(), key.as_slice()) else {
+    let Some(spot) = open_cell(odd, seed, parts, given.as_slice(), key) else {
         return Ok(None);
     };
     give(given, spot)?;
@@ -71,25 +64,23 @@ fn take_row(
     Ok(Some(spot_of(table.parts.as_slice(), row)))
 }
 
-/// The first cell that an entry may take, which it has from then on; None where there is none. The only fault is want
-/// of memory.
+/// The first cell that an entry of this key may take, which it has from then on; None where there is none. The only
+/// fault is want of memory.
 pub fn take_cell(
-    alloc: Global,
     odd: bool,
     seed: u8,
     table: &TableCells,
     index: &mut TableIndex,
     entry: &Entry,
+    key: &[u8],
 ) -> Result<Option<Spot>, AllocError>
-    requires formed { IsTrue (table_is_formed table.now.name) }
-    requires few { sum table.now.name.keys ≤ 640 }
-    requires tests { AllZip IsTest table.now.name.keys entry.now.tests }
+    requires key { key.now ≡ key_bytes table.now.name entry.now }
     requires may { MayGive table.now entry.now index.old }
     ensures takes { IfOk result (λ spot. TakesFrom odd seed table.now entry.now index.old index.new spot) }
     ensures within { IfOk result (λ spot. IfSome spot (λ s. s.part < length table.now.parts.items)) }
 {
     match index {
-        TableIndex::Cells(given) => take_open(alloc, odd, seed, table, given, entry),
+        TableIndex::Cells(given) => take_open(odd, seed, table, given, key),
         TableIndex::Rows(order) => take_row(table, order, entry),
     }
 }

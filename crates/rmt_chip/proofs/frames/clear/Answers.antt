@@ -5,6 +5,6 @@ use Rattle.rmt_chip.specs.Frames.{held_if}
 use Rattle.rmt_chip.proofs.frames.clear.Goals as goal
 
 pub returns-in-Some : goal.returns-in-Some
-returns-in-Some c = λ front back bytes stands.
-    c.give_back.ensures.stands 65536 front back bytes
-    (subst (λ (o : Option Chain). Stands 65536 (front ++ (held_if o bytes ++ back)) c.args.cells.now) c.in-Some.is stands)
+returns-in-Some c = λ count front back bytes stands.
+    c.give_back.ensures.stands count front back bytes
+    (subst (λ (o : Option Chain). Stands count (front ++ (held_if o bytes ++ back)) c.args.cells.now) c.in-Some.is stands)

@@ -1,4 +1,4 @@
 use Rattle.rmt_chip.proofs.frames.put_short.Goals as goal
 
 pub returns : goal.returns
-returns c = λ held stands. c.in-Ok.ensures.stands 65536 held stands
+returns c = λ count held stands. c.in-Ok.ensures.stands count held stands

@@ -1,19 +1,11 @@
-use Rattle.std.proofs.Common.{List, length, sym, ap, subst, ◌∙◌, arith}
+use Rattle.std.proofs.Common.{List, length, sym, ap, subst, ◌∙◌}
 use Rattle.rmt_chip.specs.Types.{Config}
 use Rattle.rmt_chip.specs.declared.packet_slot.PacketSlot.{PacketSlot}
 use Rattle.rmt_config.specs.ChipRun.{latency_of}
 use Rattle.rmt_chip.specs.Inputs.{entered_at}
 use Rattle.rmt_chip.specs.Ring.{now, next, AllHold, oldest_below}
-use Rattle.rmt_chip.proofs.LatencyLaws.{latency-le}
-use Rattle.rmt_chip.proofs.StandsLaws.{held_now, no_limit}
-use Rattle.rmt_chip.proofs.FormedRuns.{runnable}
+use Rattle.rmt_chip.proofs.StandsLaws.{held_now}
 use Rattle.rmt_chip.proofs.chip.Chip.oldest.Goals as goal
-
-pub oldest-requires-clause-age : goal.oldest-requires-clause-age
-oldest-requires-clause-age c =
-    let self = c.args.self.now in
-    let most = latency-le self.config.stages (runnable self.config self.formed (no_limit self.config self.limits)).stages in
-    omega (arith, most, self.leaves, c.from.ensures)
 
 pub returns : goal.returns
 returns c = λ config inputs stands.

@@ -1,6 +1,6 @@
-use Rattle.std.proofs.Common.{◌≡◌, ℕ, ◌+◌, ◌-◌, Bool, cond, List, [], get_or, All, Option, None, refl, sym, ap, subst, ◌∙◌, arith}
+use Rattle.std.proofs.Common.{◌≡◌, ℕ, ◌+◌, ◌-◌, Bool, cond, List, [], length, get_or, All, Option, None, refl, sym, ap, subst, ◌∙◌, arith}
 use Rattle.std.proofs.lemmas.Bool.{le-ltb}
-use Rattle.std.proofs.lemmas.List.{append-nil}
+use Rattle.std.proofs.lemmas.List.{append-nil, length-replicate}
 use Rattle.rmt_bits.specs.Counts.{counts}
 use Rattle.rmt_config.specs.ChipRun.{counted_numbers}
 use Rattle.rmt_config.specs.RunInputs.{Input}
@@ -35,17 +35,18 @@ lay_all-requires c = subst AllSlotsFormed (sym c.as_slice-stages.ensures) (slots
 pub latency-latency-requires : goal.latency-latency-requires
 latency-latency-requires c =
     let stages = (runnable c.args.config c.requires.form.items c.requires.limits).stages in
-    rw c.as_slice.ensures stages
+    rw c.as_slice-stages.ensures stages
 
 pub invariant_of-result : goal.invariant_of-result
 invariant_of-result c = record {
   formed = c.requires.form.items;
   limits = ap is_none c.requires.limits;
   fit = subst (λ (ss : List Stage). MemoriesOf ss c.in_ok-memories.memories.items) c.as_slice-stages.ensures c.in_ok-memories.ensures.fit;
-  full = c.in_ok-places.ensures.full;
+  full = let full = c.in_ok-places.ensures.full in omega arith;
+  framed = let size = ap length c.in_ok-frames.ensures ∙ length-replicate {A = List ℕ} (c.from-count.result + 1) [] in omega arith;
   room = subst (λ (ss : List Stage). All (λ (p : PacketSlot). HaveRoomFor ss p.pending.items) c.in_ok-places.places.items) c.as_slice-stages.ensures c.in_ok-places.ensures.room;
   in_ring = omega arith;
-  leaves = c.latency-latency.ensures.value ∙ ap latency_of c.as_slice.ensures;
+  leaves = c.latency-latency.ensures.value ∙ ap latency_of c.as_slice-stages.ensures;
 }
 
 pub returns : goal.returns
@@ -60,8 +61,11 @@ returns c =
       seed_is = refl;
       version_is = refl;
       in_flight = λ later. record {
-        places_hold = λ age d h. free_at config later age (get_or c.in_ok-places.places.items (ring_at 0 age) d) (c.in_ok-places.ensures.free (ring_at 0 age) d (let lt = ring_at-lt 0 age in let full = c.in_ok-places.ensures.full in omega arith));
-        frames_stand = λ age h. none_at config later age (get_or (frames_of c.in_ok-frames.frames) (ring_at 0 age) []);
+        places_hold = λ age d h.
+            let places = c.in_ok-places.places.items in
+            let at = ring_at (length places) 0 age in
+            free_at config later age (get_or places at d) (c.in_ok-places.ensures.free at d (ring_at-lt (length places) 0 age (omega (arith, h)) h));
+        frames_stand = λ age h. none_at config later age (get_or (frames_of c.in_ok-frames.frames) (ring_at (length (frames_of c.in_ok-frames.frames)) 0 age) []);
         counters_are = c.in_ok-counters.ensures ∙ ap (λ ns. counts ns []) (sym (append-nil (counted_numbers config)));
       };
     }

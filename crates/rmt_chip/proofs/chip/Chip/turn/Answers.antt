@@ -1,12 +1,14 @@
-use Rattle.std.proofs.Common.{◌≡◌, ℕ, ◌+◌, ◌%◌, Bool, true, false, cond, List, All, refl, sym, ap, ◌∙◌, subst, arith}
+use Rattle.std.proofs.Common.{◌≡◌, ℕ, ◌+◌, ◌≤◌, Bool, true, false, cond, List, All, refl, sym, ap, ◌∙◌, subst, arith}
 use Rattle.std.specs.Prelude.{is_some}
 use Rattle.std.proofs.lemmas.List.{with_items_is}
 use Rattle.std.proofs.Common.{Vec, Global}
 use Rattle.rmt_chip.specs.declared.packet_slot.PacketSlot.{PacketSlot}
 use Rattle.rmt_chip.specs.declared.memory.SlotMemory.{SlotMemory}
 use Rattle.rmt_chip.specs.declared.moment.Moment.{Moment}
+use Rattle.rmt_config.specs.ChipRun.{latency_of}
 use Rattle.rmt_chip.specs.FrameList.{frames_of}
 use Rattle.rmt_chip.specs.Pending.{HaveRoomFor}
+use Rattle.rmt_chip.specs.Ring.{ring_after}
 use Rattle.rmt_chip.specs.StageMemories.{MemoriesOf}
 use Rattle.rmt_chip.proofs.FormedRuns.{runnable}
 use Rattle.rmt_chip.proofs.StandsLaws.{CycleGives, turn_right, no_limit}
@@ -39,11 +41,14 @@ returns-clause-goes c = λ config numbers inputs input is took.
     let lent = c.deref_mut.ensures.len in
     let items = with_items_is old.places c.cycle-answer.new.places (omega arith) in
     let grown : c.from-entering.result ≡ cond (is_some c.args.frame) 1 0 = c.from-entering.ensures ∙ ap bool_byte c.is_some.ensures ∙ byte_of (is_some c.args.frame) in
-    let moment : Moment = record { newest = (old.newest + 1) % 385; number = old.entered; version = old.version; seed = old.seed } in
+    let among : old.newest ≤ latency_of old.config.stages = omega (arith, old.in_ring, old.leaves) in
+    let size : c.len.result ≡ latency_of old.config.stages + 1 = omega (arith, c.len.ensures, old.full, old.leaves) in
+    let turned = c.place_after-newest.ensures.place ∙ ap (λ n. ring_after n old.newest) size in
+    let moment : Moment = record { newest = c.place_after-newest.result; number = old.entered; version = old.version; seed = old.seed } in
     let Gives = λ (memories : List (Vec SlotMemory Global)) (before after : List PacketSlot).
     CycleGives old.config moment c.args.frame memories before after (frames_of old.frames) (frames_of c.cycle-answer.new.frames) old.counters.counts c.cycle-answer.new.counters.counts c.cycle-answer.result c.cycle-answer.new.out in
-    turn_right config numbers inputs input c.args.frame old _ c.cycle-answer.result c.cycle-answer.new.out old.in_ring is refl refl refl refl
-    (ap (λ (n : ℕ). old.entered + n) grown) refl
+    turn_right config numbers inputs input c.args.frame old _ c.cycle-answer.result c.cycle-answer.new.out among is refl refl refl refl
+    (ap (λ (n : ℕ). old.entered + n) grown) turned
     (subst (λ (ps : List PacketSlot). Gives old.memories.items old.places.items ps) (sym items)
     (subst (λ (ps : List PacketSlot). Gives old.memories.items ps c.cycle-answer.new.places) c.deref_mut.ensures.value
     (subst (λ (ms : List (Vec SlotMemory Global)). Gives ms c.deref_mut.result.now c.cycle-answer.new.places) c.deref.ensures.value c.cycle-answer.ensures.gives)))

@@ -1,12 +1,14 @@
-use Rattle.std.proofs.Common.{List, refl, sym, subst}
-use Rattle.std.specs.Prelude.{All}
+use Rattle.std.proofs.Common.{ℕ, ◌<◌, List, refl, sym, subst}
+use Rattle.std.specs.Prelude.{All, AllPairs}
 use Rattle.std.proofs.lemmas.List.Elements.{All-weaker}
 use Rattle.rmt_update.specs.declared.book.placing.Coming.{Coming}
 use Rattle.rmt_update.specs.declared.book.table.TableCells.{TableCells}
 use Rattle.rmt_update.specs.Come.{AreOrdered}
+use Rattle.rmt_update.specs.Differences.{changes_in}
 use Rattle.rmt_update.specs.TurnWrites.{AreSmall, HaveOwnSlots, IsFresh}
 use Rattle.rmt_update.specs.Turning.{IsSpotIn}
 use Rattle.rmt_update.proofs.BookNext.{book-next}
+use Rattle.rmt_update.proofs.ChangesLaws.{changes-ordered}
 use Rattle.rmt_update.proofs.ResultLaws.{on_err}
 use Rattle.rmt_update.proofs.FewLaws.{few-change}
 use Rattle.rmt_update.proofs.RecentLaws.{recent-few}
@@ -30,6 +32,9 @@ changes_at-requires-clause-fresh c =
     subst (λ (ts : List TableCells). All (IsFresh ts) c.as_slice.result.now) (sym c.as_slice-tables.ensures.value)
     (subst (λ (xs : List Coming). All (IsFresh c.args.self.now.tables.items) xs) (sym c.as_slice.ensures) (are-fresh r.0 r.1 r.2 r.3 c.args.changes.now c.args.self.now c.args.come r.4 r.5 r.6 r.7))
 
+pub changes_at-requires-clause-rise : goal.changes_at-requires-clause-rise
+changes_at-requires-clause-rise c = subst (AllPairs (λ (a b : ℕ). a < b)) (sym c.as_slice-gone.ensures) c.requires.may.6.gone_rise
+
 pub make_changes-requires-clause-there : goal.make_changes-requires-clause-there
 make_changes-requires-clause-there c =
     let r = c.requires.may in
@@ -39,31 +44,31 @@ make_changes-requires-clause-there c =
 pub make_changes-requires-clause-spots : goal.make_changes-requires-clause-spots
 make_changes-requires-clause-spots c =
     let b = c.args.self.now in
-    (changed-from b.odd b.tables.items c.as_slice-tables.result.now c.args.changes.now.gone c.as_slice-gone.result.now c.args.come c.as_slice.result.now c.in_ok-cells.cells c.as_slice-tables.ensures.value c.as_slice-gone.ensures
+    (changed-from b.odd b.tables.items c.as_slice-tables.result.now c.args.changes.now.gone c.as_slice-gone.result.now c.args.come c.as_slice.result.now (changes_in c.in_ok-cells.cells.items) c.as_slice-tables.ensures.value c.as_slice-gone.ensures
     c.as_slice.ensures c.in_ok-cells.ensures).spots
 
 pub returns-clause-writes : goal.returns-clause-writes
 returns-clause-writes c = λ config names cells lists stands named may placed.
     let b = c.args.self.now in
-    let changed = changed-from b.odd b.tables.items c.as_slice-tables.result.now c.args.changes.now.gone c.as_slice-gone.result.now c.args.come c.as_slice.result.now c.in_ok-cells.cells c.as_slice-tables.ensures.value c.as_slice-gone.ensures
+    let changed = changed-from b.odd b.tables.items c.as_slice-tables.result.now c.args.changes.now.gone c.as_slice-gone.result.now c.args.come c.as_slice.result.now (changes_in c.in_ok-cells.cells.items) c.as_slice-tables.ensures.value c.as_slice-gone.ensures
     c.as_slice.ensures c.in_ok-cells.ensures in
-    settled-writes config names cells lists c.args.changes.now b c.args.come stands named may placed c.in_ok-cells.cells c.in_ok-writes.ensures.ordered changed c.make_changes.new.tables.items c.in_ok-writes.ensures.made
+    settled-writes config names cells lists c.args.changes.now b c.args.come stands named may placed (changes_in c.in_ok-cells.cells.items) (changes-ordered c.in_ok-cells.cells.items) changed c.make_changes.new.tables.items c.in_ok-writes.ensures.made
     (subst (All AreOrdered) c.as_slice-tables.ensures.value c.all_ordered.ensures) c.in_ok-writes.writes.items c.in_ok-writes.ensures.writes
 
 pub returns-clause-sizes : goal.returns-clause-sizes
 returns-clause-sizes c = λ config names cells lists stands named may placed.
     let b = c.args.self.now in
-    let changed = changed-from b.odd b.tables.items c.as_slice-tables.result.now c.args.changes.now.gone c.as_slice-gone.result.now c.args.come c.as_slice.result.now c.in_ok-cells.cells c.as_slice-tables.ensures.value c.as_slice-gone.ensures
+    let changed = changed-from b.odd b.tables.items c.as_slice-tables.result.now c.args.changes.now.gone c.as_slice-gone.result.now c.args.come c.as_slice.result.now (changes_in c.in_ok-cells.cells.items) c.as_slice-tables.ensures.value c.as_slice-gone.ensures
     c.as_slice.ensures c.in_ok-cells.ensures in
-    settled-sizes config names cells lists c.args.changes.now b c.args.come stands named may placed c.in_ok-cells.cells c.in_ok-writes.ensures.ordered changed c.make_changes.new.tables.items c.in_ok-writes.ensures.made
+    settled-sizes config names cells lists c.args.changes.now b c.args.come stands named may placed (changes_in c.in_ok-cells.cells.items) (changes-ordered c.in_ok-cells.cells.items) changed c.make_changes.new.tables.items c.in_ok-writes.ensures.made
     (subst (All AreOrdered) c.as_slice-tables.ensures.value c.all_ordered.ensures) c.in_ok-writes.writes.items c.in_ok-writes.ensures.writes
 
 pub returns-clause-stands : goal.returns-clause-stands
 returns-clause-stands c = λ config names cells lists stands named may placed.
     let b = c.args.self.now in
-    let changed = changed-from b.odd b.tables.items c.as_slice-tables.result.now c.args.changes.now.gone c.as_slice-gone.result.now c.args.come c.as_slice.result.now c.in_ok-cells.cells c.as_slice-tables.ensures.value c.as_slice-gone.ensures
+    let changed = changed-from b.odd b.tables.items c.as_slice-tables.result.now c.args.changes.now.gone c.as_slice-gone.result.now c.args.come c.as_slice.result.now (changes_in c.in_ok-cells.cells.items) c.as_slice-tables.ensures.value c.as_slice-gone.ensures
     c.as_slice.ensures c.in_ok-cells.ensures in
-    let next = settled-next config names cells lists c.args.changes.now b c.args.come stands named may placed c.in_ok-cells.cells c.in_ok-writes.ensures.ordered changed c.make_changes.new.tables.items c.in_ok-writes.ensures.made
+    let next = settled-next config names cells lists c.args.changes.now b c.args.come stands named may placed (changes_in c.in_ok-cells.cells.items) (changes-ordered c.in_ok-cells.cells.items) changed c.make_changes.new.tables.items c.in_ok-writes.ensures.made
     (subst (All AreOrdered) c.as_slice-tables.ensures.value c.all_ordered.ensures) in
     book-next config names cells lists c.args.changes.now b _ c.args.come stands named may placed next refl refl refl (c.in_ok-next.ensures c.make_changes.new.tables.items next)
 
@@ -71,20 +76,20 @@ pub returns-clause-few : goal.returns-clause-few
 returns-clause-few c =
     let r = c.requires.may in
     let b = c.args.self.now in
-    let changed = changed-from b.odd b.tables.items c.as_slice-tables.result.now c.args.changes.now.gone c.as_slice-gone.result.now c.args.come c.as_slice.result.now c.in_ok-cells.cells c.as_slice-tables.ensures.value c.as_slice-gone.ensures
+    let changed = changed-from b.odd b.tables.items c.as_slice-tables.result.now c.args.changes.now.gone c.as_slice-gone.result.now c.args.come c.as_slice.result.now (changes_in c.in_ok-cells.cells.items) c.as_slice-tables.ensures.value c.as_slice-gone.ensures
     c.as_slice.ensures c.in_ok-cells.ensures in
     few-change r.0 r.1 r.2 r.3 c.args.changes.now b c.args.come r.4 r.5 r.6 r.7 c.in_ok-writes.writes.items
-    (settled-writes r.0 r.1 r.2 r.3 c.args.changes.now b c.args.come r.4 r.5 r.6 r.7 c.in_ok-cells.cells c.in_ok-writes.ensures.ordered changed c.make_changes.new.tables.items c.in_ok-writes.ensures.made
+    (settled-writes r.0 r.1 r.2 r.3 c.args.changes.now b c.args.come r.4 r.5 r.6 r.7 (changes_in c.in_ok-cells.cells.items) (changes-ordered c.in_ok-cells.cells.items) changed c.make_changes.new.tables.items c.in_ok-writes.ensures.made
     (subst (All AreOrdered) c.as_slice-tables.ensures.value c.all_ordered.ensures) c.in_ok-writes.writes.items c.in_ok-writes.ensures.writes)
 
 pub returns-clause-recent : goal.returns-clause-recent
 returns-clause-recent c =
     let r = c.requires.may in
     let b = c.args.self.now in
-    let changed = changed-from b.odd b.tables.items c.as_slice-tables.result.now c.args.changes.now.gone c.as_slice-gone.result.now c.args.come c.as_slice.result.now c.in_ok-cells.cells c.as_slice-tables.ensures.value c.as_slice-gone.ensures
+    let changed = changed-from b.odd b.tables.items c.as_slice-tables.result.now c.args.changes.now.gone c.as_slice-gone.result.now c.args.come c.as_slice.result.now (changes_in c.in_ok-cells.cells.items) c.as_slice-tables.ensures.value c.as_slice-gone.ensures
     c.as_slice.ensures c.in_ok-cells.ensures in
     recent-few r.0 r.1 r.2 r.3 c.args.changes.now b c.args.come r.4 r.5 r.6 r.7 c.make_changes.new.tables.items
-    (settled-next r.0 r.1 r.2 r.3 c.args.changes.now b c.args.come r.4 r.5 r.6 r.7 c.in_ok-cells.cells c.in_ok-writes.ensures.ordered changed c.make_changes.new.tables.items c.in_ok-writes.ensures.made
+    (settled-next r.0 r.1 r.2 r.3 c.args.changes.now b c.args.come r.4 r.5 r.6 r.7 (changes_in c.in_ok-cells.cells.items) (changes-ordered c.in_ok-cells.cells.items) changed c.make_changes.new.tables.items c.in_ok-writes.ensures.made
     (subst (All AreOrdered) c.as_slice-tables.ensures.value c.all_ordered.ensures))
 
 pub returns-in_err-writes-clause-kept : goal.returns-in_err-writes-clause-kept

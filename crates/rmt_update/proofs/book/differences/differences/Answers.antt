@@ -7,12 +7,13 @@ use Rattle.rmt_bits.proofs.AllLaws.{All-slice_get}
 use Rattle.rmt_bits.proofs.ListLaws.{AllZip-slice_get, slice_get-seen}
 use Rattle.rmt_update.specs.declared.book.table.PartCells.{PartCells}
 use Rattle.rmt_update.specs.declared.book.table.TableCells.{TableCells}
-use Rattle.rmt_update.specs.Differences.{AllPut, CanChange, pairs_of}
+use Rattle.rmt_update.specs.Differences.{AllPut, CanChange, changes_in, pairs_of}
+use Rattle.rmt_update.proofs.ChangesLaws.{changes-none, changes-ordered}
 use Rattle.rmt_update.proofs.PutChanges.{all-differences, put-none, table-put, take-past, zip-at, zip-short}
 use Rattle.rmt_update.proofs.book.differences.differences.Goals as goal
 
 pub loop-table-init : goal.loop-table-init
-loop-table-init c = put-none c.new-changes.result
+loop-table-init c = put-none (changes_in c.new-changes.result.items)
 
 pub returns : goal.returns
 returns c =
@@ -20,8 +21,8 @@ returns c =
     let ms = c.args.moved.now in
     let past = c.loop-table-test.false in
     let short = zip-short ts ms in
-    all-differences (flat_map pairs_of (zip ts ms)) c.new-changes.result c.loop-table.changes c.in_ok-writes.writes.items c.new-changes.ensures.empty c.in_ok-writes.ensures.ordered
-    (subst (λ ps. AllPut (flat_map pairs_of ps) c.new-changes.result c.loop-table.changes) (take-past (zip ts ms) c.loop-table.table (omega (arith, past, short))) c.loop-table.invariant) c.in_ok-writes.ensures.writes
+    all-differences (flat_map pairs_of (zip ts ms)) (changes_in c.new-changes.result.items) (changes_in c.loop-table.changes.items) c.in_ok-writes.writes.items (changes-none c.new-changes.result.items c.new-changes.ensures.items) (changes-ordered c.loop-table.changes.items)
+    (subst (λ ps. AllPut (flat_map pairs_of ps) (changes_in c.new-changes.result.items) (changes_in c.loop-table.changes.items)) (take-past (zip ts ms) c.loop-table.table (omega (arith, past, short))) c.loop-table.invariant) c.in_ok-writes.ensures
 
 pub bounds-moved-table : goal.bounds-moved-table
 bounds-moved-table c =
@@ -63,6 +64,6 @@ loop-table-preserved c =
     let lt = c.loop-table-test.true in
     let at_t = slice_get-seen ts ts i t refl lt c.index-tables-table.is in
     let at_m = slice_get-seen ms ms i m refl (omega (arith, lt, long)) c.index-moved-table.is in
-    table-put (zip ts ms) i (t, m) c.new-changes.result c.loop-table.changes c.put_parts.new.changes (zip-at ts ms i t m at_t at_m) c.loop-table.invariant
-    (subst (λ (xs : List PartCells). AllPut (zip xs m.items) c.loop-table.changes c.put_parts.new.changes) (c.as_slice-old.ensures.value ∙ ap (λ (x : TableCells). x.parts.items) (sym c.index-tables-table.is))
-    (subst (λ (ys : List PartCells). AllPut (zip c.as_slice-old.result.now ys) c.loop-table.changes c.put_parts.new.changes) c.as_slice.ensures.value c.in_ok-put_parts.ensures))
+    table-put (zip ts ms) i (t, m) (changes_in c.new-changes.result.items) (changes_in c.loop-table.changes.items) (changes_in c.put_parts.new.changes.items) (zip-at ts ms i t m at_t at_m) c.loop-table.invariant
+    (subst (λ (xs : List PartCells). AllPut (zip xs m.items) (changes_in c.loop-table.changes.items) (changes_in c.put_parts.new.changes.items)) (c.as_slice-old.ensures.value ∙ ap (λ (x : TableCells). x.parts.items) (sym c.index-tables-table.is))
+    (subst (λ (ys : List PartCells). AllPut (zip c.as_slice-old.result.now ys) (changes_in c.loop-table.changes.items) (changes_in c.put_parts.new.changes.items)) c.as_slice.ensures.value c.in_ok-put_parts.ensures))

@@ -1,14 +1,13 @@
 use Rattle.std.proofs.Common.{take}
-use Rattle.std.specs.BTreeSet.{contains}
-use Rattle.std.specs.Ordering.{nat_cmp}
 use Rattle.std.specs.Prelude.{Contains}
 use Rattle.rmt_update.specs.BookSpots.{kept_at}
+use Rattle.rmt_update.specs.Differences.{changes_in}
 use Rattle.rmt_update.specs.TurnWrites.{AreOnWay, MoreChanged}
-use Rattle.rmt_update.specs.Turning.{left_by}
+use Rattle.rmt_update.specs.Turning.{left_kept}
 use Rattle.rmt_update.proofs.book.leaving.put_recent.Given as goal
 
 -- those of the cells so far that change
 abbrev pub invariant-loop-spot : goal.invariant-loop-spot
 invariant-loop-spot l =
-    AreOnWay l.tables (λ s. left_by l.odd (contains nat_cmp l.gone) (kept_at l.tables s)) l.fn.changes
-    → MoreChanged l.tables (λ s. left_by l.odd (contains nat_cmp l.gone) (kept_at l.tables s)) l.fn.changes l.changes (Contains (take l.spot-index l.spots))
+    AreOnWay l.tables (λ s. left_kept l.odd l.gone (kept_at l.tables s)) (changes_in l.fn.changes.items)
+    → MoreChanged l.tables (λ s. left_kept l.odd l.gone (kept_at l.tables s)) (changes_in l.fn.changes.items) (changes_in l.changes.items) (Contains (take l.spot-index l.spots))

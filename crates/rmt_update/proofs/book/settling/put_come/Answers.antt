@@ -1,8 +1,12 @@
-use Rattle.std.proofs.Common.{◌≡◌, ◌+◌, Option, Some, refl, sym, ap, ◌∙◌, subst, take}
+use Rattle.std.proofs.Common.{◌≡◌, ◌+◌, Option, Some, Vec, refl, sym, ap, ◌∙◌, subst, take}
+use Rattle.std.specs.Global.{Global}
 use Rattle.std.specs.Prelude.{option_copied, slice_get}
 use Rattle.rmt_bits.proofs.ListLaws.{slice_get-seen}
+use Rattle.rmt_update.specs.declared.book.changing.CellChange.{CellChange}
 use Rattle.rmt_update.specs.declared.book.kept.Kept.{Kept}
 use Rattle.rmt_update.specs.declared.book.spot.BookSpot.{BookSpot}
+use Rattle.rmt_update.specs.Changing.{ChangeKey}
+use Rattle.rmt_update.specs.Differences.{changes_in}
 use Rattle.rmt_update.specs.TurnWrites.{AreChanged, IsFresh}
 use Rattle.rmt_update.specs.Turning.{come_to}
 use Rattle.rmt_bits.proofs.AllLaws.{All-slice_get}
@@ -23,10 +27,10 @@ loop-coming-preserved c =
     let fresh : IsFresh ts x = All-slice_get (IsFresh ts) xs i x c.requires.fresh at in
     elim c.match-part_at.branch [
       | in-Some+in_ok-put_kept w ↦
-          subst (λ m. (next : BookSpot → Option Kept) → AreChanged ts next c.args.changes.now → AreChanged ts (λ s. come_to (take (i + 1) xs) s (next s)) m) (sym w.changes-is)
-          (come-step ts c.requires.slots c.args.changes.now c.loop-coming.changes w.put_kept.new.changes xs i x w.in-Some.part.now at (sym c.part_at.ensures ∙ ap option_copied w.in-Some.is) fresh w.in_ok-put_kept.ensures.put c.loop-coming.invariant)
+          subst (λ (v : Vec (ChangeKey × CellChange) Global). (next : BookSpot → Option Kept) → AreChanged ts next (changes_in c.args.changes.now.items) → AreChanged ts (λ s. come_to (take (i + 1) xs) s (next s)) (changes_in v.items)) (sym w.changes-is)
+          (come-step ts c.requires.slots (changes_in c.args.changes.now.items) (changes_in c.loop-coming.changes.items) (changes_in w.put_kept.new.changes.items) xs i x w.in-Some.part.now at (sym c.part_at.ensures ∙ ap option_copied w.in-Some.is) fresh w.in_ok-put_kept.ensures c.loop-coming.invariant)
       | in_default w ↦ absurd (has-part ts x.spot fresh.there (sym c.part_at.ensures ∙ ap option_copied w.in_default.is))
     ]
 
 pub returns : goal.returns
-returns c = come-end c.args.tables.now c.requires.slots c.args.changes.now c.loop-coming.changes c.args.come.now c.loop-coming.coming-index c.loop-coming-test.false c.loop-coming.invariant
+returns c = come-end c.args.tables.now c.requires.slots (changes_in c.args.changes.now.items) (changes_in c.loop-coming.changes.items) c.args.come.now c.loop-coming.coming-index c.loop-coming-test.false c.loop-coming.invariant

@@ -1,12 +1,13 @@
-use Rattle.std.proofs.Common.{◌≡◌, ◌≢◌, ◌<◌, ◌∙◌, ◌∷◌, ◌++◌, ℕ, List, length, ap, arith}
+use Rattle.std.proofs.Common.{◌≡◌, ◌≢◌, ◌<◌, ◌∙◌, ◌∷◌, ◌++◌, ℕ, true, List, [], None, length, ap, arith}
 use Rattle.std.proofs.lemmas.Result.{on_err_weaker}
-use Rattle.rmt_update.specs.KeyNumbers.{KeyNumbers, all_at, numbers_at, pairs_of, slot_of}
-use Rattle.rmt_update.proofs.KeyNumberLaws.{crowd_stands, kept_all, place_at, put_seen, put_stands_seen, same_all, same_stands, slot_at, with_number}
+use Rattle.rmt_entries.specs.KeySets.{is_at}
+use Rattle.rmt_update.specs.KeyNumbers.{KeyNumbers, all_at, numbers_at, pairs_of, queued, slot_of}
+use Rattle.rmt_update.proofs.KeyNumberLaws.{crowd_stands, first_seen, kept_all, place_at, put_seen, put_stands_seen, refill_seen, same_all, same_stands, slot_at, there_seen, with_number}
 use Rattle.rmt_update.proofs.ResultLaws.{either_way, on_err}
 use Rattle.rmt_update.proofs.key_numbers.KeyNumbers.push.Goals as goal
 
-pub invariant_of-self : goal.invariant_of-self
-invariant_of-self c =
+pub invariant_of-self-then-slot-gt0 : goal.invariant_of-self-then-slot-gt0
+invariant_of-self-then-slot-gt0 c =
     let slots = c.self.inside.slots.items in
     let key = c.args.key.items in
     let all : c.len.result ≡ length slots = c.len.ensures ∙ c.self.inside.slots.ok.0 in
@@ -24,6 +25,24 @@ returns-then-slot-gt0-clause-kept c =
     (λ same q.
     same_all c.self.inside.slots.items c.self.inside.firsts.items c.self.inside.keys.items (pairs_of c.self.inside.crowded) c.self.invariant (pairs_of c.push_queued.new.queues) same q
     ∙ ap (λ (n : KeyNumbers). numbers_at n q) c.self.view_is) c.push_queued.ensures.kept
+
+pub returns-then-is_emptied-clause-pushed : goal.returns-then-is_emptied-clause-pushed
+returns-then-is_emptied-clause-pushed c q =
+    let slots = c.self.inside.slots.items in
+    let firsts = c.self.inside.firsts.items in
+    let keys = c.self.inside.keys.items in
+    let key = c.args.key.items in
+    let ks = c.as_slice-then-slot-gt0.result.now in
+    let all : c.len.result ≡ length slots = c.len.ensures ∙ c.self.inside.slots.ok.0 in
+    let slot = slot_at slots key c.as_slice.result.now c.len.result c.place_of-place.result c.index-slot.result.now all c.as_slice.ensures.value c.place_of-place.ensures.place c.place_of-place.ensures.within c.index-slot.ensures in
+    let place = place_at slots key c.as_slice.result.now c.len.result c.place_of-place.result all c.as_slice.ensures.value c.place_of-place.ensures.place in
+    let within : c.place_of-place.result < length slots = omega (arith, c.place_of-place.ensures.within, all) in
+    let numbered : c.place_of-place.result < length firsts = omega (arith, within, c.self.invariant.count) in
+    let found : (is_at ks c.index-slot.result.now key ≡ true) × ((c.index-first.result.now ≡ None) × (queued c.self.inside.crowded c.args.key ≡ [])) = c.is_emptied.ensures c.if-is_emptied.true in
+    let there = there_seen slots keys key ks c.index-slot.result.now c.as_slice-then-slot-gt0.ensures.value slot found.0 in
+    let empty = first_seen firsts c.place_of-place.result c.index-first.result.now c.index-first.ensures numbered in
+    refill_seen slots firsts keys (pairs_of c.self.inside.crowded) c.self.invariant key c.args.number c.place_of-place.result there (empty ∙ found.1.0) found.1.1 place within q
+    ∙ ap (λ (n : KeyNumbers). numbers_at n q ++ with_number key c.args.number q.items) c.self.view_is
 
 pub returns-in_err-put_list-clause-kept : goal.returns-in_err-put_list-clause-kept
 returns-in_err-put_list-clause-kept c =

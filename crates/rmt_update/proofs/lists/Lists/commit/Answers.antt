@@ -43,7 +43,7 @@ returns-clause-committed c r s =
 
 pub returns-clause-changes : goal.returns-clause-changes
 returns-clause-changes c r s =
-    changes_are r.last c.args.self.now.gone.keys c.args.self.now.come.items c.args.self.now.first r.now.lists s.left c.in_ok-gone.gone c.in_ok-come.come c.in_ok-gone.ensures.numbers (c.in_ok-come.ensures ∙ ap somes c.as_slice.ensures.value)
+    changes_are r.last c.args.self.now.gone.keys c.args.self.now.come.items c.args.self.now.first r.now.lists s.left c.in_ok-gone.gone c.come_of-come.result c.in_ok-gone.ensures.numbers (c.come_of-come.ensures ∙ ap somes c.as_mut_slice.ensures.value)
     c.in_ok-gone.ensures.rise
 
 pub settle-requires-clause-counts : goal.settle-requires-clause-counts

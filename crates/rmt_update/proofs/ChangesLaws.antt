@@ -1,0 +1,47 @@
+-- Changes one after another: what one more puts to them, and that in order they are what a stable sort leaves of them.
+use Rattle.std.proofs.Common.{◌≡◌, Bool, ◌&&◌, ◌==◌, List, [], ◌∷◌, ◌++◌, refl, sym, ap, ◌∙◌}
+use Rattle.std.specs.Prelude.{reverse}
+use Rattle.std.specs.BTreeMap.{insert_entry}
+use Rattle.std.specs.List.{dedup}
+use Rattle.std.specs.List.Sorted.{IsSortedByKey, IsStableByKey, IsStrictlySortedBy}
+use Rattle.std.specs.Map.{keys_of}
+use Rattle.std.specs.Ordering.{eq_by_cmp, is_eq, nat_cmp, ordering_then}
+use Rattle.std.specs.declared.cmp.Ordering.{Ordering}
+use Rattle.std.specs.declared.cmp.Ordering.TheVariants.{Less, Equal, Greater}
+use Rattle.std.proofs.lemmas.List.Sums.{fold_push}
+use Rattle.rmt_refine.proofs.FindLaws.{same_number}
+use Rattle.rmt_update.specs.declared.book.changing.CellChange.{CellChange}
+use Rattle.rmt_update.specs.Changing.{ChangeKey, key_cmp}
+use Rattle.rmt_update.specs.Differences.{Changes, changes_in}
+use Rattle.rmt_update.proofs.KeyedLaws.{key-exact, key-total}
+use Rattle.rmt_update.proofs.PutInOrder.{puts-in-order, sorted-puts}
+
+pub changes-none : (xs : List (ChangeKey × CellChange)) → xs ≡ [] → changes_in xs ≡ []
+changes-none xs is = ap changes_in is
+
+pub changes-pushed : (xs : List (ChangeKey × CellChange)) (x : ChangeKey × CellChange) → changes_in (xs ++ x ∷ []) ≡ insert_entry key_cmp (changes_in xs) x.0 x.1
+changes-pushed xs x = fold_push (λ (m : Changes) (y : ChangeKey × CellChange). insert_entry key_cmp m y.0 y.1) [] xs x
+
+pub changes-ordered : (xs : List (ChangeKey × CellChange)) → IsStrictlySortedBy key_cmp (keys_of (changes_in xs))
+changes-ordered xs = puts-in-order key-total xs
+
+-- two keys are one
+abbrev pub same_key : ChangeKey → ChangeKey → Bool
+same_key a b = ((a.0.0 == b.0.0) && (a.0.1 == b.0.1)) && (a.1 == b.1)
+
+same-by-order : (a b : ChangeKey) → same_key a b ≡ eq_by_cmp key_cmp a b
+same-by-order a b =
+    sym
+    (both (ordering_then (nat_cmp a.0.0 b.0.0) (nat_cmp a.0.1 b.0.1)) (nat_cmp a.1 b.1) ∙ ap (λ t. t && is_eq (nat_cmp a.1 b.1)) (both (nat_cmp a.0.0 b.0.0) (nat_cmp a.0.1 b.0.1))
+    ∙ ap (λ t. (t && is_eq (nat_cmp a.0.1 b.0.1)) && is_eq (nat_cmp a.1 b.1)) (same_number a.0.0 b.0.0) ∙ ap (λ t. ((a.0.0 == b.0.0) && t) && is_eq (nat_cmp a.1 b.1)) (same_number a.0.1 b.0.1)
+    ∙ ap (λ t. ((a.0.0 == b.0.0) && (a.0.1 == b.0.1)) && t) (same_number a.1 b.1))
+  where
+    both : (o p : Ordering) → is_eq (ordering_then o p) ≡ (is_eq o && is_eq p)
+    both Less p = refl
+    both Equal p = refl
+    both Greater p = refl
+
+-- from the last one on in order, of each key the first one
+pub changes-sorted : (xs ys : List (ChangeKey × CellChange)) → IsSortedByKey (λ (x : ChangeKey × CellChange). x.0) key_cmp ys → IsStableByKey (λ (x : ChangeKey × CellChange). x.0) key_cmp (reverse xs) ys
+    → dedup (λ (x y : ChangeKey × CellChange). same_key x.0 y.0) ys ≡ changes_in xs
+changes-sorted xs ys sorted stable = sorted-puts key-total key-exact (λ (x y : ChangeKey × CellChange). same_key x.0 y.0) (λ x y. same-by-order x.0 y.0) xs ys sorted stable
