@@ -1,21 +1,4 @@
-//! What no clause says: worked rows of every command, and faults of the outside in turn.
+//! What standard error is told, which no clause says: the rows of the commands stand in crates of tests above rmt_core.
 
-mod by_hand;
-mod changes;
-mod commands;
-mod committed;
-mod compiled;
 mod endings;
-mod example_texts;
-mod examples;
-mod faults;
-mod hostile;
-mod improved;
 mod messages;
-mod probed;
-mod programs;
-mod samples;
-mod simulated;
-mod switched;
-mod verified;
-mod words;

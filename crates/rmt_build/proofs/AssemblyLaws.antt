@@ -15,12 +15,13 @@ use Rattle.rmt_phv.specs.Places.{KeepsApart}
 use Rattle.rmt_refine.specs.Code.{CodeCarried}
 use Rattle.rmt_refine.specs.Units.{applied, table_at}
 use Rattle.rmt_refine.specs.View.{as_slot}
-use Rattle.rmt_refine.proofs.PartLaws.{and_at, some_and, then_some, slot_is_unit}
+use Rattle.rmt_pack.proofs.PartLaws.{and_at, then_some, slot_is_unit}
+use Rattle.rmt_refine.proofs.PartLaws.{some_and}
 use Rattle.rmt_refine.proofs.TheLaw.{its_table}
 use Rattle.rmt_vliw.specs.Coded.{IsCodeOf, IsDefaultCodeOf}
 use Rattle.rmt_build.specs.Promises.{HasCodeOfRule}
 use Rattle.rmt_build.specs.UnitCode.{DoActions, DoTable, DoUnit, DoUnits}
-use Rattle.rmt_build.proofs.CodeLaws.{table_does}
+use Rattle.rmt_refine.proofs.TableCodeLaws.{table_does}
 
 -- an instruction of a list, by its number
 abbrev ops_at : List Vliw → ℕ → List Operation

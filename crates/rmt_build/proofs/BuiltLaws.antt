@@ -27,7 +27,8 @@ use Rattle.rmt_refine.specs.Units.{UnitCarried, applied, nodes_in, table_at}
 use Rattle.rmt_config.specs.TableForm.{node_of}
 use Rattle.rmt_refine.specs.View.{as_slot, slot_of}
 use Rattle.rmt_bits.proofs.MemberLaws.{Contains-item, Contains-flat_map}
-use Rattle.rmt_refine.proofs.PartLaws.{quanta_of_node, slot_is_unit, then_some}
+use Rattle.rmt_refine.proofs.PartLaws.{quanta_of_node}
+use Rattle.rmt_pack.proofs.PartLaws.{slot_is_unit, then_some}
 use Rattle.rmt_build.specs.declared.plan.Plan.{Plan}
 use Rattle.rmt_build.specs.BuiltStage.{HasPart, HaveParts, IsBuiltStage, SmallUnit}
 use Rattle.rmt_build.specs.Holding.{Held}
@@ -63,23 +64,23 @@ parts_apart blocks (x ∷ xs) apart (suc i) (suc j) u v lt at_u at_v b in_u in_v
     parts_apart blocks xs (AllPairs-right ◌≢◌ (blocks x) (flat_map blocks xs) apart) i j u v (omega (arith, lt)) at_u at_v b in_u in_v
 
 -- rows stand in some of the blocks that a unit lists
+in_sram : (m : Memory) (b : ℕ) → Contains (memory_sram_blocks m) b → Contains (memory_sram m) b
+in_sram memory.Without b has = has
+in_sram (memory.Exact k per d w ks rs cs) b has = Contains-append_left (ks ++ rs) cs b has
+in_sram (memory.Ternary d ks rs cs) b has = Contains-append_left rs cs b has
+
 rows_sram : (u : Unit) (b : ℕ) → Contains (sram_blocks u) b → Contains (unit_sram u) b
 rows_sram (Gate g) b there = there
-rows_sram (Slot s) b there = by s.memory there
-  where
-    by : (m : Memory) → Contains (memory_sram_blocks m) b → Contains (memory_sram m) b
-    by memory.Without has = has
-    by (memory.Exact k per d w ks rs cs) has = Contains-append_left (ks ++ rs) cs b has
-    by (memory.Ternary d ks rs cs) has = Contains-append_left rs cs b has
+rows_sram (Slot s) b there = in_sram s.memory b there
+
+in_tcam : (m : Memory) (b : ℕ) → Contains (memory_tcam_blocks m) b → Contains (memory_tcam m) b
+in_tcam memory.Without b has = has
+in_tcam (memory.Exact k per d w ks rs cs) b has = has
+in_tcam (memory.Ternary d ks rs cs) b has = has
 
 rows_tcam : (u : Unit) (b : ℕ) → Contains (tcam_blocks u) b → Contains (unit_tcam u) b
 rows_tcam (Gate g) b there = there
-rows_tcam (Slot s) b there = by s.memory there
-  where
-    by : (m : Memory) → Contains (memory_tcam_blocks m) b → Contains (memory_tcam m) b
-    by memory.Without has = has
-    by (memory.Exact k per d w ks rs cs) has = has
-    by (memory.Ternary d ks rs cs) has = has
+rows_tcam (Slot s) b there = in_tcam s.memory b there
 
 module _ (p : Program) (lists : List (List Entry)) (plan : Plan) (k : ℕ) (program : IsProgram p) (entries : AreEntries p lists) (is : IsPlan p lists plan) (few : k < 32)
     (units : List Unit) (zip : AllZip (UnitCarried p plan.places plan.placement.parts k) (nodes_in p plan.placement.parts k) units) (have : HaveParts p lists plan k units) where

@@ -17,7 +17,7 @@ use Rattle.rmt_config.specs.BlockCounts.{divided_up}
 use Rattle.rmt_cuckoo.specs.declared.layout.Ways.{Ways}
 use Rattle.rmt_cuckoo.specs.declared.way.Way.{Way}
 use Rattle.rmt_cuckoo.specs.Loading.{candidates, cells_in, row_start, way_of, ways_from}
-use Rattle.rmt_refine.proofs.FindLaws.{Contains-range, range_bounds}
+use Rattle.rmt_pack.proofs.FindLaws.{Contains-range, range_bounds}
 use Rattle.rmt_bits.proofs.MemberLaws.{Contains-unmap, Contains-flat_map, from_flat_map}
 use Rattle.rmt_config.proofs.CellLaws.{cell_lt}
 

@@ -16,7 +16,8 @@ use Rattle.rmt_refine.specs.Cells.{CellsCarried, IsSpotOf}
 use Rattle.rmt_refine.specs.Places.{PlacesCarried}
 use Rattle.rmt_refine.specs.Units.{UnitCarried, UnitsCarried, nodes_in}
 use Rattle.rmt_refine.specs.View.{own_view}
-use Rattle.rmt_refine.proofs.PartLaws.{IsPart as Stands, and_from, spot_of_part}
+use Rattle.rmt_pack.proofs.PartLaws.{IsPart as Stands, and_from}
+use Rattle.rmt_refine.proofs.PartLaws.{spot_of_part}
 use Rattle.rmt_build.specs.declared.plan.Plan.{Plan}
 use Rattle.rmt_build.specs.BuiltStage.{IsBuiltStage}
 use Rattle.rmt_build.specs.Plans.{AreParts, AreStands, format_at}

@@ -20,9 +20,10 @@ use Rattle.rmt_refine.specs.declared.map.CellOf.{CellOf}
 use Rattle.rmt_refine.specs.Cells.{IsTold, Spot}
 use Rattle.rmt_refine.specs.Units.{DoesAs, UnitCarried, UnitsCarried, applied, nodes_in, table_at}
 use Rattle.rmt_refine.specs.View.{as_slot}
-use Rattle.rmt_refine.proofs.FindLaws.{Contains-range}
+use Rattle.rmt_pack.proofs.FindLaws.{Contains-range}
 use Rattle.rmt_refine.proofs.NumberLaws.{one_list}
-use Rattle.rmt_refine.proofs.PartLaws.{IsPart, and_at, some_and, then_some}
+use Rattle.rmt_pack.proofs.PartLaws.{IsPart, and_at, then_some}
+use Rattle.rmt_refine.proofs.PartLaws.{some_and}
 use Rattle.rmt_refine.proofs.TheLaw.{table_entries}
 use Rattle.rmt_build.specs.declared.plan.Plan.{Plan}
 use Rattle.rmt_build.specs.declared.stands.Stand.{Stand}

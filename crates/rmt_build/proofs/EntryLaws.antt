@@ -21,7 +21,7 @@ use Rattle.rmt_pack.proofs.TcamLaws.{masks-fit, side_by_side-lt, values-fit}
 use Rattle.rmt_config.specs.Rooms.{args_as_one, tests_as_one}
 use Rattle.rmt_build.specs.Holding.{head_for}
 use Rattle.rmt_build.specs.Rooms.{AreOf}
-use Rattle.rmt_refine.proofs.BesideLaws.{args-lt}
+use Rattle.rmt_pack.proofs.BesideLaws.{args-lt}
 use Rattle.rmt_bits.proofs.MostLaws.{items-le}
 
 -- ---- tests

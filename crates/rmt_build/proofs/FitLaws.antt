@@ -10,7 +10,7 @@ use Rattle.rmt_ast.specs.WellFormed.{IsProgram}
 use Rattle.rmt_config.specs.Cells.{cells_in}
 use Rattle.rmt_pack.specs.Placements.{quanta_in}
 use Rattle.rmt_refine.specs.Units.{table_at}
-use Rattle.rmt_refine.proofs.PartLaws.{and_at}
+use Rattle.rmt_pack.proofs.PartLaws.{and_at}
 use Rattle.rmt_build.specs.declared.plan.Plan.{Plan}
 use Rattle.rmt_build.specs.declared.stands.Stand.{Stand}
 use Rattle.rmt_build.specs.Memories.{memory_for}

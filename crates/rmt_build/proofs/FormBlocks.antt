@@ -178,22 +178,24 @@ module _ (p : Program) (program : IsProgram p) (places : List (List Lane)) (part
       let g : Node → Format = λ (x : Node). what_format p x.what in
       get_or_from_slice_get (map g p.nodes) n (g node) no_memory (slice_get-map g p.nodes n ∙ ap (option_map g) at) ∙ ap (what_format p) is
 
+  -- so it has no blocks
+  gate_blocks : (blocks : Format → ℕ) → blocks no_memory ≡ 0 → (n : ℕ) (node : Node) (field : ℕ) (test : Test) → slice_get p.nodes n ≡ Some node → node.what ≡ what.Gate field test
+      → 0 ≡ quanta_in parts n k * blocks (format_at p n)
+  gate_blocks blocks none n node field test at is =
+      (let e : 0 ≡ quanta_in parts n k * 0 = omega arith in e) ∙ sym (ap (λ b. quanta_in parts n k * b) (ap blocks (gate_format n node field test at is) ∙ none))
+
   lists_sram : (n : ℕ) (u : Unit) → UnitCarried p places parts k n u → HasMemory n u → ListsNext unit_sram sram_of stands no_sram n u
   lists_sram n u carried has = elim (kinds p places parts k n u carried) [
     | inl s ↦ ap unit_sram s.is ∙ ap memory_sram (has s.slot s.table s.is s.at) ∙ memory_sram_is s.table.kind (need_in p parts s.table n k) (taken_upto p parts k n)
         ∙ ap (range_with_len (taken_upto p parts k n).sram) (part_sram p program n s.table s.at parts k)
-    | inr g ↦
-        let none : 0 ≡ sram_of n = (let e : 0 ≡ quanta_in parts n k * 0 = omega arith in e) ∙ sym (ap (λ (f : Format). quanta_in parts n k * f.sram) (gate_format n g.node g.field g.test g.node_is g.what_is)) in
-        ap unit_sram g.is ∙ ap (range_with_len (taken_upto p parts k n).sram) none
+    | inr g ↦ ap unit_sram g.is ∙ ap (range_with_len (taken_upto p parts k n).sram) (gate_blocks (λ (f : Format). f.sram) refl n g.node g.field g.test g.node_is g.what_is)
   ]
 
   lists_tcam : (n : ℕ) (u : Unit) → UnitCarried p places parts k n u → HasMemory n u → ListsNext unit_tcam tcam_of stands no_tcam n u
   lists_tcam n u carried has = elim (kinds p places parts k n u carried) [
     | inl s ↦ ap unit_tcam s.is ∙ ap memory_tcam (has s.slot s.table s.is s.at) ∙ memory_tcam_is s.table.kind (need_in p parts s.table n k) (taken_upto p parts k n)
         ∙ ap (range_with_len (taken_upto p parts k n).tcam) (part_tcam p program n s.table s.at parts k)
-    | inr g ↦
-        let none : 0 ≡ tcam_of n = (let e : 0 ≡ quanta_in parts n k * 0 = omega arith in e) ∙ sym (ap (λ (f : Format). quanta_in parts n k * f.tcam) (gate_format n g.node g.field g.test g.node_is g.what_is)) in
-        ap unit_tcam g.is ∙ ap (range_with_len (taken_upto p parts k n).tcam) none
+    | inr g ↦ ap unit_tcam g.is ∙ ap (range_with_len (taken_upto p parts k n).tcam) (gate_blocks (λ (f : Format). f.tcam) refl n g.node g.field g.test g.node_is g.what_is)
   ]
 
   zip_both : {P Q S : ℕ → Unit → Type 0} → ((n : ℕ) (u : Unit) → P n u → Q n u → S n u) → (ns : List ℕ) (us : List Unit) → AllZip P ns us → AllZip Q ns us → AllZip S ns us

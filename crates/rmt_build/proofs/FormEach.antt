@@ -24,7 +24,7 @@ use Rattle.rmt_pack.specs.Placements.{data_bits, key_bits, param_bits, quanta_in
 use Rattle.rmt_ptcam.proofs.FormLaws.{in_order_lie}
 use Rattle.rmt_ptcam.proofs.PlainLaws.{lanes_bits}
 use Rattle.rmt_refine.specs.Units.{TableCarried, UnitCarried, guard_of, last_stage, table_at}
-use Rattle.rmt_refine.proofs.PartLaws.{and_at}
+use Rattle.rmt_pack.proofs.PartLaws.{and_at}
 use Rattle.rmt_build.specs.declared.plan.Plan.{Plan}
 use Rattle.rmt_build.specs.declared.stands.Stand.{Stand}
 use Rattle.rmt_build.specs.BuiltStage.{SmallGuard}

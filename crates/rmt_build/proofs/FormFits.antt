@@ -23,9 +23,9 @@ use Rattle.rmt_place.specs.Needs.{demands_of, keeps_limits}
 use Rattle.rmt_place.specs.Placing.{standing_in}
 use Rattle.rmt_refine.specs.Units.{UnitCarried, applied, nodes_in, table_at}
 use Rattle.rmt_refine.specs.View.{as_slot}
-use Rattle.rmt_refine.proofs.FindLaws.{Contains-range}
+use Rattle.rmt_pack.proofs.FindLaws.{Contains-range}
 use Rattle.rmt_bits.proofs.MemberLaws.{Contains-unfilter}
-use Rattle.rmt_refine.proofs.PartLaws.{then_some}
+use Rattle.rmt_pack.proofs.PartLaws.{then_some}
 use Rattle.rmt_build.specs.declared.memory.PartNeed.{PartNeed}
 use Rattle.rmt_build.specs.declared.memory.Taken.{Taken}
 use Rattle.rmt_build.specs.declared.plan.Plan.{Plan}

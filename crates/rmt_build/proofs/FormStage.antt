@@ -278,6 +278,11 @@ module _ (p : Program) (places : List (List Lane)) (parts : List Part) (k : ℕ)
       let n = get_or (nodes_in p parts k) i d in
       node_words g n (i, lt, get_or_default (nodes_in p parts k) i n d lt)
 
+  -- the words that units read are among those that their demands tell
+  words_within : (words : Unit → List ℕ) (own : Demand → List ℕ) → ((n : ℕ) (u : Unit) → UnitCarried p places parts k n u → Within (words u) (own (demand n)))
+      → (units : List Unit) → AllZip (UnitCarried p places parts k) (nodes_in p parts k) units → Within (flat_map words units) (flat_map (λ (y : Standing). own y.demand) standing)
+  words_within words own its units zip = zip_words words (λ n. own (demand n)) (flat_map (λ (y : Standing). own y.demand) standing) its (nodes_in p parts k) units (each_node own) zip
+
   -- what the units of a stage take, where the placement keeps the limits
   pub record KeepLimits (units : List Unit) : Type 0 where
     pub exact : crossbar_bits exact_words units ≤ 640
@@ -291,15 +296,11 @@ module _ (p : Program) (places : List (List Lane)) (parts : List Part) (k : ℕ)
       → AllZip (λ n u. UnitCarried p places parts k n u × HoldsData n u) (nodes_in p parts k) units → KeepLimits units
   keep_limits units keeps zip holds = record {
     exact =
-        let within = distinct_within word_size (flat_map exact_words units) (flat_map (λ (y : Standing). y.demand.exact_words) standing)
-        (zip_words exact_words (λ n. (demand n).exact_words) (flat_map (λ (y : Standing). y.demand.exact_words) standing) its_exact_words (nodes_in p parts k) units
-        (each_node (λ (d : Demand). d.exact_words)) zip) in
+        let within = distinct_within word_size (flat_map exact_words units) (flat_map (λ (y : Standing). y.demand.exact_words) standing) (words_within exact_words (λ (d : Demand). d.exact_words) its_exact_words units zip) in
         let most = kept standing 2 _ keeps refl in
         omega (arith, within, most);
     ternary =
-        let within = distinct_within word_size (flat_map ternary_words units) (flat_map (λ (y : Standing). y.demand.ternary_words) standing)
-        (zip_words ternary_words (λ n. (demand n).ternary_words) (flat_map (λ (y : Standing). y.demand.ternary_words) standing) its_ternary_words (nodes_in p parts k) units
-        (each_node (λ (d : Demand). d.ternary_words)) zip) in
+        let within = distinct_within word_size (flat_map ternary_words units) (flat_map (λ (y : Standing). y.demand.ternary_words) standing) (words_within ternary_words (λ (d : Demand). d.ternary_words) its_ternary_words units zip) in
         let most = kept standing 3 _ keeps refl in
         omega (arith, within, most);
     slots =

@@ -21,7 +21,8 @@ use Rattle.rmt_config.specs.UnitForm.{unit_is_formed}
 use Rattle.rmt_pack.specs.declared.placement.Part.{Part}
 use Rattle.rmt_pack.specs.Placements.{quanta_in}
 use Rattle.rmt_refine.specs.Units.{UnitCarried, guard_of, last_stage, nodes_in, table_at}
-use Rattle.rmt_refine.proofs.PartLaws.{and_at, quanta_of_node}
+use Rattle.rmt_pack.proofs.PartLaws.{and_at}
+use Rattle.rmt_refine.proofs.PartLaws.{quanta_of_node}
 use Rattle.rmt_build.specs.declared.plan.Plan.{Plan}
 use Rattle.rmt_build.specs.BuiltStage.{IsBuiltStage, SmallUnit}
 use Rattle.rmt_build.specs.Plans.{AreParts, AreStands, stands_of_part}

@@ -14,14 +14,14 @@ use Rattle.rmt_config.specs.TableForm.{Placed, tables_are_formed, follows_part, 
 use Rattle.rmt_pack.specs.declared.placement.Part.{Part}
 use Rattle.rmt_pack.specs.Placements.{data_bits, quanta_in}
 use Rattle.rmt_refine.specs.Units.{UnitCarried, applied, table_at, guard_in, guard_of as guard_of_node, last_stage, nodes_in}
-use Rattle.rmt_refine.proofs.FindLaws.{Contains-range, Contains-range_from, found_passes}
+use Rattle.rmt_pack.proofs.FindLaws.{Contains-range, Contains-range_from, found_passes}
 use Rattle.rmt_build.specs.Plans.{need_in, parts_before, taken_upto}
 use Rattle.rmt_build.proofs.PartLaws.{parts_more}
 use Rattle.rmt_config.specs.declared.config.Unit.TheVariants.{Gate, Slot}
 use Rattle.rmt_ast.specs.WellFormed.{IsProgram}
 use Rattle.rmt_refine.specs.Outcomes.{ChildrenFollow}
 use Rattle.rmt_refine.proofs.RunLaws.{is_earlier}
-use Rattle.rmt_refine.proofs.PartLaws.{and_at}
+use Rattle.rmt_pack.proofs.PartLaws.{and_at}
 use Rattle.rmt_build.proofs.FormStage.{HoldsData, IsGateOf, IsSlotOf, kinds}
 use Rattle.rmt_build.proofs.FormBlocks.{HasMemory}
 use Rattle.rmt_build.specs.declared.memory.PartNeed.{PartNeed}

@@ -15,8 +15,8 @@ use Rattle.rmt_config.specs.Cells.{code_of, is_seen, row_record, visible_bits}
 use Rattle.rmt_config.specs.Effects.{HasArguments}
 use Rattle.rmt_build.specs.declared.stands.Stand.{Stand}
 use Rattle.rmt_build.specs.Holding.{ExactHolds, ExactSo, Held, HoldsIn, PartHolds, TernaryHolds, TernarySo, content_in, data_for, exact_part, head_for, ternary_part, value_for}
-use Rattle.rmt_refine.proofs.ContentLaws.{has_arguments}
-use Rattle.rmt_refine.proofs.BesideLaws.{whole_mask}
+use Rattle.rmt_pack.proofs.ContentLaws.{has_arguments}
+use Rattle.rmt_pack.proofs.BesideLaws.{whole_mask}
 
 -- ---- heads
 

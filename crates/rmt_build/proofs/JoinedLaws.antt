@@ -40,7 +40,7 @@ use Rattle.rmt_config.specs.Rooms.{tests_as_one}
 use Rattle.rmt_refine.specs.Places.{PlacesCarried}
 use Rattle.rmt_refine.specs.Units.{UnitCarried, UnitsCarried, nodes_in, table_at}
 use Rattle.rmt_refine.specs.View.{as_slot, own_view, slot_of}
-use Rattle.rmt_refine.proofs.PartLaws.{slot_is_unit, then_some}
+use Rattle.rmt_pack.proofs.PartLaws.{slot_is_unit, then_some}
 use Rattle.rmt_build.specs.declared.plan.Plan.{Plan}
 use Rattle.rmt_build.specs.BuiltStage.{IsBuiltStage}
 use Rattle.rmt_build.specs.Memories.{blocks_for, memory_for}

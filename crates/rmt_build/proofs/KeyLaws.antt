@@ -13,7 +13,7 @@ use Rattle.rmt_build.specs.Types.{Program, Field, Test}
 use Rattle.rmt_ast.specs.State.{width_of}
 use Rattle.rmt_ast.specs.WellFormed.{IsProgram, IsTest, IsWidth}
 use Rattle.rmt_config.specs.Rooms.{tests_as_one}
-use Rattle.rmt_refine.proofs.BesideLaws.{test_below}
+use Rattle.rmt_pack.proofs.BesideLaws.{test_below}
 
 pub width_is : (p : Program) (xs : List Field) (f : ℕ) (x : Field) → xs ≡ p.fields → f < length p.fields → x ≡ get_or xs f x → x.width ≡ width_of p f
 width_is p xs f x same within is =

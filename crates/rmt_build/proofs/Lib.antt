@@ -4,7 +4,6 @@ mod BuiltLaws
 mod CandidateLaws
 mod CarriedLaws
 mod CellsLaws
-mod CodeLaws
 mod DistinctLaws
 mod EntryLaws
 mod ExactLaws

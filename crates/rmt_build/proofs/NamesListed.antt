@@ -19,7 +19,8 @@ use Rattle.rmt_config.specs.Instructions.{first_code}
 use Rattle.rmt_refine.specs.Cells.{HoldsEntry, Spot}
 use Rattle.rmt_refine.specs.Units.{UnitsCarried, table_at}
 use Rattle.rmt_refine.specs.View.{slot_of}
-use Rattle.rmt_refine.proofs.PartLaws.{and_at, spot_of_part}
+use Rattle.rmt_pack.proofs.PartLaws.{and_at}
+use Rattle.rmt_refine.proofs.PartLaws.{spot_of_part}
 use Rattle.rmt_refine.proofs.TheLaw.{table_entries}
 use Rattle.rmt_build.specs.Types.{CellNumber, Config, Program, SlotUnit, Stage, Table, Test}
 use Rattle.rmt_build.specs.declared.plan.Plan.{Plan}

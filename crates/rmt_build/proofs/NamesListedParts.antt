@@ -22,7 +22,8 @@ use Rattle.rmt_pack.specs.Placements.{quanta_in}
 use Rattle.rmt_refine.specs.Units.{UnitCarried, UnitsCarried, applied, nodes_in, table_at}
 use Rattle.rmt_refine.specs.View.{as_slot}
 use Rattle.rmt_refine.proofs.NodeLaws.{one_place}
-use Rattle.rmt_refine.proofs.PartLaws.{IsPart, quanta_of_node, slot_is_unit, then_some}
+use Rattle.rmt_pack.proofs.PartLaws.{IsPart, slot_is_unit, then_some}
+use Rattle.rmt_refine.proofs.PartLaws.{quanta_of_node}
 use Rattle.rmt_build.specs.Types.{Config, Node, Program, SlotUnit, Stage, Table, Unit}
 use Rattle.rmt_build.specs.declared.plan.Plan.{Plan}
 use Rattle.rmt_build.specs.BuiltStage.{IsBuiltStage}

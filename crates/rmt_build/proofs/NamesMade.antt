@@ -38,7 +38,8 @@ use Rattle.rmt_pack.proofs.FormatLaws.{divided_up-covers}
 use Rattle.rmt_ptcam.proofs.PlainLaws.{lanes_bits}
 use Rattle.rmt_refine.specs.Units.{HasKind, TableCarried, UnitsCarried, table_at}
 use Rattle.rmt_refine.specs.View.{as_slot}
-use Rattle.rmt_refine.proofs.PartLaws.{IsPart, unit_of_part}
+use Rattle.rmt_pack.proofs.PartLaws.{IsPart}
+use Rattle.rmt_refine.proofs.PartLaws.{unit_of_part}
 use Rattle.rmt_build.specs.declared.plan.Plan.{Plan}
 use Rattle.rmt_build.specs.BuiltStage.{IsBuiltStage}
 use Rattle.rmt_build.specs.Plans.{format_at}
@@ -53,29 +54,17 @@ use Rattle.rmt_build.proofs.SpotLaws.{HasTable, listed_stands, slot_built, table
 
 -- ---- memories of a kind
 
-kind_is : (kd : Kind) (q : ℕ) (m : Memory) → has_key kd ≡ true → HasKind kd q m → is_of_kind kd m ≡ true
-kind_is kind.Keyless q m key h = absurd (false≢true key)
-kind_is kind.Exact q memory.Without key h = absurd h
-kind_is kind.Exact q (memory.Exact k p d w ks rs cs) key h = refl
-kind_is kind.Exact q (memory.Ternary d ks rs cs) key h = absurd h
-kind_is kind.Prefix q memory.Without key h = absurd h
-kind_is kind.Prefix q (memory.Exact k p d w ks rs cs) key h = absurd h
-kind_is kind.Prefix q (memory.Ternary d ks rs cs) key h = refl
-kind_is kind.Ternary q memory.Without key h = absurd h
-kind_is kind.Ternary q (memory.Exact k p d w ks rs cs) key h = absurd h
-kind_is kind.Ternary q (memory.Ternary d ks rs cs) key h = refl
-
-kind_quanta : (kd : Kind) (q : ℕ) (m : Memory) → has_key kd ≡ true → HasKind kd q m → memory_quanta m ≡ q
-kind_quanta kind.Keyless q m key h = absurd (false≢true key)
-kind_quanta kind.Exact q memory.Without key h = absurd h
-kind_quanta kind.Exact q (memory.Exact k p d w ks rs cs) key h = h
-kind_quanta kind.Exact q (memory.Ternary d ks rs cs) key h = absurd h
-kind_quanta kind.Prefix q memory.Without key h = absurd h
-kind_quanta kind.Prefix q (memory.Exact k p d w ks rs cs) key h = absurd h
-kind_quanta kind.Prefix q (memory.Ternary d ks rs cs) key h = h
-kind_quanta kind.Ternary q memory.Without key h = absurd h
-kind_quanta kind.Ternary q (memory.Exact k p d w ks rs cs) key h = absurd h
-kind_quanta kind.Ternary q (memory.Ternary d ks rs cs) key h = h
+kind_made : (kd : Kind) (q : ℕ) (m : Memory) → has_key kd ≡ true → HasKind kd q m → (is_of_kind kd m ≡ true) × (memory_quanta m ≡ q)
+kind_made kind.Keyless q m key h = absurd (false≢true key)
+kind_made kind.Exact q memory.Without key h = absurd h
+kind_made kind.Exact q (memory.Exact k p d w ks rs cs) key h = (refl, h)
+kind_made kind.Exact q (memory.Ternary d ks rs cs) key h = absurd h
+kind_made kind.Prefix q memory.Without key h = absurd h
+kind_made kind.Prefix q (memory.Exact k p d w ks rs cs) key h = absurd h
+kind_made kind.Prefix q (memory.Ternary d ks rs cs) key h = (refl, h)
+kind_made kind.Ternary q memory.Without key h = absurd h
+kind_made kind.Ternary q (memory.Exact k p d w ks rs cs) key h = absurd h
+kind_made kind.Ternary q (memory.Ternary d ks rs cs) key h = (refl, h)
 
 keyless_none : (kd : Kind) (q : ℕ) (m : Memory) → has_key kd ≡ false → HasKind kd q m → has_memory m ≡ false
 keyless_none kind.Keyless q memory.Without key h = refl
@@ -163,7 +152,7 @@ module _ (p : Program) (lists : List (List Entry)) (plan : Plan) (c : Config) (p
             let part : IsPart c n k x.place one.is.in_stage x.slot = subst (λ j. IsPart c n j x.place one.is.in_stage x.slot) one.stage_is one.is.is in
             let alone : sum (map quanta_at (x ∷ [])) ≡ quanta_at x = omega arith in
             ap (λ xs. sum (map quanta_at xs)) one.alone ∙ alone
-            ∙ kind_quanta t.kind (quanta_in parts n k) x.slot.memory key (part_carried k x.place one.is.in_stage x.slot part).memory
+            ∙ (kind_made t.kind (quanta_in parts n k) x.slot.memory key (part_carried k x.place one.is.in_stage x.slot part).memory).1
         | inr absent ↦ ap (λ xs. sum (map quanta_at xs)) absent.none ∙ sym absent.quanta
       ]
 
@@ -195,7 +184,7 @@ module _ (p : Program) (lists : List (List Entry)) (plan : Plan) (c : Config) (p
           let some = units.each_node n within in
           let one : nat_le 1 (length (parts_of c n)) ≡ true = le-leb 1 (length (parts_of c n)) (some_there (parts_of c n) (omega (arith, most, some))) in
           ap (λ b. b && list_all (λ (x : PartAt). is_of_kind t.kind x.slot.memory) (parts_of c n)) one
-          ∙ each_slot (λ (s : SlotUnit). is_of_kind t.kind s.memory) (λ k place stage slot part. kind_is t.kind (quanta_in parts n k) slot.memory key (part_carried k place stage slot part).memory)
+          ∙ each_slot (λ (s : SlotUnit). is_of_kind t.kind s.memory) (λ k place stage slot part. (kind_made t.kind (quanta_in parts n k) slot.memory key (part_carried k place stage slot part).memory).0)
 
       -- a row for each entry
       rows_enough : (quanta : ℕ) → (memory_format t.kind (table_need p t)).quanta ≡ quanta → t.size ≤ quanta * 2048 → nat_le t.size (2048 * sum (map quanta_at (parts_of c n))) ≡ true

@@ -21,7 +21,7 @@ use Rattle.rmt_pack.specs.Placements.{quanta_in}
 use Rattle.rmt_refine.specs.declared.map.CellOf.{CellOf}
 use Rattle.rmt_refine.specs.Units.{UnitCarried, applied, nodes_in, table_at}
 use Rattle.rmt_refine.specs.View.{as_slot}
-use Rattle.rmt_refine.proofs.FindLaws.{Contains-range}
+use Rattle.rmt_pack.proofs.FindLaws.{Contains-range}
 use Rattle.rmt_build.specs.Types.{Node, Program, Stage, Table, Unit}
 use Rattle.rmt_build.specs.declared.plan.Plan.{Plan}
 use Rattle.rmt_build.specs.BuiltStage.{IsBuiltStage}

@@ -11,7 +11,8 @@ use Rattle.rmt_ast.specs.EntryLists.{AreEntries}
 use Rattle.rmt_config.specs.declared.config.Unit.TheVariants.{Slot}
 use Rattle.rmt_config.specs.Cells.{cells_in}
 use Rattle.rmt_refine.specs.Units.{DoesAs, TableCarried, UnitsCarried, applied, table_at}
-use Rattle.rmt_refine.proofs.PartLaws.{IsPart, some_and, unit_of_part}
+use Rattle.rmt_pack.proofs.PartLaws.{IsPart}
+use Rattle.rmt_refine.proofs.PartLaws.{some_and, unit_of_part}
 use Rattle.rmt_build.specs.declared.plan.Plan.{Plan}
 use Rattle.rmt_build.specs.declared.stands.Stand.{Stand}
 use Rattle.rmt_build.specs.BuiltStage.{IsBuiltSlot, IsBuiltStage}

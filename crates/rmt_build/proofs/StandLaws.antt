@@ -12,7 +12,7 @@ use Rattle.rmt_ast.specs.declared.program.Kind.TheVariants.{Keyless, Exact, Pref
 use Rattle.rmt_pack.specs.declared.placement.Part.{Part}
 use Rattle.rmt_pack.specs.Placements.{quanta_in}
 use Rattle.rmt_pack.proofs.BlockLaws.{range-apart}
-use Rattle.rmt_refine.proofs.FindLaws.{Contains-range}
+use Rattle.rmt_pack.proofs.FindLaws.{Contains-range}
 use Rattle.rmt_build.specs.declared.stands.Stand.{Stand}
 use Rattle.rmt_build.specs.Plans.{quanta_before}
 use Rattle.rmt_build.specs.EntryCells.{StandOnce, cells_for, counted_from, stands_there, stands_within}

@@ -22,9 +22,10 @@ use Rattle.rmt_config.specs.Instructions.{first_code}
 use Rattle.rmt_refine.specs.Cells.{HoldsEntry, IsBefore, IsCandidate, IsSpotOf, IsTold, Spot, TableCellsCarried}
 use Rattle.rmt_refine.specs.Units.{UnitsCarried, applied, nodes_in, table_at}
 use Rattle.rmt_refine.specs.View.{own_content, own_number, own_view, slot_of}
-use Rattle.rmt_refine.proofs.FindLaws.{Contains-range, found_passes}
+use Rattle.rmt_pack.proofs.FindLaws.{Contains-range, found_passes}
 use Rattle.rmt_refine.proofs.NodeLaws.{one_place}
-use Rattle.rmt_refine.proofs.PartLaws.{IsPart, and_from, part_of_spot, slot_of_part, spot_of_part, then_some, unit_of_part}
+use Rattle.rmt_pack.proofs.PartLaws.{IsPart, and_from, then_some}
+use Rattle.rmt_refine.proofs.PartLaws.{part_of_spot, slot_of_part, spot_of_part, unit_of_part}
 use Rattle.rmt_build.specs.declared.memory.PartNeed.{PartNeed}
 use Rattle.rmt_build.specs.declared.memory.Taken.{Taken}
 use Rattle.rmt_build.specs.declared.plan.Plan.{Plan}

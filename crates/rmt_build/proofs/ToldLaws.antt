@@ -10,8 +10,8 @@ use Rattle.rmt_build.specs.Types.{Stage, Unit, SlotUnit, CellNumber}
 use Rattle.rmt_config.specs.declared.config.Unit.TheVariants.{Gate, Slot}
 use Rattle.rmt_refine.specs.declared.map.CellOf.{CellOf}
 use Rattle.rmt_refine.specs.View.{as_slot, slot_of}
-use Rattle.rmt_refine.proofs.FindLaws.{Contains-range}
-use Rattle.rmt_refine.proofs.PartLaws.{slot_is_unit, then_some}
+use Rattle.rmt_pack.proofs.FindLaws.{Contains-range}
+use Rattle.rmt_pack.proofs.PartLaws.{slot_is_unit, then_some}
 use Rattle.rmt_build.specs.Told.{cell_told, cells_told, stages_told, unit_told}
 use Rattle.rmt_bits.proofs.MemberLaws.{Contains-unmap, Contains-map, Contains-item, Contains-flat_map, flat_from}
 

@@ -19,7 +19,8 @@ use Rattle.rmt_config.specs.Rooms.{tests_as_one}
 use Rattle.rmt_refine.specs.Outcomes.{entries_at}
 use Rattle.rmt_refine.specs.Units.{applied, table_at}
 use Rattle.rmt_refine.proofs.OutcomeLaws.{list_at}
-use Rattle.rmt_refine.proofs.PartLaws.{some_and, then_some}
+use Rattle.rmt_refine.proofs.PartLaws.{some_and}
+use Rattle.rmt_pack.proofs.PartLaws.{then_some}
 use Rattle.rmt_build.specs.declared.stands.Stand.{Stand}
 use Rattle.rmt_build.specs.declared.loading.TableTried.{TableTried}
 use Rattle.rmt_build.specs.declared.loading.TableTried.TheVariants.{Overfull, Stand as Standing}

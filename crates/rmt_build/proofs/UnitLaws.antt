@@ -13,7 +13,7 @@ use Rattle.rmt_build.specs.declared.memory.PartNeed.{PartNeed}
 use Rattle.rmt_build.specs.declared.memory.Taken.{Taken}
 use Rattle.rmt_build.specs.Memories.{memory_for}
 use Rattle.rmt_refine.specs.Units.{HasKind, TableCarried, UnitCarried, DoesAs, applied, guard_in, guard_of, table_at}
-use Rattle.rmt_refine.proofs.PartLaws.{and_from, then_some}
+use Rattle.rmt_pack.proofs.PartLaws.{and_from, then_some}
 
 -- the node that applies a table
 pub record Applies (p : Program) (n : ℕ) (t : Table) : Type 0 where

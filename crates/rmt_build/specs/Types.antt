@@ -1,32 +1,4 @@
 -- The types of a program and of a configuration, passed on by one name.
-pub use Rattle.rmt_ast.specs.declared.program.Program.{Program}
-pub use Rattle.rmt_ast.specs.declared.program.Field.{Field}
-pub use Rattle.rmt_ast.specs.declared.program.Header.{Header}
-pub use Rattle.rmt_ast.specs.declared.program.Test.{Test}
-pub use Rattle.rmt_ast.specs.declared.program.Action.{Action}
-pub use Rattle.rmt_ast.specs.declared.program.Assign.{Assign}
-pub use Rattle.rmt_ast.specs.declared.program.Table.{Table}
-pub use Rattle.rmt_ast.specs.declared.program.Kind.{Kind}
-pub use Rattle.rmt_ast.specs.declared.program.Node.{Node}
-pub use Rattle.rmt_ast.specs.declared.program.Guard.{Guard}
-pub use Rattle.rmt_ast.specs.declared.program.What.{What}
-pub use Rattle.rmt_config.specs.declared.config.Config.{Config}
-pub use Rattle.rmt_config.specs.declared.config.OutHeader.{OutHeader}
-pub use Rattle.rmt_config.specs.declared.config.ParserConfig.{ParserConfig}
-pub use Rattle.rmt_config.specs.declared.config.ParserState.{ParserState}
-pub use Rattle.rmt_config.specs.declared.config.ParserEntry.{ParserEntry}
-pub use Rattle.rmt_config.specs.declared.config.Next.{Next}
-pub use Rattle.rmt_config.specs.declared.config.Extract.{Extract}
-pub use Rattle.rmt_config.specs.declared.config.TailOf.{TailOf}
-pub use Rattle.rmt_config.specs.declared.config.Stage.{Stage}
-pub use Rattle.rmt_config.specs.declared.config.SramRow.{SramRow}
-pub use Rattle.rmt_config.specs.declared.config.TcamRow.{TcamRow}
-pub use Rattle.rmt_config.specs.declared.config.Unit.{Unit}
-pub use Rattle.rmt_config.specs.declared.config.GateUnit.{GateUnit}
-pub use Rattle.rmt_config.specs.declared.config.GateTest.{GateTest}
-pub use Rattle.rmt_config.specs.declared.config.UnitGuard.{UnitGuard}
-pub use Rattle.rmt_config.specs.declared.config.SlotUnit.{SlotUnit}
-pub use Rattle.rmt_config.specs.declared.config.CellNumber.{CellNumber}
-pub use Rattle.rmt_config.specs.declared.config.Memory.{Memory}
-pub use Rattle.rmt_config.specs.declared.config.Vliw.{Vliw}
-pub use Rattle.rmt_config.specs.declared.config.Operation.{Operation}
+pub use Rattle.rmt_refine.specs.Types.{Program, Field, Header, Test, Action, Assign, Table, Kind, Node, Guard, What, Config, OutHeader, ParserConfig, ParserEntry, Next, TailOf, Stage, SramRow, TcamRow, Unit, GateUnit, GateTest, UnitGuard, SlotUnit, CellNumber, Memory, Operation}
+pub use Rattle.rmt_ptcam.specs.Types.{ParserState, Extract}
+pub use Rattle.rmt_vliw.specs.Types.{Vliw}

@@ -30,6 +30,7 @@ mod LaidLaws
 mod MarkLaws
 mod CellWriteLaws
 mod ExamplesMemory
+mod ExamplesRing
 pub mod FormedMemory
 pub mod FormedSlots
 pub mod DecidingLaws

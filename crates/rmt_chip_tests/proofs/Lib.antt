@@ -1,2 +1,1 @@
 pub mod KeptCells
-mod PlanReady

@@ -126,8 +126,11 @@ fn act(
     }
 }
 
+/// A change, and how many cells are free behind it.
+type Row = (Change, u32);
+
 /// Does changes over so many cells; behind each so many are free, and every chain reads as its bytes.
-fn run(rt: &impl Abort, alloc: Global, count: u32, rows: &[(Change, u32)]) -> Result<(), Fail>
+fn run(rt: &impl Abort, alloc: Global, count: u32, rows: &[Row]) -> Result<(), Fail>
     requires some { 1 ≤ count }
     requires few { count ≤ 65536 }
 {
@@ -141,14 +144,15 @@ fn run(rt: &impl Abort, alloc: Global, count: u32, rows: &[(Change, u32)]) -> Re
     Ok(())
 }
 
+const TWO_CELLS: [Row; 3] = [
+    (Change::Put(0, 128), 0),
+    (Change::Put(9, 1), 0),
+    (Change::Back(0), 2),
+];
+
 #[test]
 fn two_cells(rt: HostRuntime) -> Result<(), Fail> {
-    let rows = [
-        (Change::Put(0, 128), 0),
-        (Change::Put(9, 1), 0),
-        (Change::Back(0), 2),
-    ];
-    run(&rt, rt.alloc(), 2, &rows)
+    run(&rt, rt.alloc(), 2, &TWO_CELLS)
 }
 
 #[test]
@@ -172,22 +176,23 @@ fn given_back_in_any_order(rt: HostRuntime) -> Result<(), Fail> {
     Ok(())
 }
 
+const EDGES_OF_CELLS: [Row; 13] = [
+    (Change::Put(1, 65), 2),
+    (Change::Put(2, 64), 1),
+    (Change::Put(3, 65), 1), // two cells are needed, and one is free
+    (Change::Back(1), 3),
+    (Change::Put(4, 129), 0),
+    (Change::Back(1), 1),
+    (Change::Put(5, 63), 0),
+    (Change::Back(1), 3),
+    (Change::Put(6, 128), 1),
+    (Change::Put(7, 1), 0),
+    (Change::Back(2), 1),
+    (Change::Back(0), 2),
+    (Change::Back(0), 4),
+];
+
 #[test]
 fn edges_of_cells(rt: HostRuntime) -> Result<(), Fail> {
-    let rows = [
-        (Change::Put(1, 65), 2),
-        (Change::Put(2, 64), 1),
-        (Change::Put(3, 65), 1), // two cells are needed, and one is free
-        (Change::Back(1), 3),
-        (Change::Put(4, 129), 0),
-        (Change::Back(1), 1),
-        (Change::Put(5, 63), 0),
-        (Change::Back(1), 3),
-        (Change::Put(6, 128), 1),
-        (Change::Put(7, 1), 0),
-        (Change::Back(2), 1),
-        (Change::Back(0), 2),
-        (Change::Back(0), 4),
-    ];
-    run(&rt, rt.alloc(), 4, &rows)
+    run(&rt, rt.alloc(), 4, &EDGES_OF_CELLS)
 }

@@ -7,9 +7,10 @@ mod taken;
 mod versions;
 mod writes;
 
-use crate::chip::fixture::{Look, NO_ROWS, NOTHING, Row, SENT, TWO_BYTES, open, replay, step};
+use crate::chip::fixture::{Look, NOTHING, Row, SENT, TWO_BYTES, open, replay, step};
 use rmt_bits::answer::Verdict;
 use rmt_chip::out::Out;
+use rmt_image_tests::fixtures::image_texts::NO_ROWS;
 use std::alloc::{AllocError, Global};
 use std::process::Abort;
 use std::test::*;
@@ -211,47 +212,57 @@ const WIDE: &str = "
 01                                          # an operation
 ";
 
-/// An operation on the lowest bit or all bits of word 162, the words 160 and 161, and the result on a word of 0x8000_0002.
+/// Operations on the lowest bit of word 162, or on all bits, that read the words 160 and 161.
+const BIT_COPY: &str = "a20001 00 00a000 0200000000";
+
+const BIT_ADD: &str = "a20001 01 00a000 00a100";
+
+const BIT_SUB: &str = "a20001 02 00a000 00a100";
+
+const BIT_AND: &str = "a20001 03 00a000 00a100";
+
+const BIT_OR: &str = "a20001 04 00a000 00a100";
+
+const BIT_XOR: &str = "a20001 05 00a000 00a100";
+
+const COPY: &str = "a20020 00 00a000 0200000000";
+
+const ADD: &str = "a20020 01 00a000 00a100";
+
+const SUB: &str = "a20020 02 00a000 00a100";
+
+const AND: &str = "a20020 03 00a000 00a100";
+
+const OR: &str = "a20020 04 00a000 00a100";
+
+const XOR: &str = "a20020 05 00a000 00a100";
+
+/// An operation, the words 160 and 161, and the result on a word of 0x8000_0002.
 const KINDS: [(&str, u32, u32, u32); 24] = [
-    ("a20001 00 00a000 0200000000", 0xffff_ffff, 0, 0x8000_0003), // Copy
-    ("a20001 00 00a000 0200000000", 0xffff_fffe, 0, 0x8000_0002),
-    ("a20001 01 00a000 00a100", 1, 0, 0x8000_0003), // Add
-    ("a20001 01 00a000 00a100", 1, 1, 0x8000_0002),
-    ("a20001 02 00a000 00a100", 1, 1, 0x8000_0002), // Sub
-    ("a20001 02 00a000 00a100", 0, 1, 0x8000_0003),
-    ("a20001 03 00a000 00a100", 1, 1, 0x8000_0003), // And
-    ("a20001 03 00a000 00a100", 1, 2, 0x8000_0002),
-    ("a20001 04 00a000 00a100", 0, 1, 0x8000_0003), // Or
-    ("a20001 04 00a000 00a100", 2, 4, 0x8000_0002),
-    ("a20001 05 00a000 00a100", 1, 0, 0x8000_0003), // Xor
-    ("a20001 05 00a000 00a100", 1, 1, 0x8000_0002),
-    ("a20020 00 00a000 0200000000", 0x89ab_cdef, 0, 0x89ab_cdef),
-    ("a20020 00 00a000 0200000000", 0, 0, 0),
-    ("a20020 01 00a000 00a100", 0x7fff_ffff, 1, 0x8000_0000),
-    ("a20020 01 00a000 00a100", 0xffff_ffff, 2, 1),
-    ("a20020 02 00a000 00a100", 0x8000_0000, 1, 0x7fff_ffff),
-    ("a20020 02 00a000 00a100", 1, 2, 0xffff_ffff),
-    (
-        "a20020 03 00a000 00a100",
-        0xf0f0_f0f0,
-        0xff00_ff00,
-        0xf000_f000,
-    ),
-    ("a20020 03 00a000 00a100", 0xffff_ffff, 0, 0),
-    (
-        "a20020 04 00a000 00a100",
-        0xf0f0_f0f0,
-        0xff00_ff00,
-        0xfff0_fff0,
-    ),
-    ("a20020 04 00a000 00a100", 0, 0x8000_0001, 0x8000_0001),
-    (
-        "a20020 05 00a000 00a100",
-        0xf0f0_f0f0,
-        0xff00_ff00,
-        0x0ff0_0ff0,
-    ),
-    ("a20020 05 00a000 00a100", 0xffff_ffff, 0xffff_ffff, 0),
+    (BIT_COPY, 0xffff_ffff, 0, 0x8000_0003),
+    (BIT_COPY, 0xffff_fffe, 0, 0x8000_0002),
+    (BIT_ADD, 1, 0, 0x8000_0003),
+    (BIT_ADD, 1, 1, 0x8000_0002),
+    (BIT_SUB, 1, 1, 0x8000_0002),
+    (BIT_SUB, 0, 1, 0x8000_0003),
+    (BIT_AND, 1, 1, 0x8000_0003),
+    (BIT_AND, 1, 2, 0x8000_0002),
+    (BIT_OR, 0, 1, 0x8000_0003),
+    (BIT_OR, 2, 4, 0x8000_0002),
+    (BIT_XOR, 1, 0, 0x8000_0003),
+    (BIT_XOR, 1, 1, 0x8000_0002),
+    (COPY, 0x89ab_cdef, 0, 0x89ab_cdef),
+    (COPY, 0, 0, 0),
+    (ADD, 0x7fff_ffff, 1, 0x8000_0000),
+    (ADD, 0xffff_ffff, 2, 1),
+    (SUB, 0x8000_0000, 1, 0x7fff_ffff),
+    (SUB, 1, 2, 0xffff_ffff),
+    (AND, 0xf0f0_f0f0, 0xff00_ff00, 0xf000_f000),
+    (AND, 0xffff_ffff, 0, 0),
+    (OR, 0xf0f0_f0f0, 0xff00_ff00, 0xfff0_fff0),
+    (OR, 0, 0x8000_0001, 0x8000_0001),
+    (XOR, 0xf0f0_f0f0, 0xff00_ff00, 0x0ff0_0ff0),
+    (XOR, 0xffff_ffff, 0xffff_ffff, 0),
 ];
 
 /// The words 160 to 162 of a packet.

@@ -97,13 +97,11 @@ fn rising(alloc: Global) -> Result<Vec<u8>, AllocError> {
     Ok(item)
 }
 
+/// Steps, how often each is done, and to what its answers add up.
+type Row = (Step, u32, (u32, u32, u32));
+
 /// Does steps over the queues of eight ports, each so many times; each time the answers add up to what is wanted.
-fn run(
-    rt: &impl Abort,
-    alloc: Global,
-    depth: u16,
-    rows: &[(Step, u32, (u32, u32, u32))],
-) -> Result<(), Fail>
+fn run(rt: &impl Abort, alloc: Global, depth: u16, rows: &[Row]) -> Result<(), Fail>
     requires some { 1 ≤ depth }
     requires few { depth ≤ 64 }
 {
@@ -131,61 +129,65 @@ fn run(
     Ok(())
 }
 
+const ONE_PORT_FULL: [Row; 3] = [
+    (Step::One(1, 9), 100, (64, 36, 0)),
+    (Step::Take(1), 65, (64, 576, 0)),
+    (Step::Take(0), 1, (0, 0, 0)),
+];
+
+const TWO_COPIES: [Row; 3] = [
+    (Step::Two(13_320), 1, (2, 0, 0)),
+    (Step::Take(1), 2, (1, 13_320, 0)),
+    (Step::Take(2), 2, (1, 13_320, 0)),
+];
+
+const CELLS_SHORT: [Row; 16] = [
+    (Step::Eight(9_224), 1, (8, 0, 0)),
+    (Step::One(0, 9_224), 63, (63, 0, 0)),
+    (Step::One(1, 9_224), 63, (63, 0, 0)),
+    (Step::One(2, 9_224), 63, (63, 0, 0)),
+    (Step::One(3, 9_224), 63, (63, 0, 0)),
+    (Step::One(4, 9_224), 63, (63, 0, 0)),
+    (Step::One(5, 9_224), 63, (63, 0, 0)),
+    (Step::One(6, 9_224), 63, (63, 0, 0)),
+    (Step::One(7, 9_224), 63, (9, 0, 54)), // 451 items stand, and 141 cells are free
+    (Step::One(0, 9_224), 1, (0, 1, 0)), // no port has room, so no cell is wanted
+    (Step::One(7, 9_024), 1, (1, 0, 0)), // 141 cells are enough
+    (Step::One(7, 1), 1, (0, 0, 1)),
+    (Step::Take(0), 1, (1, 9_224, 0)), // seven copies of the first item still stand
+    (Step::One(0, 1), 1, (0, 0, 1)),
+    (Step::Take(0), 1, (1, 9_224, 0)),
+    (Step::One(7, 9_224), 2, (1, 0, 1)),
+];
+
+const SOME_FULL: [Row; 9] = [
+    (Step::Two(65), 2, (2, 2, 0)),
+    (Step::One(4, 64), 1, (1, 0, 0)),
+    (Step::Eight(66), 1, (5, 3, 0)),
+    (Step::Take(1), 1, (1, 65, 0)),
+    (Step::Take(4), 1, (1, 64, 0)),
+    (Step::Eight(67), 1, (2, 6, 0)),
+    (Step::Take(7), 2, (1, 66, 0)),
+    (Step::Take(1), 2, (1, 67, 0)),
+    (Step::Take(4), 2, (1, 67, 0)),
+];
+
 #[test]
 fn one_port_full(rt: HostRuntime) -> Result<(), Fail> {
-    let rows = [
-        (Step::One(1, 9), 100, (64, 36, 0)),
-        (Step::Take(1), 65, (64, 576, 0)),
-        (Step::Take(0), 1, (0, 0, 0)),
-    ];
-    run(&rt, rt.alloc(), 64, &rows)
+    run(&rt, rt.alloc(), 64, &ONE_PORT_FULL)
 }
 
 #[test]
 fn two_copies(rt: HostRuntime) -> Result<(), Fail> {
-    let rows = [
-        (Step::Two(13_320), 1, (2, 0, 0)),
-        (Step::Take(1), 2, (1, 13_320, 0)),
-        (Step::Take(2), 2, (1, 13_320, 0)),
-    ];
-    run(&rt, rt.alloc(), 64, &rows)
+    run(&rt, rt.alloc(), 64, &TWO_COPIES)
 }
 
 #[test]
 fn cells_short(rt: HostRuntime) -> Result<(), Fail> {
-    let rows = [
-        (Step::Eight(9_224), 1, (8, 0, 0)),
-        (Step::One(0, 9_224), 63, (63, 0, 0)),
-        (Step::One(1, 9_224), 63, (63, 0, 0)),
-        (Step::One(2, 9_224), 63, (63, 0, 0)),
-        (Step::One(3, 9_224), 63, (63, 0, 0)),
-        (Step::One(4, 9_224), 63, (63, 0, 0)),
-        (Step::One(5, 9_224), 63, (63, 0, 0)),
-        (Step::One(6, 9_224), 63, (63, 0, 0)),
-        (Step::One(7, 9_224), 63, (9, 0, 54)), // 451 items stand, and 141 cells are free
-        (Step::One(0, 9_224), 1, (0, 1, 0)), // no port has room, so no cell is wanted
-        (Step::One(7, 9_024), 1, (1, 0, 0)), // 141 cells are enough
-        (Step::One(7, 1), 1, (0, 0, 1)),
-        (Step::Take(0), 1, (1, 9_224, 0)), // seven copies of the first item still stand
-        (Step::One(0, 1), 1, (0, 0, 1)),
-        (Step::Take(0), 1, (1, 9_224, 0)),
-        (Step::One(7, 9_224), 2, (1, 0, 1)),
-    ];
-    run(&rt, rt.alloc(), 64, &rows)
+    run(&rt, rt.alloc(), 64, &CELLS_SHORT)
 }
 
 #[test]
 fn some_full(rt: HostRuntime) -> Result<(), Fail> {
-    let rows = [
-        (Step::Two(65), 2, (2, 2, 0)),
-        (Step::One(4, 64), 1, (1, 0, 0)),
-        (Step::Eight(66), 1, (5, 3, 0)),
-        (Step::Take(1), 1, (1, 65, 0)),
-        (Step::Take(4), 1, (1, 64, 0)),
-        (Step::Eight(67), 1, (2, 6, 0)),
-        (Step::Take(7), 2, (1, 66, 0)),
-        (Step::Take(1), 2, (1, 67, 0)),
-        (Step::Take(4), 2, (1, 67, 0)),
-    ];
-    run(&rt, rt.alloc(), 1, &rows)
+    run(&rt, rt.alloc(), 1, &SOME_FULL)
 }

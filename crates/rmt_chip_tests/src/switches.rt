@@ -1,7 +1,7 @@
 //! Switches: group texts that are bad in each way, and runs of captures, whose counts and files are worked out by hand.
 
-use crate::chip::fixture::push_texts;
 use rmt_image::read_image;
+use rmt_image_tests::fixtures::image_texts::push_texts;
 use rmt_pcap::read_capture;
 use rmt_switch::fault::GroupFault;
 use rmt_switch::group_table::Groups;

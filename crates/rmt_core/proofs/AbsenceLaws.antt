@@ -20,22 +20,22 @@ use Rattle.rmt_switch.specs.GroupText.{groups_of}
 use Rattle.rmt_verify.specs.declared.map_file.MapFile.{MapFile}
 use Rattle.rmt_core.specs.declared.placer.Placer.{Placer}
 use Rattle.rmt_core.specs.declared.placer.Placer.TheVariants.{ByRule, ByTries}
-use Rattle.rmt_core.specs.declared.status.Status.{Status}
-use Rattle.rmt_core.specs.declared.status.Status.TheVariants as status
-use Rattle.rmt_core.specs.declared.watch.Watch.{Watch}
-use Rattle.rmt_core.specs.declared.watch.Watch.TheVariants as watch
-use Rattle.rmt_core.specs.ChipRuns.{RunsChip}
+use Rattle.rmt_drive.specs.declared.status.Status.{Status}
+use Rattle.rmt_drive.specs.declared.status.Status.TheVariants as status
+use Rattle.rmt_drive.specs.declared.watch.Watch.{Watch}
+use Rattle.rmt_drive.specs.declared.watch.Watch.TheVariants as watch
+use Rattle.rmt_drive.specs.ChipRuns.{RunsChip}
 use Rattle.rmt_core.specs.Commands.{Command, Compile, CompileMap, Improve, Sim, Probe, Plain, Report, Sample, Switch, Verify}
 use Rattle.rmt_core.specs.Compiling.{Builds, Finish, Fitted, GivesImage, Loaded, written}
-use Rattle.rmt_core.specs.EventText.{with_changes}
-use Rattle.rmt_core.specs.Files.{Files, Found, Absent, Long, Holds, capture_limit, entries_limit, found, groups_limit, image_limit, map_limit, packets_limit, program_limit}
+use Rattle.rmt_drive.specs.EventText.{with_changes}
+use Rattle.rmt_drive.specs.Files.{Files, Found, Absent, Long, Holds, capture_limit, entries_limit, found, groups_limit, image_limit, map_limit, packets_limit, program_limit}
 use Rattle.rmt_core.specs.FilesRead.{FileRead, ReadFaultIsAbsence, SteadyFaultIsAbsence, files_read, found_of, lacks_one, lacks_with, opened, within}
 use Rattle.rmt_core.specs.Gives.{Gives}
-use Rattle.rmt_core.specs.Given.{Given, OfFound, OfOpened, Opens, Reads, told}
+use Rattle.rmt_drive.specs.Given.{Given, OfFound, OfOpened, Opens, Reads, told}
 use Rattle.rmt_core.specs.MapFiles.{Wanted, image_alone, with_map}
 use Rattle.rmt_core.specs.Placers.{refusal_by}
-use Rattle.rmt_core.specs.PlainText.{plain_text}
-use Rattle.rmt_core.specs.Runs.{RunsBy, Way, run_status}
+use Rattle.rmt_drive.specs.PlainText.{plain_text}
+use Rattle.rmt_drive.specs.Runs.{RunsBy, Way, run_status}
 use Rattle.rmt_core.specs.Sampling.{sample_line}
 use Rattle.rmt_core.specs.Simulating.{GivesRun, OfAnswer, Spelled}
 use Rattle.rmt_core.specs.Switching.{OfCapture, OfGroups, Switches}

@@ -2,14 +2,14 @@
 use Rattle.std.proofs.Common.{◌≡◌, ◌≢◌, ◌⊎◌, inl, inr, ⊎_elim, ℕ, List, refl, sym, ◌∙◌}
 use Rattle.rmt_io.specs.Outside.{ShelfState, SinkState, GainedNone, HasFile, OnlyPrinted, OnlyRead, ReadingFailed}
 use Rattle.rmt_io.proofs.OutsideLaws.{only_printed_refl, only_read_refl, only_read_trans, reading_failed_later, writing_failed_later}
-use Rattle.rmt_core.specs.declared.status.Status.{Status}
-use Rattle.rmt_core.specs.declared.status.Status.TheVariants.{ReadFault, WriteFault, TooLong, NoMemory}
-use Rattle.rmt_core.specs.Files.{Files}
-use Rattle.rmt_core.specs.Given.{Given, Opens, Reads}
-use Rattle.rmt_core.specs.Ends.{Answered, Outside, ReadsAndPrints, WritesAndPrints, outside}
-use Rattle.rmt_core.specs.Loading.{IsFound, NotOpened, NotRead}
-use Rattle.rmt_core.specs.Telling.{Tells}
-use Rattle.rmt_core.proofs.EndLaws.{no_memory, not_opened, not_read, opens_on, reads_on}
+use Rattle.rmt_drive.specs.declared.status.Status.{Status}
+use Rattle.rmt_drive.specs.declared.status.Status.TheVariants.{ReadFault, WriteFault, TooLong, NoMemory}
+use Rattle.rmt_drive.specs.Files.{Files}
+use Rattle.rmt_drive.specs.Given.{Given, Opens, Reads}
+use Rattle.rmt_drive.specs.Ends.{Answered, Outside, ReadsAndPrints, WritesAndPrints, outside}
+use Rattle.rmt_drive.specs.Loading.{IsFound, NotOpened, NotRead}
+use Rattle.rmt_drive.specs.Telling.{Tells}
+use Rattle.rmt_drive.proofs.EndLaws.{no_memory, not_opened, not_read, opens_on, reads_on}
 
 -- what is no fault of writing proves anything of one
 pub unread_unwritten : {P : Type 0} (s : Status) → (s ≡ ReadFault) ⊎ (s ≡ TooLong) ⊎ (s ≡ NoMemory) → s ≡ WriteFault → P

@@ -11,22 +11,23 @@ use Rattle.rmt_refine.specs.declared.map.Map.{Map}
 use Rattle.rmt_switch.specs.Switch.{switched}
 use Rattle.rmt_core.specs.declared.placer.Placer.{Placer}
 use Rattle.rmt_core.specs.declared.placer.Placer.TheVariants.{ByRule, ByTries}
-use Rattle.rmt_core.specs.declared.status.Status.TheVariants.{Done}
-use Rattle.rmt_core.specs.declared.watch.Watch.{Watch}
-use Rattle.rmt_core.specs.declared.watch.Watch.TheVariants.{Answers, Vectors}
-use Rattle.rmt_core.specs.ChipEvents.{Comes}
-use Rattle.rmt_core.specs.ChipReading.{lists_in, names_in, read_by}
-use Rattle.rmt_core.specs.ChipRuns.{EndsFull, RunsChip, RunsSo, bad_within}
+use Rattle.rmt_drive.specs.declared.status.Status.TheVariants.{Done}
+use Rattle.rmt_drive.specs.declared.watch.Watch.{Watch}
+use Rattle.rmt_drive.specs.declared.watch.Watch.TheVariants.{Answers, Vectors}
+use Rattle.rmt_drive.specs.ChipEvents.{Comes, lists_in, names_in}
+use Rattle.rmt_drive.specs.ChipReading.{read_by}
+use Rattle.rmt_drive.specs.ChipRuns.{EndsFull, RunsChip, RunsSo, bad_within}
 use Rattle.rmt_core.specs.Commands.{Compile, CompileMap, Improve, Sim, Probe, Plain, Report, Sample, Switch, Verify}
 use Rattle.rmt_core.specs.Compiling.{Builds, Compiles, Finish, Fitted, GivesImage, IsFull, Loaded, written}
-use Rattle.rmt_core.specs.Files.{Files, capture_limit, entries_limit, groups_limit, image_limit, packets_limit, program_limit}
-use Rattle.rmt_core.specs.Given.{Given, Opens, Reads, told}
+use Rattle.rmt_drive.specs.Files.{Files, capture_limit, entries_limit, groups_limit, image_limit, packets_limit, program_limit}
+use Rattle.rmt_drive.specs.Given.{Given, Opens, Reads, told}
 use Rattle.rmt_core.specs.Headline.{AreGoodGroups, CanBeMade, Fits, IsComplete, IsGoodCapture, IsGoodChipRun, IsImage, IsReady}
-use Rattle.rmt_core.specs.EventText.{EventReading, with_changes}
+use Rattle.rmt_drive.specs.EventText.{EventReading, with_changes}
 use Rattle.rmt_core.specs.MapFiles.{Wanted, image_alone, with_map}
-use Rattle.rmt_core.specs.PlainText.{GivesPlain, RunsPlain, plain_text}
+use Rattle.rmt_core.specs.PlainText.{GivesPlain, RunsPlain}
+use Rattle.rmt_drive.specs.PlainText.{plain_text}
 use Rattle.rmt_core.specs.Reporting.{report_line}
-use Rattle.rmt_core.specs.Runs.{run_status}
+use Rattle.rmt_drive.specs.Runs.{run_status}
 use Rattle.rmt_core.specs.Sampling.{GivesSample, sample_line}
 use Rattle.rmt_core.specs.Simulating.{GivesRun, Spelled}
 use Rattle.rmt_core.specs.Switching.{GivesSwitch, HasCapture, HasGroups, OfCapture, OfGroups, Switches, switch_given}
@@ -36,7 +37,7 @@ use Rattle.rmt_core.proofs.GivenOnce.{OneMap, OneMeaning}
 use Rattle.rmt_core.proofs.Verified.{verify_checks}
 use Rattle.rmt_core.proofs.PlacerLaws.{same_placed}
 use Rattle.rmt_core.proofs.GivenDone.{opened_there, read_within, run_done, sample_built, spelled_is, understood}
-use Rattle.rmt_core.proofs.ReadOnce.{told_is}
+use Rattle.rmt_drive.proofs.ReadOnce.{told_is}
 
 module _
     (placer : Placer) (files : Files) (finish : Finish) (is : (image : List ℕ) (m : Map) (c : Config) (b : Bound) → (finish image m c b).status ≡ Done)

@@ -6,15 +6,15 @@ use Rattle.std.proofs.lemmas.List.Elements.{All-head, All-same}
 use Rattle.rmt_bits.proofs.AllLaws.{All-left, All-right}
 use Rattle.rmt_io.specs.Outside.{ShelfState, SinkState, Gained, GainedNone, OnlyPrinted, PrintingFailed, WritingFailed}
 use Rattle.rmt_io.proofs.OutsideLaws.{only_printed_refl}
-use Rattle.rmt_core.specs.declared.status.Status.{Status}
-use Rattle.rmt_core.specs.declared.status.Status.TheVariants.{Done, ReadFault, WriteFault, TooLong, NoMemory}
-use Rattle.rmt_core.specs.Files.{Files, Write, all_written}
-use Rattle.rmt_core.specs.Given.{Given, Stores, stored}
-use Rattle.rmt_core.specs.Ends.{Answered, AreSame, BrokenOff, Outside, StoppedBetween, WritesAndPrints, outside}
+use Rattle.rmt_drive.specs.declared.status.Status.{Status}
+use Rattle.rmt_drive.specs.declared.status.Status.TheVariants.{Done, ReadFault, WriteFault, TooLong, NoMemory}
+use Rattle.rmt_drive.specs.Files.{Files, Write, all_written}
+use Rattle.rmt_drive.specs.Given.{Given, Stores, stored}
+use Rattle.rmt_drive.specs.Ends.{Answered, AreSame, BrokenOff, Outside, StoppedBetween, WritesAndPrints, outside}
 use Rattle.rmt_runs.specs.Printing.{GainedFront}
 use Rattle.rmt_core.specs.Writing.{StoodUpTo}
 use Rattle.rmt_runs.proofs.FrontLaws.{gained_none}
-use Rattle.rmt_core.proofs.EndLaws.{answered_where, ends_by}
+use Rattle.rmt_drive.proofs.EndLaws.{answered_where, ends_by}
 use Rattle.rmt_core.proofs.WritingLaws.{others_stand}
 
 -- ---- a call, by what befell it

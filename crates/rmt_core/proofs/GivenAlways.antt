@@ -26,24 +26,25 @@ use Rattle.rmt_switch.specs.GroupText.{group_of, groups_of, line_then, no_groups
 use Rattle.rmt_switch.specs.Switch.{switched}
 use Rattle.rmt_verify.specs.Checks.{PartHolds}
 use Rattle.rmt_verify.specs.declared.map_file.MapFile.{MapFile}
-use Rattle.rmt_core.specs.declared.status.Status.TheVariants.{Done}
-use Rattle.rmt_core.specs.declared.watch.Watch.{Watch}
-use Rattle.rmt_core.specs.declared.watch.Watch.TheVariants as watch
+use Rattle.rmt_drive.specs.declared.status.Status.TheVariants.{Done}
+use Rattle.rmt_drive.specs.declared.watch.Watch.{Watch}
+use Rattle.rmt_drive.specs.declared.watch.Watch.TheVariants as watch
 use Rattle.rmt_core.specs.Commands.{Command, Compile, CompileMap, Improve, Sim, Probe, Plain, Report, Sample, Switch, Verify}
-use Rattle.rmt_core.specs.Files.{Files, Found, Absent, Long, Holds, capture_limit, entries_limit, found, groups_limit, image_limit, map_limit, packets_limit, program_limit}
-use Rattle.rmt_core.specs.Given.{Given, OfFound, OfOpened, Opens, Reads, told}
+use Rattle.rmt_drive.specs.Files.{Files, Found, Absent, Long, Holds, capture_limit, entries_limit, found, groups_limit, image_limit, map_limit, packets_limit, program_limit}
+use Rattle.rmt_drive.specs.Given.{Given, OfFound, OfOpened, Opens, Reads, told}
 use Rattle.rmt_core.specs.Gives.{Gives}
 use Rattle.rmt_core.specs.Headline.{GivesAlways, GivesNeverNothing, IsBuilding, IsChecking}
-use Rattle.rmt_core.specs.ChipRuns.{RunsChip}
-use Rattle.rmt_core.specs.EventText.{with_changes}
-use Rattle.rmt_core.specs.PlainText.{RunsPlain, plain_text}
+use Rattle.rmt_drive.specs.ChipRuns.{RunsChip}
+use Rattle.rmt_drive.specs.EventText.{with_changes}
+use Rattle.rmt_core.specs.PlainText.{RunsPlain}
+use Rattle.rmt_drive.specs.PlainText.{plain_text}
 use Rattle.rmt_core.specs.Reporting.{report_line}
-use Rattle.rmt_core.specs.Runs.{RunsBy, Way}
+use Rattle.rmt_drive.specs.Runs.{RunsBy, Way}
 use Rattle.rmt_core.specs.Simulating.{GivesRun, OfAnswer, Spelled}
 use Rattle.rmt_core.specs.Switching.{HasCapture, HasGroups, OfCapture, OfGroups, Switches, switch_given}
 use Rattle.rmt_core.specs.Texts.{OfEntries, OfMeaning, Understands}
 use Rattle.rmt_core.specs.Verifying.{Checks, ChecksBytes, ChecksTexts, GivesVerify, HasMap}
-use Rattle.rmt_core.proofs.ChipExtends.{always}
+use Rattle.rmt_drive.proofs.ChipExtends.{always}
 use Rattle.rmt_core.proofs.Decided.{IsDecided, form_is_decided}
 
 -- ---- each image has an answer

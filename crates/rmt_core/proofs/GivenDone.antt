@@ -16,12 +16,12 @@ use Rattle.rmt_sample.specs.Texts.{entries_text, program_text}
 use Rattle.rmt_verify.specs.Spells.{Spells as SpellsMap}
 use Rattle.rmt_verify.specs.declared.map_file.MapFile.{MapFile}
 use Rattle.rmt_core.specs.declared.placer.Placer.TheVariants.{ByRule}
-use Rattle.rmt_core.specs.declared.status.Status.TheVariants.{Done}
+use Rattle.rmt_drive.specs.declared.status.Status.TheVariants.{Done}
 use Rattle.rmt_core.specs.Compiling.{Builds}
-use Rattle.rmt_core.specs.Files.{Files, Long, Holds, found}
-use Rattle.rmt_core.specs.Given.{Given, OfFound, OfOpened, Opens, Reads, told}
+use Rattle.rmt_drive.specs.Files.{Files, Long, Holds, found}
+use Rattle.rmt_drive.specs.Given.{Given, OfFound, OfOpened, Opens, Reads, told}
 use Rattle.rmt_core.specs.Headline.{IsWithin}
-use Rattle.rmt_core.specs.Runs.{RunsBy, Way, run_status, said_within, told_within}
+use Rattle.rmt_drive.specs.Runs.{RunsBy, Way, run_status, said_within, told_within}
 use Rattle.rmt_sample.specs.Meaning.{AreOfSample}
 use Rattle.rmt_core.specs.Sampling.{GivesSample, sample_line}
 use Rattle.rmt_core.specs.Simulating.{OfAnswer, Spelled}

@@ -43,31 +43,33 @@ use Rattle.rmt_verify.specs.Spells.{Spells as SpellsMap}
 use Rattle.rmt_verify.specs.declared.map_file.MapFile.{MapFile}
 use Rattle.rmt_core.specs.declared.placer.Placer.{Placer}
 use Rattle.rmt_core.specs.declared.placer.Placer.TheVariants.{ByRule, ByTries}
-use Rattle.rmt_core.specs.declared.status.Status.TheVariants.{Done}
-use Rattle.rmt_core.specs.declared.watch.Watch.{Watch}
-use Rattle.rmt_core.specs.declared.watch.Watch.TheVariants as watch
-use Rattle.rmt_core.specs.ChipRuns.{RunsChip}
+use Rattle.rmt_drive.specs.declared.status.Status.TheVariants.{Done}
+use Rattle.rmt_drive.specs.declared.watch.Watch.{Watch}
+use Rattle.rmt_drive.specs.declared.watch.Watch.TheVariants as watch
+use Rattle.rmt_drive.specs.ChipRuns.{RunsChip}
 use Rattle.rmt_core.specs.Commands.{Compile, CompileMap, Improve, Sim, Probe, Plain, Report, Sample, Switch, Verify}
 use Rattle.rmt_core.specs.CompileText.{compile_text}
 use Rattle.rmt_core.specs.Compiling.{Builds, Compiles, Finish, Fitted, GivesImage, IsFull, Loaded, Makes, written}
-use Rattle.rmt_core.specs.Files.{Files, Found, Absent, Long, Holds, capture_limit, entries_limit, found, groups_limit, image_limit, map_limit, packets_limit, program_limit}
-use Rattle.rmt_core.specs.Given.{Given, OfFound, OfOpened, Opens, Reads, told}
+use Rattle.rmt_drive.specs.Files.{Files, Found, Absent, Long, Holds, capture_limit, entries_limit, found, groups_limit, image_limit, map_limit, packets_limit, program_limit}
+use Rattle.rmt_drive.specs.Given.{Given, OfFound, OfOpened, Opens, Reads, told}
 use Rattle.rmt_core.specs.Headline.{GivesOne, HasMovingCommit, OtherNumbers}
 use Rattle.rmt_core.specs.MapFiles.{Wanted, image_alone, with_map}
 use Rattle.rmt_core.specs.NoFitText.{no_fit_line}
 use Rattle.rmt_core.specs.Placers.{IsPlacedBy, refusal_by}
-use Rattle.rmt_core.specs.EventText.{with_changes}
-use Rattle.rmt_core.specs.PlainText.{RunsPlain, plain_text}
+use Rattle.rmt_drive.specs.EventText.{with_changes}
+use Rattle.rmt_core.specs.PlainText.{RunsPlain}
+use Rattle.rmt_drive.specs.PlainText.{plain_text}
 use Rattle.rmt_core.specs.Reporting.{report_line}
-use Rattle.rmt_core.specs.Runs.{RunsBy, Way}
-use Rattle.rmt_core.specs.Sampling.{GivesSample, answers_line, sample_line, sample_packets}
+use Rattle.rmt_drive.specs.Runs.{RunsBy, Way}
+use Rattle.rmt_core.specs.Sampling.{GivesSample, sample_line, sample_packets}
+use Rattle.rmt_drive.specs.SampleText.{answers_line}
 use Rattle.rmt_core.specs.Simulating.{GivesRun, OfAnswer, Spelled}
 use Rattle.rmt_core.specs.Switching.{GivesSwitch, HasCapture, HasGroups, OfCapture, OfGroups, switch_given}
 use Rattle.rmt_core.specs.Texts.{OfEntries, OfMeaning, Understands}
 use Rattle.rmt_core.specs.Verifying.{Checks, ChecksBytes, ChecksTexts, GivesVerify, HasMap, answer_line}
 use Rattle.rmt_core.proofs.AnswersFormed.{answers_formed}
 use Rattle.rmt_core.proofs.PlacerLaws.{same_placed}
-use Rattle.rmt_core.proofs.RunOnce.{run_once}
+use Rattle.rmt_drive.proofs.RunOnce.{run_once}
 
 -- each text has one meaning
 abbrev pub OneMeaning : Type 0

@@ -9,15 +9,15 @@ use Rattle.rmt_entries.specs.Entries.{entries_of}
 use Rattle.rmt_image.specs.declared.fault.ImageFault.{ImageFault}
 use Rattle.rmt_image.specs.declared.fault.ImageFault.TheVariants.{NoMemory, Magic, Version, Short, Form, Trailing, Limit}
 use Rattle.rmt_image.specs.Reading.{Answers}
-use Rattle.rmt_core.specs.declared.status.Status.{Status}
-use Rattle.rmt_core.specs.declared.status.Status.TheVariants as status
-use Rattle.rmt_core.specs.Ends.{Answered, AreSame, Outside}
-use Rattle.rmt_core.specs.Given.{Given}
+use Rattle.rmt_drive.specs.declared.status.Status.{Status}
+use Rattle.rmt_drive.specs.declared.status.Status.TheVariants as status
+use Rattle.rmt_drive.specs.Ends.{Answered, AreSame, Outside}
+use Rattle.rmt_drive.specs.Given.{Given}
 use Rattle.rmt_core.specs.Simulating.{Spelled}
-use Rattle.rmt_core.specs.SimText.{bad_image_line}
-use Rattle.rmt_core.specs.Telling.{Tells}
+use Rattle.rmt_core.specs.ImageFaults.{bad_image_line}
+use Rattle.rmt_drive.specs.Telling.{Tells}
 use Rattle.rmt_core.specs.Texts.{OfEntries, Understands}
-use Rattle.rmt_core.proofs.EndLaws.{answered_as, no_memory}
+use Rattle.rmt_drive.proofs.EndLaws.{answered_as, no_memory}
 use Rattle.rmt_core.proofs.GivenDone.{spelled_is, understood}
 use Rattle.rmt_core.proofs.GivenOnce.{OneMeaning}
 use Rattle.rmt_core.proofs.TextLaws.{line_answered}

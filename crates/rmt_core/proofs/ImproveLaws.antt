@@ -24,11 +24,11 @@ use Rattle.rmt_build.specs.declared.fault.NoFit.{NoFit}
 use Rattle.rmt_build.specs.Refusals.{stuck_told}
 use Rattle.rmt_core.specs.declared.placer.Placer.{Placer}
 use Rattle.rmt_core.specs.declared.placer.Placer.TheVariants.{ByRule, ByTries}
-use Rattle.rmt_core.specs.declared.status.Status.TheVariants.{Done}
+use Rattle.rmt_drive.specs.declared.status.Status.TheVariants.{Done}
 use Rattle.rmt_core.specs.Compiling.{Compiles, Fitted, GivesImage, IsFull, IsMadeBy, Loaded, Makes, written}
 use Rattle.rmt_core.specs.CompileText.{compile_text}
-use Rattle.rmt_core.specs.Files.{Files, Found, Absent, Long, Holds, entries_limit, found, program_limit}
-use Rattle.rmt_core.specs.Given.{Given, OfFound, Reads}
+use Rattle.rmt_drive.specs.Files.{Files, Found, Absent, Long, Holds, entries_limit, found, program_limit}
+use Rattle.rmt_drive.specs.Given.{Given, OfFound, Reads}
 use Rattle.rmt_core.specs.Headline.{ImproveHasNoMoreStages, OneTryIsCompile, PrintNoMoreStages, RefusesAsCompile}
 use Rattle.rmt_core.specs.MapFiles.{Wanted, image_alone}
 use Rattle.rmt_core.specs.Placers.{IsPlacedBy, placed_by, placing_refusal, refusal_by}

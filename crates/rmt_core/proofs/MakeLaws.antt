@@ -34,8 +34,8 @@ use Rattle.rmt_ptcam.specs.declared.fault.ParserFault.{ParserFault}
 use Rattle.rmt_ptcam.specs.Needs.{refusal}
 use Rattle.rmt_verify.specs.Spelling.{spelled_map}
 use Rattle.rmt_core.specs.declared.placer.Placer.{Placer}
-use Rattle.rmt_core.specs.Files.{Files}
-use Rattle.rmt_core.specs.Given.{stored}
+use Rattle.rmt_drive.specs.Files.{Files}
+use Rattle.rmt_drive.specs.Given.{stored}
 use Rattle.rmt_core.specs.Compiling.{Builds, Compiles, Finish, Fitted, IsMadeBy, written}
 use Rattle.rmt_core.specs.CompileText.{compile_text}
 use Rattle.rmt_core.specs.Making.{AreOfTexts, IsBuilt, MakesFiles, image_and}
@@ -159,8 +159,3 @@ IsSomeText (x ∷ xs) = Unit {0}
 
 pub lines_some : (p : Program) (c : Config) (b : Bound) (lines : List ℕ) → lines ≡ compile_text p c b → lines ≢ []
 lines_some p c b lines is none = subst IsSomeText (sym is ∙ none) tt
-
--- two facts of a value that is there give a third
-pub both_ok : {A E : Type 0} {P Q R : A → Type 0} (r : Result A E) → ((x : A) → P x → Q x → R x) → IfOk r P → IfOk r Q → IfOk r R
-both_ok (Ok x) f p q = f x p q
-both_ok (Err e) f p q = tt

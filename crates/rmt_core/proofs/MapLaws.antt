@@ -10,8 +10,8 @@ use Rattle.rmt_entries.specs.Entries.{entries_of}
 use Rattle.rmt_verify.specs.Spelling.{spelled_map}
 use Rattle.rmt_core.specs.declared.placer.Placer.TheVariants.{ByRule}
 use Rattle.rmt_core.specs.Compiling.{Compiles, Fitted, Loaded, written}
-use Rattle.rmt_core.specs.Files.{Files, Found, Absent, Long, Holds, entries_limit, found, program_limit, updated}
-use Rattle.rmt_core.specs.Given.{Given, OfFound, Reads}
+use Rattle.rmt_drive.specs.Files.{Files, Found, Absent, Long, Holds, entries_limit, found, program_limit, updated}
+use Rattle.rmt_drive.specs.Given.{Given, OfFound, Reads}
 use Rattle.rmt_core.specs.Headline.{MapIsBeside}
 use Rattle.rmt_core.specs.MapFiles.{image_alone, map_file, with_map}
 use Rattle.rmt_core.specs.Placers.{refusal_by}

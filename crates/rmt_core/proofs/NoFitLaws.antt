@@ -24,8 +24,8 @@ use Rattle.rmt_build.specs.Loads.{AreNotLoaded}
 use Rattle.rmt_build.specs.Refusals.{action_told, parser_told, stuck_told}
 use Rattle.rmt_core.specs.declared.placer.Placer.{Placer}
 use Rattle.rmt_core.specs.declared.placer.Placer.TheVariants.{ByRule, ByTries}
-use Rattle.rmt_core.specs.declared.status.Status.TheVariants as status
-use Rattle.rmt_core.specs.Given.{told}
+use Rattle.rmt_drive.specs.declared.status.Status.TheVariants as status
+use Rattle.rmt_drive.specs.Given.{told}
 use Rattle.rmt_core.specs.Compiling.{Fitted, IsFull}
 use Rattle.rmt_core.specs.Making.{AreBothRefused, IsBuilt, TellsWhy}
 use Rattle.rmt_core.specs.NoFitText.{no_fit_line}

@@ -17,17 +17,17 @@ use Rattle.rmt_core.specs.declared.texts.TextFault.TheVariants as text
 use Rattle.rmt_sample.specs.Meaning.{AreOfSample}
 use Rattle.rmt_sample.specs.SampleProgram.{sample_program}
 use Rattle.rmt_core.specs.declared.placer.Placer.TheVariants.{ByRule}
-use Rattle.rmt_core.specs.declared.status.Status.{Status}
-use Rattle.rmt_core.specs.declared.status.Status.TheVariants.{Done, NoFit, NoMemory, ReadFault, TooLong, WriteFault}
+use Rattle.rmt_drive.specs.declared.status.Status.{Status}
+use Rattle.rmt_drive.specs.declared.status.Status.TheVariants.{Done, NoFit, NoMemory, ReadFault, TooLong, WriteFault}
 use Rattle.rmt_core.specs.Commands.{IsPossible, Sample}
-use Rattle.rmt_core.specs.Ends.{Answered, outside}
-use Rattle.rmt_core.specs.Given.{told}
+use Rattle.rmt_drive.specs.Ends.{Answered, outside}
+use Rattle.rmt_drive.specs.Given.{told}
 use Rattle.rmt_core.specs.Making.{IsBuilt, TellsWhy}
-use Rattle.rmt_core.specs.Sampling.{GivesSample, answers_line, sample_line, sample_packets}
-use Rattle.rmt_core.specs.Tallies.{chip_line}
-use Rattle.rmt_core.specs.Telling.{Tells}
+use Rattle.rmt_core.specs.Sampling.{GivesSample, sample_line, sample_packets, chip_line}
+use Rattle.rmt_drive.specs.SampleText.{answers_line}
+use Rattle.rmt_drive.specs.Telling.{Tells}
 use Rattle.rmt_core.proofs.MakeLaws.{builds}
-use Rattle.rmt_core.proofs.PacketLaws.{text_says_packets}
+use Rattle.rmt_drive.proofs.PacketLaws.{text_says_packets}
 use Rattle.rmt_core.proofs.GivenOnce.{OneMeaning}
 use Rattle.rmt_core.proofs.TextLaws.{IsFaultOf, is_fault_of, line_answered}
 use Rattle.rmt_sample.proofs.MeaningLaws.{sample_is_meant}

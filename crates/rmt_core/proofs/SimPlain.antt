@@ -24,29 +24,30 @@ use Rattle.rmt_packets.specs.PacketText.{BadLine}
 use Rattle.rmt_runs.proofs.ReaderLaws.{within_short}
 use Rattle.rmt_core.specs.declared.placer.Placer.{Placer}
 use Rattle.rmt_core.specs.declared.placer.Placer.TheVariants.{ByRule, ByTries}
-use Rattle.rmt_core.specs.declared.status.Status.TheVariants.{Done}
-use Rattle.rmt_core.specs.declared.watch.Watch.TheVariants as watch
-use Rattle.rmt_core.specs.ChipEvents.{Comes, empty_cycles}
-use Rattle.rmt_core.specs.ChipReading.{lists_in, names_in, read_by}
-use Rattle.rmt_core.specs.ChipRuns.{RunsChip, RunsSo, bad_within, told_of}
-use Rattle.rmt_core.specs.ChipText.{run_text}
+use Rattle.rmt_drive.specs.declared.status.Status.TheVariants.{Done}
+use Rattle.rmt_drive.specs.declared.watch.Watch.TheVariants as watch
+use Rattle.rmt_drive.specs.ChipEvents.{Comes, empty_cycles, lists_in, names_in}
+use Rattle.rmt_drive.specs.ChipReading.{read_by}
+use Rattle.rmt_drive.specs.ChipRuns.{RunsChip, RunsSo, bad_within, told_of}
+use Rattle.rmt_drive.specs.ChipText.{run_text}
 use Rattle.rmt_core.specs.Commands.{Command}
 use Rattle.rmt_core.specs.Compiling.{Compiles, Fitted, GivesImage, Loaded, written}
-use Rattle.rmt_core.specs.Files.{Files, all_written, entries_limit, image_limit, packets_limit, program_limit, updated}
-use Rattle.rmt_core.specs.Given.{Given, Opens, Reads}
+use Rattle.rmt_drive.specs.Files.{Files, all_written, entries_limit, image_limit, packets_limit, program_limit, updated}
+use Rattle.rmt_drive.specs.Given.{Given, Opens, Reads}
 use Rattle.rmt_core.specs.Gives.{Gives}
 use Rattle.rmt_core.specs.Headline.{IsWithin, SimPrintsPlain, WritesImage, by_compile, by_compile_map, by_improve}
 use Rattle.rmt_core.specs.MapFiles.{Wanted, made_files, map_file}
 use Rattle.rmt_core.specs.Placers.{refusal_by}
-use Rattle.rmt_core.specs.EventText.{EventReading, events_of, with_changes}
-use Rattle.rmt_core.specs.PlainText.{GivesPlain, RunsPlain, plain_end, plain_lines, plain_text}
-use Rattle.rmt_core.specs.SimText.{count_line, cycles_line, flight_line}
+use Rattle.rmt_drive.specs.EventText.{EventReading, events_of, with_changes}
+use Rattle.rmt_core.specs.PlainText.{GivesPlain, RunsPlain}
+use Rattle.rmt_drive.specs.PlainText.{plain_end, plain_lines, plain_text}
+use Rattle.rmt_drive.specs.SimText.{count_line, cycles_line, flight_line}
 use Rattle.rmt_core.specs.Simulating.{GivesRun, Spelled}
 use Rattle.rmt_core.specs.Texts.{Understands}
 use Rattle.rmt_core.proofs.GivenOnce.{OneMeaning}
 use Rattle.rmt_core.proofs.GivenDone.{Understood, later_within, opened_there, read_within, run_done, spelled_is, status_done, understood, was_opened, was_read, was_understood}
-use Rattle.rmt_core.proofs.ReadOnce.{told_is}
-use Rattle.rmt_core.proofs.SimRuns.{prints_so, read_same}
+use Rattle.rmt_drive.proofs.ReadOnce.{told_is}
+use Rattle.rmt_drive.proofs.SimRuns.{prints_so, read_same}
 use Rattle.rmt_core.proofs.WritingLaws.{updated_other, updated_same}
 
 -- ---- the texts

@@ -12,22 +12,22 @@ use Rattle.rmt_switch.specs.declared.fault.GroupFault.TheVariants as group_fault
 use Rattle.rmt_switch.specs.GroupText.{groups_of}
 use Rattle.rmt_switch.specs.Switch.{switched}
 use Rattle.rmt_core.specs.Types.{Config}
-use Rattle.rmt_core.specs.declared.status.Status.{Status}
-use Rattle.rmt_core.specs.declared.status.Status.TheVariants as status
+use Rattle.rmt_drive.specs.declared.status.Status.{Status}
+use Rattle.rmt_drive.specs.declared.status.Status.TheVariants as status
 use Rattle.rmt_core.specs.declared.switching.setup.Inputs.{Inputs}
 use Rattle.rmt_core.specs.declared.switching.setup.SetupFault.{SetupFault}
 use Rattle.rmt_core.specs.declared.switching.setup.SetupFault.TheVariants.{Image, Groups, Capture}
-use Rattle.rmt_core.specs.Ends.{Answered, AreSame, Outside, WritesAndPrints, outside}
-use Rattle.rmt_core.specs.Files.{Files, Absent, Holds, Long, capture_limit, found, groups_limit, image_limit}
-use Rattle.rmt_core.specs.Given.{Given, OfFound, Reads, told}
-use Rattle.rmt_core.specs.Loading.{IsFound, NotRead}
-use Rattle.rmt_core.specs.Runs.{bad_packets_line}
+use Rattle.rmt_drive.specs.Ends.{Answered, AreSame, Outside, WritesAndPrints, outside}
+use Rattle.rmt_drive.specs.Files.{Files, Absent, Holds, Long, capture_limit, found, groups_limit, image_limit}
+use Rattle.rmt_drive.specs.Given.{Given, OfFound, Reads, told}
+use Rattle.rmt_drive.specs.Loading.{IsFound, NotRead}
+use Rattle.rmt_drive.specs.SimText.{bad_packets_line}
 use Rattle.rmt_core.specs.Switching.{HasCapture, HasGroups, OfCapture, OfGroups, Switches, switch_given}
 use Rattle.rmt_core.specs.SwitchSetup.{AreFound, IsImageOf, NoneRead, SaysFault, no_capture, no_groups, no_image, setup_fault_line, setup_fault_status}
-use Rattle.rmt_core.specs.Telling.{Tells}
+use Rattle.rmt_drive.specs.Telling.{Tells}
 use Rattle.rmt_core.specs.Texts.{bad_entries_line}
 use Rattle.rmt_core.proofs.CallLaws.{unread_unwritten}
-use Rattle.rmt_core.proofs.EndLaws.{later, no_memory, not_read}
+use Rattle.rmt_drive.proofs.EndLaws.{later, no_memory, not_read}
 use Rattle.rmt_core.proofs.GoingOn.{bad_image_answered, refused}
 use Rattle.rmt_core.proofs.TextLaws.{line_answered}
 

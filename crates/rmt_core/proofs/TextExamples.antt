@@ -1,15 +1,16 @@
 -- Last lines, lines of commands, and words that are a command.
 use Rattle.std.specs.Prelude.{◌≡◌, ◌∷◌, [], true, false, codes, refl, Some, None}
 use Rattle.std.specs.Fmt.{digits}
-use Rattle.rmt_core.specs.declared.status.Status.TheVariants.{BadPackets, Done, TooLong}
-use Rattle.rmt_core.specs.Commands.{Report, Sample, Verify, command_of, sample_number_of}
+use Rattle.rmt_drive.specs.declared.status.Status.TheVariants.{BadPackets, Done, TooLong}
+use Rattle.rmt_core.specs.Commands.{Report, Sample, Verify, command_of, sample_number_of, cycle_of}
 use Rattle.rmt_core.specs.CompileText.{minimal_line}
-use Rattle.rmt_core.specs.Files.{Absent, Holds, Long, found}
+use Rattle.rmt_drive.specs.Files.{Absent, Holds, Long, found}
 use Rattle.rmt_core.specs.NoFitText.{hit_text}
-use Rattle.rmt_core.specs.Runs.{run_status}
-use Rattle.rmt_core.specs.Sampling.{counts_line}
+use Rattle.rmt_drive.specs.Runs.{run_status}
 use Rattle.rmt_core.specs.Texts.{bad_entries_line, bad_program_line}
 use Rattle.rmt_core.specs.Verifying.{answer_line}
+use Rattle.rmt_core.specs.ImageFaults.{bad_image_line}
+use Rattle.rmt_image.specs.declared.fault.ImageFault.TheVariants.{Limit}
 
 pub a_bad_program : bad_program_line 8 1 8 ≡ codes "bad program 8 line 1 column 8\n"
 unfolding digits
@@ -22,10 +23,6 @@ a_bad_entry = refl
 pub a_hit : hit_text (record { limit = 8; stage = 31; sum = 0; need = 648 }) ≡ codes " 31:8:0:648"
 unfolding digits
 a_hit = refl
-
-pub a_sample : counts_line 1000 2000 1000 1000 24000 1 2012 ≡ codes "sample 1000 packets 2000 out 1000 drop 1000 sent 24000 stages 1 cycles 2012\n"
-unfolding digits
-a_sample = refl
 
 pub a_failing_part : answer_line (Some 4) ≡ codes "no 4\n"
 unfolding digits
@@ -72,3 +69,20 @@ good_and_long = refl
 
 pub good_and_short : run_status false None ≡ Done
 good_and_short = refl
+
+pub a_limit : bad_image_line (Limit (record { limit = 8; stage = 2; sum = 0; need = 648 })) ≡ codes "bad image 6 limit 8 stage 2 sum 0 need 648\n"
+unfolding digits
+a_limit = refl
+
+-- words that are a cycle, and words that are none
+pub nine_digits : cycle_of (codes "000000011") ≡ Some 11
+nine_digits = refl
+
+pub ten_digits : cycle_of (codes "0000000011") ≡ None
+ten_digits = refl
+
+pub no_digit : cycle_of [] ≡ None
+no_digit = refl
+
+pub a_sign : cycle_of (codes "+1") ≡ None
+a_sign = refl

@@ -3,15 +3,15 @@ use Rattle.std.proofs.Common.{◌≡◌, ◌⊎◌, ⊎_elim, inl, inr, ℕ, Lis
 use Rattle.std.specs.Prelude.{IsTrue}
 use Rattle.rmt_io.specs.Outside.{ShelfState, SinkState, OnlyRead, ReadingFailed}
 use Rattle.rmt_io.proofs.OutsideLaws.{only_printed_refl, only_read_trans, reading_failed_later, tells_later, writing_failed_later}
-use Rattle.rmt_core.specs.declared.status.Status.{Status}
-use Rattle.rmt_core.specs.declared.status.Status.TheVariants as status
+use Rattle.rmt_drive.specs.declared.status.Status.{Status}
+use Rattle.rmt_drive.specs.declared.status.Status.TheVariants as status
 use Rattle.rmt_core.specs.declared.text_files.TextFiles.{TextFiles}
-use Rattle.rmt_core.specs.Ends.{Answered, Outside, ReadsAndPrints, WritesAndPrints, outside}
-use Rattle.rmt_core.specs.Files.{Files, entries_limit, program_limit}
-use Rattle.rmt_core.specs.Given.{Given, Reads}
+use Rattle.rmt_drive.specs.Ends.{Answered, Outside, ReadsAndPrints, WritesAndPrints, outside}
+use Rattle.rmt_drive.specs.Files.{Files, entries_limit, program_limit}
+use Rattle.rmt_drive.specs.Given.{Given, Reads}
 use Rattle.rmt_core.specs.TextFiles.{AreFound, NoneRead, ReadsTexts, no_entries, no_program}
 use Rattle.rmt_core.proofs.CallLaws.{unread_unwritten}
-use Rattle.rmt_core.proofs.EndLaws.{later, not_read}
+use Rattle.rmt_drive.proofs.EndLaws.{later, not_read}
 use Rattle.rmt_core.proofs.SwitchLaws.{answered_found}
 
 module _ (program entries : List ℕ) (next : Files → List ℕ → List ℕ → Given → Type 0) where

@@ -8,18 +8,18 @@ use Rattle.rmt_check.specs.Means.{Means, fault_at}
 use Rattle.rmt_entries.specs.Entries.{entries_of}
 use Rattle.rmt_entries.specs.declared.fault.EntryFault.{EntryFault}
 use Rattle.rmt_entries.specs.declared.fault.EntryFault.TheVariants.{At}
-use Rattle.rmt_core.specs.declared.status.Status.{Status}
-use Rattle.rmt_core.specs.declared.status.Status.TheVariants as status
+use Rattle.rmt_drive.specs.declared.status.Status.{Status}
+use Rattle.rmt_drive.specs.declared.status.Status.TheVariants as status
 use Rattle.rmt_core.specs.declared.texts.Meant.{Meant}
 use Rattle.rmt_core.specs.declared.texts.TextFault.{TextFault}
 use Rattle.rmt_core.specs.declared.texts.TextFault.TheVariants.{NoMemory, BadProgram, BadEntries}
-use Rattle.rmt_core.specs.Given.{Given, told}
-use Rattle.rmt_core.specs.Ends.{Answered, AreSame, Outside, PrintsAll}
+use Rattle.rmt_drive.specs.Given.{Given, told}
+use Rattle.rmt_drive.specs.Ends.{Answered, AreSame, Outside, PrintsAll}
 use Rattle.rmt_runs.specs.Printing.{GainedFront}
-use Rattle.rmt_core.specs.Telling.{Tells}
+use Rattle.rmt_drive.specs.Telling.{Tells}
 use Rattle.rmt_core.specs.Texts.{OfEntries, Understands, bad_entries_line, bad_program_line}
 use Rattle.rmt_core.specs.TextFaults.{text_fault_line, text_fault_status}
-use Rattle.rmt_core.proofs.EndLaws.{no_memory, told_answered}
+use Rattle.rmt_drive.proofs.EndLaws.{no_memory, told_answered}
 
 -- a call that told a line with a status, or had no memory for it, and wrote no file
 pub line_answered : (before after : Outside) (gives : Given → Type 0) (wanted result : Status) (line : List ℕ) → gives (told before.shelf.files wanted line)

@@ -20,10 +20,10 @@ use Rattle.rmt_verify.specs.ParserMade.{IsMadeOf}
 use Rattle.rmt_verify.specs.Spelling.{spelled_map}
 use Rattle.rmt_core.specs.declared.placer.Placer.{Placer}
 use Rattle.rmt_core.specs.declared.placer.Placer.TheVariants.{ByRule}
-use Rattle.rmt_core.specs.declared.status.Status.TheVariants.{Done}
+use Rattle.rmt_drive.specs.declared.status.Status.TheVariants.{Done}
 use Rattle.rmt_core.specs.Compiling.{Compiles, Fitted, Loaded, Makes, written}
-use Rattle.rmt_core.specs.Files.{Files, entries_limit, image_limit, map_limit, program_limit, updated}
-use Rattle.rmt_core.specs.Given.{Given, Reads}
+use Rattle.rmt_drive.specs.Files.{Files, entries_limit, image_limit, map_limit, program_limit, updated}
+use Rattle.rmt_drive.specs.Given.{Given, Reads}
 use Rattle.rmt_core.specs.Headline.{IsImage, IsMapFile, MeanBoth, VerifiesCompiled}
 use Rattle.rmt_core.specs.MapFiles.{map_file, with_map}
 use Rattle.rmt_core.specs.Placers.{refusal_by}

@@ -4,11 +4,11 @@ use Rattle.rmt_verify.specs.declared.fault.MapFault.{MapFault}
 use Rattle.rmt_verify.specs.declared.fault.MapFault.TheVariants.{NoMemory, Form}
 use Rattle.rmt_verify.specs.Spells.{Spells}
 use Rattle.rmt_verify.specs.declared.map_file.MapFile.{MapFile}
-use Rattle.rmt_core.specs.declared.status.Status.{Status}
-use Rattle.rmt_core.specs.Ends.{Answered, Outside}
-use Rattle.rmt_core.specs.Given.{Given}
+use Rattle.rmt_drive.specs.declared.status.Status.{Status}
+use Rattle.rmt_drive.specs.Ends.{Answered, Outside}
+use Rattle.rmt_drive.specs.Given.{Given}
 use Rattle.rmt_core.specs.Verifying.{HasMap}
-use Rattle.rmt_core.proofs.EndLaws.{answered_as}
+use Rattle.rmt_drive.proofs.EndLaws.{answered_as}
 use Rattle.rmt_core.proofs.GivenDone.{map_is}
 use Rattle.rmt_core.proofs.GivenOnce.{OneMap}
 

@@ -7,8 +7,8 @@ use Rattle.std.proofs.lemmas.List.Elements.{All-head, All-tail}
 use Rattle.std.proofs.lemmas.List.Sums.{fold-append}
 use Rattle.std.proofs.lemmas.Slice.Eq.{bytes_eq-Decides}
 use Rattle.rmt_io.specs.Outside.{ShelfState, HasFile, KeepsFiles, OnlyWrote}
-use Rattle.rmt_core.specs.Files.{Files, Write, all_written, updated}
-use Rattle.rmt_core.specs.Ends.{AreSame, BrokenOff}
+use Rattle.rmt_drive.specs.Files.{Files, Write, all_written, updated}
+use Rattle.rmt_drive.specs.Ends.{AreSame, BrokenOff}
 use Rattle.rmt_core.specs.Writing.{StoodUpTo, WroteAll}
 
 -- ---- files

@@ -1,13 +1,12 @@
 -- The words of a command line.
-use Rattle.std.specs.Prelude.{◌≡◌, ◌⊎◌, ℕ, Bool, List, [], ◌∷◌, ◌&&◌, Option, Some, None, option_map, nat_le, length, map, codes, if◌then◌else◌, string_bytes}
+use Rattle.std.specs.Prelude.{◌≡◌, ◌⊎◌, ℕ, Bool, List, [], ◌∷◌, ◌&&◌, Option, Some, None, option_map, nat_le, length, map, codes, if◌then◌else◌, string_bytes, String}
 use Rattle.std.specs.List.{list_all}
 use Rattle.std.specs.Str.{bytes_eq}
-use Rattle.std.specs.Prelude.{String}
 use Rattle.std.specs.Global.{Global}
 use Rattle.rmt_bits.specs.Digits.{is_digit, number_of_digits}
-use Rattle.rmt_core.specs.declared.status.Status.{Status}
-use Rattle.rmt_core.specs.declared.status.Status.TheVariants.{Done, WriteFault, BadProgram, BadEntries, NoFit, BadImage, BadPackets, TooLong, NoMemory}
-use Rattle.rmt_core.specs.Ends.{IsOfOutside}
+use Rattle.rmt_drive.specs.declared.status.Status.{Status}
+use Rattle.rmt_drive.specs.declared.status.Status.TheVariants.{Done, WriteFault, BadProgram, BadEntries, NoFit, BadImage, BadPackets, TooLong, NoMemory}
+use Rattle.rmt_drive.specs.Ends.{IsOfOutside}
 
 -- a command, with the names of its files; `sample` reads none
 pub data Command : Type 0 where
@@ -175,10 +174,6 @@ IsOutside _ status = IsOfOutside status
 -- all of them
 abbrev pub IsPossible : Command → Status → Type 0
 IsPossible command status = IsOf command status ⊎ IsOutside command status
-
--- and those of a run over a packet text
-abbrev pub IsRunStatus : Status → Type 0
-IsRunStatus status = (status ≡ Done) ⊎ (status ≡ BadPackets) ⊎ (status ≡ TooLong) ⊎ IsOfOutside status
 
 -- words as their bytes
 abbrev pub words_of : List (String Global) → List (List ℕ)

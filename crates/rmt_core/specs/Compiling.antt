@@ -15,9 +15,9 @@ use Rattle.rmt_build.specs.Loads.{AreNotLoaded}
 use Rattle.rmt_build.specs.Promises.{IsBounded, IsLaidOut, KeepsRules}
 use Rattle.rmt_core.specs.declared.placer.Placer.{Placer}
 use Rattle.rmt_core.specs.declared.placer.Placer.TheVariants.{ByRule, ByTries}
-use Rattle.rmt_core.specs.declared.status.Status.TheVariants as status
-use Rattle.rmt_core.specs.Files.{Files, entries_limit, image_limit, program_limit}
-use Rattle.rmt_core.specs.Given.{Given, Reads, stored, told}
+use Rattle.rmt_drive.specs.declared.status.Status.TheVariants as status
+use Rattle.rmt_drive.specs.Files.{Files, entries_limit, image_limit, program_limit}
+use Rattle.rmt_drive.specs.Given.{Given, Reads, stored, told}
 use Rattle.rmt_core.specs.MapFiles.{HasMapFile, Wanted, image_alone, made_files, with_map}
 use Rattle.rmt_core.specs.Placers.{HasFewStages, IsPlacedBy, placed_by, refusal_by}
 use Rattle.rmt_core.specs.Texts.{Understands}

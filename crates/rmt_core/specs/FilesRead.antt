@@ -1,10 +1,10 @@
 -- Which files a command reads, and when one of them is absent.
 use Rattle.std.specs.Prelude.{◌≡◌, ◌↔◌, ℕ, Bool, true, false, IsTrue, List, [], ◌∷◌, Option, Some, None}
-use Rattle.rmt_core.specs.declared.status.Status.TheVariants.{ReadFault}
+use Rattle.rmt_drive.specs.declared.status.Status.TheVariants.{ReadFault}
 use Rattle.rmt_core.specs.Commands.{Command, Compile, CompileMap, Improve, Sim, Probe, Plain, Report, Sample, Switch, Verify}
-use Rattle.rmt_core.specs.Ends.{Answered, Outside}
-use Rattle.rmt_core.specs.Files.{Files, Found, Absent, Long, Holds, capture_limit, entries_limit, found, groups_limit, image_limit, map_limit, program_limit}
-use Rattle.rmt_core.specs.Given.{Given}
+use Rattle.rmt_drive.specs.Ends.{Answered, Outside}
+use Rattle.rmt_drive.specs.Files.{Files, Found, Absent, Long, Holds, capture_limit, entries_limit, found, groups_limit, image_limit, map_limit, program_limit}
+use Rattle.rmt_drive.specs.Given.{Given}
 use Rattle.rmt_core.specs.Gives.{Gives}
 
 -- a file that is read, and how many bytes it may have, where there is a limit

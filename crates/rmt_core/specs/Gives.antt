@@ -1,8 +1,8 @@
 -- What each command gives, where nothing fails outside.
-use Rattle.rmt_core.specs.declared.watch.Watch.TheVariants.{Answers, Vectors}
+use Rattle.rmt_drive.specs.declared.watch.Watch.TheVariants.{Answers, Vectors}
 use Rattle.rmt_core.specs.Commands.{Command, Compile, CompileMap, Improve, Sim, Probe, Plain, Report, Sample, Switch, Verify}
-use Rattle.rmt_core.specs.Files.{Files}
-use Rattle.rmt_core.specs.Given.{Given}
+use Rattle.rmt_drive.specs.Files.{Files}
+use Rattle.rmt_drive.specs.Given.{Given}
 use Rattle.rmt_core.specs.Compiling.{GivesCompile, GivesCompileMap, GivesImprove}
 use Rattle.rmt_core.specs.Simulating.{GivesRun}
 use Rattle.rmt_core.specs.PlainText.{GivesPlain}

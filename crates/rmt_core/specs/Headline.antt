@@ -21,22 +21,22 @@ use Rattle.rmt_build.specs.declared.fault.NoFit.TheVariants.{Load}
 use Rattle.rmt_build.specs.Loads.{IsFull}
 use Rattle.rmt_core.specs.declared.placer.Placer.{Placer}
 use Rattle.rmt_core.specs.declared.placer.Placer.TheVariants.{ByRule, ByTries}
-use Rattle.rmt_core.specs.declared.status.Status.{Status}
-use Rattle.rmt_core.specs.declared.status.Status.TheVariants.{Done, ReadFault, NoMemory}
+use Rattle.rmt_drive.specs.declared.status.Status.{Status}
+use Rattle.rmt_drive.specs.declared.status.Status.TheVariants.{Done, ReadFault, NoMemory}
 use Rattle.rmt_core.specs.Commands.{Command, Compile, CompileMap, Improve, Sim, Probe, Plain, Report, Sample, Switch, Verify}
-use Rattle.rmt_core.specs.ChipEvents.{Comes}
-use Rattle.rmt_core.specs.ChipReading.{lists_in, names_in, read_by}
-use Rattle.rmt_core.specs.ChipRuns.{EndsFull, has_moved, told_of}
+use Rattle.rmt_drive.specs.ChipEvents.{Comes, lists_in, names_in}
+use Rattle.rmt_drive.specs.ChipReading.{read_by}
+use Rattle.rmt_drive.specs.ChipRuns.{EndsFull, has_moved, told_of}
 use Rattle.rmt_core.specs.CompileText.{compile_text}
-use Rattle.rmt_core.specs.EventText.{events_of}
-use Rattle.rmt_core.specs.Ends.{Answered, AreSame, Outside}
-use Rattle.rmt_core.specs.Files.{Files, capture_limit, entries_limit, groups_limit, image_limit, map_limit, packets_limit, program_limit}
-use Rattle.rmt_core.specs.Given.{Given}
+use Rattle.rmt_drive.specs.EventText.{events_of}
+use Rattle.rmt_drive.specs.Ends.{Answered, AreSame, Outside}
+use Rattle.rmt_drive.specs.Files.{Files, capture_limit, entries_limit, groups_limit, image_limit, map_limit, packets_limit, program_limit}
+use Rattle.rmt_drive.specs.Given.{Given}
 use Rattle.rmt_core.specs.Gives.{Gives}
 use Rattle.rmt_core.specs.NoFitText.{no_fit_line}
 use Rattle.rmt_core.specs.Placers.{IsPlacedBy, refusal_by}
 use Rattle.rmt_sample.specs.Meaning.{AreOfSample}
-use Rattle.rmt_core.specs.SimText.{cycles_line, flight_line}
+use Rattle.rmt_drive.specs.SimText.{cycles_line, flight_line}
 
 -- a command that writes an image of these texts, and no map over it
 pub data WritesImage (program entries image : List ℕ) : Command → Type 0 where

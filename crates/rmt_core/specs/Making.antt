@@ -11,9 +11,9 @@ use Rattle.rmt_phv.specs.Packing.{packing}
 use Rattle.rmt_entries.specs.Entries.{entries_of}
 use Rattle.rmt_core.specs.declared.placer.Placer.{Placer}
 use Rattle.rmt_core.specs.declared.placer.Placer.TheVariants.{ByRule, ByTries}
-use Rattle.rmt_core.specs.declared.status.Status.TheVariants as status
-use Rattle.rmt_core.specs.Files.{Files, Write, entries_limit, program_limit}
-use Rattle.rmt_core.specs.Given.{one_file, stored, told}
+use Rattle.rmt_drive.specs.declared.status.Status.TheVariants as status
+use Rattle.rmt_drive.specs.Files.{Files, Write, entries_limit, program_limit}
+use Rattle.rmt_drive.specs.Given.{one_file, stored, told}
 use Rattle.rmt_core.specs.Compiling.{Builds, Compiles, Finish, Makes}
 use Rattle.rmt_core.specs.MapFiles.{Wanted}
 use Rattle.rmt_core.specs.Placers.{placing_refusal, refusal_by}

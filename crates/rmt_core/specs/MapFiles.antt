@@ -5,8 +5,8 @@ use Rattle.rmt_ptcam.specs.Joins.{joins}
 use Rattle.rmt_refine.specs.declared.map.Map.{Map}
 use Rattle.rmt_verify.specs.Spelling.{MapFits, spelled_map}
 use Rattle.rmt_verify.specs.declared.map_file.MapFile.{MapFile}
-use Rattle.rmt_core.specs.Files.{Write, map_limit}
-use Rattle.rmt_core.specs.Given.{one_file}
+use Rattle.rmt_drive.specs.Files.{Write, map_limit}
+use Rattle.rmt_drive.specs.Given.{one_file}
 
 -- the map of what was built, with the joins that make its parser of the plain one
 abbrev pub map_file : Program → Map → MapFile

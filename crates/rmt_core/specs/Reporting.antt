@@ -3,9 +3,9 @@ use Rattle.std.specs.Prelude.{◌≡◌, List, ℕ, ◌++◌, codes}
 use Rattle.serde_json.specs.Written.{compact_text}
 use Rattle.rmt_core.specs.Types.{Config}
 use Rattle.rmt_report.specs.Report.{report_of}
-use Rattle.rmt_core.specs.declared.status.Status.TheVariants.{Done}
-use Rattle.rmt_core.specs.Files.{Files, image_limit}
-use Rattle.rmt_core.specs.Given.{Given, Reads, told}
+use Rattle.rmt_drive.specs.declared.status.Status.TheVariants.{Done}
+use Rattle.rmt_drive.specs.Files.{Files, image_limit}
+use Rattle.rmt_drive.specs.Given.{Given, Reads, told}
 use Rattle.rmt_core.specs.Simulating.{Spelled}
 
 -- the report and a line feed

@@ -9,15 +9,15 @@ use Rattle.rmt_pcap.specs.Captures.{capture_of}
 use Rattle.rmt_switch.specs.declared.fault.GroupFault.TheVariants as group_fault
 use Rattle.rmt_switch.specs.GroupText.{groups_of}
 use Rattle.rmt_core.specs.Types.{Config}
-use Rattle.rmt_core.specs.declared.status.Status.{Status}
-use Rattle.rmt_core.specs.declared.status.Status.TheVariants as status
+use Rattle.rmt_drive.specs.declared.status.Status.{Status}
+use Rattle.rmt_drive.specs.declared.status.Status.TheVariants as status
 use Rattle.rmt_core.specs.declared.switching.setup.Inputs.{Inputs}
 use Rattle.rmt_core.specs.declared.switching.setup.SetupFault.{SetupFault}
 use Rattle.rmt_core.specs.declared.switching.setup.SetupFault.TheVariants.{Image, Groups, Capture}
-use Rattle.rmt_core.specs.Files.{capture_limit, groups_limit, image_limit}
-use Rattle.rmt_core.specs.Loading.{IsFound, NotRead}
-use Rattle.rmt_core.specs.Runs.{bad_packets_line}
-use Rattle.rmt_core.specs.SimText.{bad_image_line}
+use Rattle.rmt_drive.specs.Files.{capture_limit, groups_limit, image_limit}
+use Rattle.rmt_drive.specs.Loading.{IsFound, NotRead}
+use Rattle.rmt_drive.specs.SimText.{bad_packets_line}
+use Rattle.rmt_core.specs.ImageFaults.{bad_image_line}
 use Rattle.rmt_core.specs.Texts.{bad_entries_line}
 
 -- the three files were found

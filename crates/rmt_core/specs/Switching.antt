@@ -10,10 +10,10 @@ use Rattle.rmt_switch.specs.declared.switched.Switched.{Switched}
 use Rattle.rmt_switch.specs.GroupText.{groups_of}
 use Rattle.rmt_switch.specs.Printed.{switch_line}
 use Rattle.rmt_switch.specs.Switch.{switched}
-use Rattle.rmt_core.specs.declared.status.Status.TheVariants.{BadEntries, BadPackets}
-use Rattle.rmt_core.specs.Files.{Files, Write, capture_limit, groups_limit, image_limit}
-use Rattle.rmt_core.specs.Given.{Given, Reads, stored, told}
-use Rattle.rmt_core.specs.Runs.{bad_packets_line}
+use Rattle.rmt_drive.specs.declared.status.Status.TheVariants.{BadEntries, BadPackets}
+use Rattle.rmt_drive.specs.Files.{Files, Write, capture_limit, groups_limit, image_limit}
+use Rattle.rmt_drive.specs.Given.{Given, Reads, stored, told}
+use Rattle.rmt_drive.specs.SimText.{bad_packets_line}
 use Rattle.rmt_core.specs.Simulating.{Spelled}
 use Rattle.rmt_core.specs.Texts.{bad_entries_line}
 

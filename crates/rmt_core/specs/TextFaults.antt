@@ -1,7 +1,7 @@
 -- Faults of a program text or an entry text, as the last line tells them.
 use Rattle.std.specs.Prelude.{ℕ, List, []}
-use Rattle.rmt_core.specs.declared.status.Status.{Status}
-use Rattle.rmt_core.specs.declared.status.Status.TheVariants as status
+use Rattle.rmt_drive.specs.declared.status.Status.{Status}
+use Rattle.rmt_drive.specs.declared.status.Status.TheVariants as status
 use Rattle.rmt_core.specs.declared.texts.TextFault.{TextFault}
 use Rattle.rmt_core.specs.declared.texts.TextFault.TheVariants.{NoMemory, BadProgram, BadEntries}
 use Rattle.rmt_core.specs.Texts.{bad_program_line, bad_entries_line}

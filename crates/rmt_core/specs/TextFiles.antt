@@ -1,11 +1,11 @@
 -- A program text and an entry text that are read from files.
 use Rattle.std.specs.Prelude.{ℕ, List}
 use Rattle.rmt_io.specs.Outside.{ShelfState}
-use Rattle.rmt_core.specs.declared.status.Status.{Status}
+use Rattle.rmt_drive.specs.declared.status.Status.{Status}
 use Rattle.rmt_core.specs.declared.text_files.TextFiles.{TextFiles}
-use Rattle.rmt_core.specs.Files.{Files, entries_limit, program_limit}
-use Rattle.rmt_core.specs.Given.{Given, Reads}
-use Rattle.rmt_core.specs.Loading.{IsFound, NotRead}
+use Rattle.rmt_drive.specs.Files.{Files, entries_limit, program_limit}
+use Rattle.rmt_drive.specs.Given.{Given, Reads}
+use Rattle.rmt_drive.specs.Loading.{IsFound, NotRead}
 
 -- both files were found
 pub record AreFound (shelf : ShelfState) (program_name entries_name : List ℕ) (texts : TextFiles) : Type 0 where

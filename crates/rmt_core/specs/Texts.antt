@@ -7,9 +7,9 @@ use Rattle.rmt_check.specs.Means.{Means, Outcome}
 use Rattle.rmt_entries.specs.declared.fault.EntryFault.{EntryFault}
 use Rattle.rmt_entries.specs.declared.fault.EntryFault.TheVariants.{NoMemory, At}
 use Rattle.rmt_entries.specs.Entries.{entries_of}
-use Rattle.rmt_core.specs.declared.status.Status.TheVariants.{BadProgram, BadEntries}
-use Rattle.rmt_core.specs.Files.{Files}
-use Rattle.rmt_core.specs.Given.{Given, told}
+use Rattle.rmt_drive.specs.declared.status.Status.TheVariants.{BadProgram, BadEntries}
+use Rattle.rmt_drive.specs.Files.{Files}
+use Rattle.rmt_drive.specs.Given.{Given, told}
 
 -- `bad program CODE line L column C`
 abbrev pub bad_program_line : ℕ → ℕ → ℕ → List ℕ

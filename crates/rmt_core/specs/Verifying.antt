@@ -6,9 +6,9 @@ use Rattle.rmt_ast.specs.declared.entry.Entry.{Entry}
 use Rattle.rmt_verify.specs.Checks.{AllHold, FailsFirst}
 use Rattle.rmt_verify.specs.Spells.{Spells}
 use Rattle.rmt_verify.specs.declared.map_file.MapFile.{MapFile}
-use Rattle.rmt_core.specs.declared.status.Status.TheVariants.{Done, BadImage}
-use Rattle.rmt_core.specs.Files.{Files, entries_limit, image_limit, map_limit, program_limit}
-use Rattle.rmt_core.specs.Given.{Given, Reads, told}
+use Rattle.rmt_drive.specs.declared.status.Status.TheVariants.{Done, BadImage}
+use Rattle.rmt_drive.specs.Files.{Files, entries_limit, image_limit, map_limit, program_limit}
+use Rattle.rmt_drive.specs.Given.{Given, Reads, told}
 use Rattle.rmt_core.specs.Simulating.{Spelled}
 use Rattle.rmt_core.specs.Texts.{Understands}
 

@@ -2,8 +2,8 @@
 use Rattle.std.specs.Prelude.{◌≡◌, ◌≤◌, IsTrue, List, ◌∷◌, ◌++◌, map, string_bytes}
 use Rattle.rmt_io.specs.Outside.{ShelfState}
 use Rattle.rmt_core.specs.declared.writing.NewFile.{NewFile}
-use Rattle.rmt_core.specs.Ends.{AreSame}
-use Rattle.rmt_core.specs.Files.{Files, Write, all_written}
+use Rattle.rmt_drive.specs.Ends.{AreSame}
+use Rattle.rmt_drive.specs.Files.{Files, Write, all_written}
 
 -- files as they are to be written
 abbrev pub write_of : NewFile → Write

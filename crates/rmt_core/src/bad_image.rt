@@ -2,11 +2,11 @@
 
 ghost use Rattle.std.specs.Prelude.{◌≡◌, IfOk};
 ghost use Rattle.rmt_io.specs.Outside.{OnlyPrinted};
-ghost use Rattle.rmt_core.specs.SimText.{bad_image_line};
-ghost use Rattle.rmt_core.specs.Telling.{Tells};
+ghost use Rattle.rmt_core.specs.ImageFaults.{bad_image_line};
+ghost use Rattle.rmt_drive.specs.Telling.{Tells};
 
-use crate::status::Status;
-use crate::telling::tell;
+use rmt_drive::status::Status;
+use rmt_drive::telling::tell;
 use rmt_image::ImageFault;
 use rmt_io::sink::Sink;
 use std::alloc::{AllocError, Global};

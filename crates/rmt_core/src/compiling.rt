@@ -3,8 +3,8 @@
 ghost use Rattle.std.specs.Prelude.{◌≡◌, ◌≢◌, ◌⊎◌, [], IfOk, string_bytes};
 ghost use Rattle.rmt_core.specs.Commands.{IsPossible, Compile};
 ghost use Rattle.rmt_core.specs.Compiling.{GivesImage};
-ghost use Rattle.rmt_core.specs.Ends.{WritesAndPrints, outside};
-ghost use Rattle.rmt_core.specs.Given.{Stores};
+ghost use Rattle.rmt_drive.specs.Ends.{WritesAndPrints, outside};
+ghost use Rattle.rmt_drive.specs.Given.{Stores};
 ghost use Rattle.rmt_core.specs.Making.{bytes_of, image_and};
 ghost use Rattle.rmt_core.specs.WantedNames.{names_of};
 ghost use Rattle.rmt_core.specs.Writing.{write_of, writes_of};
@@ -12,12 +12,12 @@ ghost use Rattle.rmt_core.specs.Placers.{IsPlacer};
 
 use crate::making::{Made, Refusal, make};
 use crate::placer::Placer;
-use crate::printing::end_with;
-use crate::status::Status;
 use crate::text_files::read_texts;
 use crate::texts::{tell_text_fault, understand};
 use crate::writing::{NewFile, deliver};
 use rmt_check::laws::one_meaning;
+use rmt_drive::printing::end_with;
+use rmt_drive::status::Status;
 use rmt_io::shelf::Shelf;
 use rmt_io::sink::Sink;
 use std::alloc::{AllocError, Global};

@@ -2,9 +2,9 @@
 
 ghost use Rattle.std.specs.Prelude.{◌≡◌, ◌≤◌, Err, length, IfOk, IfErr, OnOk, string_bytes};
 ghost use Rattle.rmt_io.specs.Outside.{HasFile, ReadingFailed, OnlyRead};
-ghost use Rattle.rmt_core.specs.Loading.{IsFound, NotOpened, NotRead};
+ghost use Rattle.rmt_drive.specs.Loading.{IsFound, NotOpened, NotRead};
 
-use crate::status::Status;
+use rmt_drive::status::Status;
 use rmt_io::shelf::{Shelf, ShelfFault};
 use std::alloc::Global;
 

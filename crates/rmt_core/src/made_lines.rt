@@ -6,7 +6,6 @@ ghost use Rattle.rmt_core.specs.CompileText.{bound_line, chain_part, compile_tex
 ghost use Rattle.rmt_core.specs.NoFitText.{AreNodesOf};
 
 use crate::names::add_node_name;
-use crate::numbers::add_number;
 use rmt_ast::program::Program;
 use rmt_bits::answer::Bytes;
 use rmt_bits::fault::OutOfMemory;
@@ -14,6 +13,7 @@ use rmt_bounds::bound::{Bound, Proof};
 use rmt_build::built::Built;
 use rmt_config::config::Config;
 use rmt_config::latency::latency;
+use rmt_drive::numbers::add_number;
 use rmt_report::ReportFault;
 use std::alloc::{AllocError, Global};
 

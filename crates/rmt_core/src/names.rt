@@ -4,8 +4,8 @@ ghost use Rattle.std.specs.Prelude.{◌≡◌, ◌++◌, OnOk, option_copied};
 ghost use Rattle.rmt_refine.specs.Units.{table_at};
 ghost use Rattle.rmt_core.specs.NoFitText.{action_name, field_name, header_name, node_name};
 
-use crate::numbers::add_number;
 use rmt_ast::program::{Program, Table, What};
+use rmt_drive::numbers::add_number;
 use std::alloc::AllocError;
 
 /// Appends the name of the header of a number.

@@ -6,10 +6,10 @@ ghost use Rattle.std.specs.List.{flat_map};
 ghost use Rattle.rmt_core.specs.NoFitText.{action_name, field_name, header_name, hit_text, no_fit_line, node_name};
 
 use crate::names::{add_action_name, add_field_name, add_header_name, add_node_name};
-use crate::numbers::add_number;
 use rmt_ast::program::Program;
 use rmt_build::fault::NoFit;
 use rmt_config::limits::LimitHit;
+use rmt_drive::numbers::add_number;
 use std::alloc::{AllocError, Global};
 
 /// `no fit`, the kind and its parts; nothing where there is no memory.

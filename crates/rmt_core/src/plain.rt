@@ -2,16 +2,16 @@
 
 ghost use Rattle.std.specs.Prelude.{string_bytes};
 ghost use Rattle.rmt_core.specs.Commands.{IsPossible, Plain as Command};
-ghost use Rattle.rmt_core.specs.Ends.{ReadsAndPrints, outside};
+ghost use Rattle.rmt_drive.specs.Ends.{ReadsAndPrints, outside};
 ghost use Rattle.rmt_core.specs.PlainText.{GivesPlain};
 
 use crate::loading::{PACKETS_LIMIT, open_file};
-use crate::plain_run::begin::begin;
-use crate::plain_run::run_plain;
-use crate::status::Status;
+use crate::plain_begin::begin;
 use crate::text_files::read_texts;
 use crate::texts::{tell_text_fault, understand};
 use rmt_check::laws::one_meaning;
+use rmt_drive::plain_run::run_plain;
+use rmt_drive::status::Status;
 use rmt_io::shelf::Shelf;
 use rmt_io::sink::Sink;
 use std::alloc::Global;

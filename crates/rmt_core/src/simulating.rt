@@ -2,15 +2,15 @@
 
 ghost use Rattle.std.specs.Prelude.{string_bytes};
 ghost use Rattle.rmt_core.specs.Commands.{IsPossible, Sim};
-ghost use Rattle.rmt_core.specs.Ends.{ReadsAndPrints, outside};
+ghost use Rattle.rmt_drive.specs.Ends.{ReadsAndPrints, outside};
 ghost use Rattle.rmt_core.specs.Simulating.{GivesRun};
 
 use crate::bad_image::tell_bad_image;
 use crate::loading::{IMAGE_LIMIT, PACKETS_LIMIT, open_file, read_file};
-use crate::running::{run_chip, run_watched};
-use crate::status::Status;
-use crate::watch::Watch;
 use rmt_chip::chip::Chip;
+use rmt_drive::running::{run_chip, run_watched};
+use rmt_drive::status::Status;
+use rmt_drive::watch::Watch;
 use rmt_image::read_image;
 use rmt_io::shelf::Shelf;
 use rmt_io::sink::Sink;

@@ -3,8 +3,8 @@
 ghost use Rattle.std.specs.Prelude.{◌≡◌, ◌≤◌, ◌⊎◌, string_bytes};
 ghost use Rattle.rmt_switch.specs.Printed.{switch_line};
 ghost use Rattle.rmt_core.specs.Commands.{IsPossible, Switch};
-ghost use Rattle.rmt_core.specs.Ends.{WritesAndPrints, outside};
-ghost use Rattle.rmt_core.specs.Given.{Stores};
+ghost use Rattle.rmt_drive.specs.Ends.{WritesAndPrints, outside};
+ghost use Rattle.rmt_drive.specs.Given.{Stores};
 ghost use Rattle.rmt_core.specs.Switching.{GivesSwitch, port_writes};
 
 mod inputs;
@@ -12,11 +12,11 @@ mod ports;
 pub mod setup;
 
 use crate::commands::SwitchNames;
-use crate::status::Status;
 use crate::switching::inputs::read_inputs;
 use crate::switching::ports::port_files;
 use crate::switching::setup::{Setup, set_up, tell_setup_fault};
 use crate::writing::deliver;
+use rmt_drive::status::Status;
 use rmt_io::shelf::Shelf;
 use rmt_io::sink::Sink;
 use rmt_switch::switched::Switched;

@@ -2,11 +2,11 @@
 
 ghost use Rattle.std.specs.Prelude.{◌≡◌, ◌≤◌, Err, length, IfOk, IfErr, string_bytes};
 ghost use Rattle.rmt_io.specs.Outside.{ReadingFailed, OnlyRead};
-ghost use Rattle.rmt_core.specs.Files.{entries_limit, program_limit};
+ghost use Rattle.rmt_drive.specs.Files.{entries_limit, program_limit};
 ghost use Rattle.rmt_core.specs.TextFiles.{AreFound, NoneRead};
 
 use crate::loading::{ENTRIES_LIMIT, PROGRAM_LIMIT, read_file};
-use crate::status::Status;
+use rmt_drive::status::Status;
 use rmt_io::shelf::Shelf;
 use std::alloc::Global;
 

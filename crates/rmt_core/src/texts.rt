@@ -8,15 +8,15 @@ ghost use Rattle.rmt_check.specs.Means.{Means, fault_at};
 ghost use Rattle.rmt_entries.specs.Entries.{entries_of};
 ghost use Rattle.rmt_entries.specs.declared.fault.EntryFault.TheVariants.{At};
 ghost use Rattle.rmt_io.specs.Outside.{OnlyPrinted};
-ghost use Rattle.rmt_core.specs.Telling.{Tells};
+ghost use Rattle.rmt_drive.specs.Telling.{Tells};
 ghost use Rattle.rmt_core.specs.TextFaults.{text_fault_line, text_fault_status};
 
-use crate::status::Status;
-use crate::telling::tell;
 use rmt_ast::entry::EntryLists;
 use rmt_ast::program::Program;
 use rmt_check::laws::one_meaning;
 use rmt_check::read_program;
+use rmt_drive::status::Status;
+use rmt_drive::telling::tell;
 use rmt_entries::entries as read_entries;
 use rmt_entries::fault::EntryFault;
 use rmt_io::sink::Sink;

@@ -3,7 +3,7 @@
 ghost use Rattle.std.specs.Prelude.{◌≡◌, ◌⊎◌, ◌↔◌, None, IsTrue};
 ghost use Rattle.rmt_io.specs.Outside.{ReadingFailed, WritingFailed, GainedNone, PrintingFailed, OnlyPrinted};
 ghost use Rattle.rmt_core.specs.Commands.{IfCommand, IsPossible, PrintsAtEnd, ReadsNone, WritesFiles, command_of, words_of};
-ghost use Rattle.rmt_core.specs.Ends.{Answered, outside};
+ghost use Rattle.rmt_drive.specs.Ends.{Answered, outside};
 ghost use Rattle.rmt_core.specs.Gives.{Gives};
 
 use crate::commands::{Command, command_from};
@@ -13,10 +13,10 @@ use crate::plain::plain;
 use crate::reporting::report;
 use crate::sampling::sample;
 use crate::simulating::simulate;
-use crate::status::Status;
 use crate::switching::switch;
 use crate::verifying::verify;
-use crate::watch::Watch;
+use rmt_drive::status::Status;
+use rmt_drive::watch::Watch;
 use rmt_io::shelf::Shelf;
 use rmt_io::sink::Sink;
 use std::alloc::Global;

@@ -3,18 +3,18 @@
 ghost use Rattle.std.specs.Prelude.{◌≡◌, ◌≤◌, ◌⊎◌, [], IfOk, length, string_bytes};
 ghost use Rattle.rmt_io.specs.Outside.{ShelfState, GainedNone, OnlyPrinted};
 ghost use Rattle.rmt_core.specs.Commands.{IsPossible, Verify};
-ghost use Rattle.rmt_core.specs.Ends.{ReadsAndPrints, outside};
-ghost use Rattle.rmt_core.specs.Files.{entries_limit, program_limit};
-ghost use Rattle.rmt_core.specs.Telling.{Tells};
+ghost use Rattle.rmt_drive.specs.Ends.{ReadsAndPrints, outside};
+ghost use Rattle.rmt_drive.specs.Files.{entries_limit, program_limit};
+ghost use Rattle.rmt_drive.specs.Telling.{Tells};
 ghost use Rattle.rmt_core.specs.Verifying.{ChecksTexts, GivesVerify, answer_line, bad_map_line};
 
 use crate::bad_image::tell_bad_image;
 use crate::loading::{IMAGE_LIMIT, MAP_LIMIT, read_file};
-use crate::status::Status;
-use crate::telling::tell;
 use crate::text_files::{TextFiles, read_texts};
 use crate::texts::{tell_text_fault, understand};
 use rmt_check::laws::one_meaning;
+use rmt_drive::status::Status;
+use rmt_drive::telling::tell;
 use rmt_image::read_image;
 use rmt_io::shelf::Shelf;
 use rmt_io::sink::Sink;

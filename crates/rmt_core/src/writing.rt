@@ -2,13 +2,13 @@
 
 ghost use Rattle.std.specs.Prelude.{◌≡◌, ◌≢◌, ◌⊎◌, [], Err, IsTrue, IfErr, OnOk, string_bytes};
 ghost use Rattle.rmt_io.specs.Outside.{HasFile, KeepsFiles, OnlyWrote, WritingFailed};
-ghost use Rattle.rmt_core.specs.Ends.{AreSame, BrokenOff, WritesAndPrints, outside};
-ghost use Rattle.rmt_core.specs.Files.{all_written};
-ghost use Rattle.rmt_core.specs.Given.{Stores};
+ghost use Rattle.rmt_drive.specs.Ends.{AreSame, BrokenOff, WritesAndPrints, outside};
+ghost use Rattle.rmt_drive.specs.Files.{all_written};
+ghost use Rattle.rmt_drive.specs.Given.{Stores};
 ghost use Rattle.rmt_core.specs.Writing.{StoodUpTo, writes_of};
 
-use crate::printing::end_with;
-use crate::status::Status;
+use rmt_drive::printing::end_with;
+use rmt_drive::status::Status;
 use rmt_io::shelf::{Shelf, ShelfFault};
 use rmt_io::sink::Sink;
 use std::alloc::Global;

@@ -1,17 +1,17 @@
 -- Worked rows of reading: items, and the first fault that is met.
-use Rattle.std.proofs.Common.{◌≡◌, ℕ, List, [], ◌∷◌, ◌++◌, Some, None, Ok, Err, refl, true, false}
+use Rattle.std.proofs.Common.{◌≡◌, ℕ, List, [], ◌∷◌, ◌++◌, Bool, Some, None, Ok, Err, refl, true, false}
 use Rattle.std.specs.Prelude.{codes}
 use Rattle.rmt_bits.specs.declared.lane.Lane.{Lane}
 use Rattle.rmt_ast.specs.declared.program.Kind.TheVariants as table
 use Rattle.rmt_ast.specs.declared.names.Names.{Names}
-use Rattle.rmt_image.specs.Types.{Config, ParserState, Unit as ChipUnit, SlotUnit, Operation, Source, TailOf}
-use Rattle.rmt_config.specs.declared.config.OpKind.TheVariants as kind
+use Rattle.rmt_image.specs.Types.{Config, ParserState, SlotUnit, Memory, Vliw, Source, TailOf}
 use Rattle.rmt_config.specs.declared.config.Unit.TheVariants.{Slot}
 use Rattle.rmt_config.specs.declared.config.Next.TheVariants as next
-use Rattle.rmt_config.specs.declared.config.Extract.TheVariants.{Bits, One}
+use Rattle.rmt_config.specs.declared.config.Extract.TheVariants.{Bits}
 use Rattle.rmt_config.specs.declared.config.Memory.TheVariants.{Without, Exact, Ternary}
 use Rattle.rmt_config.specs.declared.config.Source.TheVariants.{Word, Held, Constant}
 use Rattle.rmt_config.specs.Spelling.{spelled_config}
+use Rattle.rmt_config.proofs.ExamplesParts.{lane, copy, instruction, plain_slot, plain_stage, one_byte}
 use Rattle.rmt_config.specs.ImageSpelling.{spelled_names}
 use Rattle.rmt_image.specs.declared.fault.ImageFault.TheVariants as image
 use Rattle.rmt_image.specs.declared.fault.ReadFault.TheVariants.{Short, Form}
@@ -26,18 +26,10 @@ lane-read : lane_at (64 ∷ 0 ∷ 9 ∷ 7 ∷ []) ≡ Ok (record { word = 64; lo
 unfolding lane_at lane_from_at word_at byte_at
 lane-read = refl
 
--- no word 224, though the bytes end behind it; 17 bits of a word of 16
-lane-no_word : lane_at (224 ∷ []) ≡ Err Form
+-- no word 224, though the bytes end behind it; 17 bits of a word of 16; no length
+lane-refused : (lane_at (224 ∷ []) ≡ Err Form) × (lane_at (64 ∷ 0 ∷ 17 ∷ []) ≡ Err Form) × (lane_at (64 ∷ 0 ∷ []) ≡ Err Short)
 unfolding lane_at lane_from_at word_at byte_at
-lane-no_word = refl
-
-lane-wide : lane_at (64 ∷ 0 ∷ 17 ∷ []) ≡ Err Form
-unfolding lane_at lane_from_at word_at byte_at
-lane-wide = refl
-
-lane-short : lane_at (64 ∷ 0 ∷ []) ≡ Err Short
-unfolding lane_at lane_from_at word_at byte_at
-lane-short = refl
+lane-refused = (refl, refl, refl)
 
 -- a header of one byte whose lane has only seven bits
 header-gap : header_at (1 ∷ 0 ∷ 1 ∷ 1 ∷ 1 ∷ 2 ∷ 0 ∷ 7 ∷ []) ≡ Err Form
@@ -50,13 +42,10 @@ state-read : state_at (2 ∷ 0 ∷ 12 ∷ 9 ∷ []) ≡ Ok (record { lookups = 0
 unfolding state_at offset_at byte_at items_at
 state-read = refl
 
-state-not_rising : state_at (2 ∷ 12 ∷ 12 ∷ []) ≡ Err Form
+-- offsets that do not rise, and one above 127
+state-refused : (state_at (2 ∷ 12 ∷ 12 ∷ []) ≡ Err Form) × (state_at (1 ∷ 128 ∷ []) ≡ Err Form)
 unfolding state_at offset_at byte_at items_at
-state-not_rising = refl
-
-state-far : state_at (1 ∷ 128 ∷ []) ≡ Err Form
-unfolding state_at offset_at byte_at items_at
-state-far = refl
+state-refused = (refl, refl)
 
 states-none : states_at (0 ∷ 0 ∷ []) ≡ Err Form
 unfolding states_at number_at
@@ -125,19 +114,13 @@ gate-no_test = refl
 
 -- ---- memory
 
--- a slot with a key of 8 bits and an action, whose data has 9 bits, and which is counted
+-- a slot with a key and an action, whose data has 9 bits
+abbrev with_data : ℕ → Bool → Lane → Memory → SlotUnit
+with_data node counted key memory = record { node = node; guard = None; counted = counted; actions = 1; last = true; held = 9; keys = key ∷ []; memory = memory; numbers = [] }
+
+-- with a key of 8 bits, and counted
 abbrev keyed : SlotUnit
-keyed = record {
-  node = 0;
-  guard = None;
-  counted = true;
-  actions = 1;
-  last = true;
-  held = 9;
-  keys = record { word = 0; low = 0; len = 8 } ∷ [];
-  memory = Without;
-  numbers = [];
-}
+keyed = with_data 0 true (lane 0 0 8) Without
 
 -- one quantum of units of one block, with a cell a row: four key blocks, a record block and four counter blocks
 memory-exact : memory_at keyed (1 ∷ 1 ∷ 0 ∷ 1 ∷ 1 ∷ 0 ∷ 0 ∷ 1 ∷ 2 ∷ 3 ∷ 4 ∷ 5 ∷ 6 ∷ 7 ∷ 8 ∷ 9 ∷ [])
@@ -197,62 +180,16 @@ trow-read = refl
 -- ---- a whole configuration
 
 -- three tables: `a` writes the metadata that `b` looks up, and `c` clears it in b's stage
-abbrev without_memory : ℕ → ChipUnit
-without_memory node =
-    Slot (record { node = node; guard = None; counted = false; actions = 0; last = true; held = 0; keys = []; memory = Without; numbers = [] })
-
-abbrev metadata : Lane
-metadata = record { word = 2; low = 0; len = 8 }
-
-abbrev copy : Lane → Source → Operation
-copy lane source = record { word = lane.word; low = lane.low; len = lane.len; kind = kind.Copy; left = source; right = Constant 0 }
+abbrev metadata : Source → Vliw
+metadata source = instruction (copy 2 0 8 source ∷ [])
 
 abbrev strict_and_weak : Config
-strict_and_weak = record {
-  seed = 0;
-  in_port = record { word = 64; low = 0; len = 9 };
-  out_port = record { word = 65; low = 0; len = 9 };
-  drop = record { word = 0; low = 0; len = 1 };
-  headers = record { valid = record { word = 0; low = 1; len = 1 }; bytes = 1; pieces = record { word = 1; low = 0; len = 8 } ∷ [] } ∷ [];
-  parser = record {
-    states = record { lookups = [] } ∷ [];
-    entries = record {
-      state = 0;
-      value = 0;
-      mask = 0;
-      need = 1;
-      advance = 1;
-      next = next.Accept;
-      extracts = One (record { word = 0; low = 1; len = 1 }) ∷ Bits 0 (record { word = 1; low = 0; len = 8 }) ∷ [];
-    } ∷ [];
-    tails = [];
-  };
-  stages =
-      record { start = 0; units = without_memory 0 ∷ []; code = record { ops = copy metadata (Word 1 0) ∷ [] } ∷ []; srows = []; trows = [] }
-      ∷ record {
-        start = 12;
-        units =
-            Slot (record {
-              node = 1;
-              guard = None;
-              counted = false;
-              actions = 1;
-              last = true;
-              held = 9;
-              keys = metadata ∷ [];
-              memory = Exact 1 3 1 0 (0 ∷ 1 ∷ 2 ∷ 3 ∷ []) (4 ∷ []) [];
-              numbers = [];
-            })
-            ∷ without_memory 2 ∷ [];
-        code =
-            record { ops = copy (record { word = 65; low = 0; len = 9 }) (Held 0) ∷ [] }
-            ∷ record { ops = [] } ∷ record { ops = copy metadata (Constant 0) ∷ [] } ∷ [];
-        srows = [];
-        trows = [];
-      }
-      ∷ [];
-  names = None;
-}
+strict_and_weak =
+    one_byte
+    (plain_stage 0 (plain_slot 0 None ∷ []) (metadata (Word 1 0) ∷ [])
+    ∷ plain_stage 12 (Slot (with_data 1 false (lane 2 0 8) (Exact 1 3 1 0 (0 ∷ 1 ∷ 2 ∷ 3 ∷ []) (4 ∷ []) [])) ∷ plain_slot 2 None ∷ [])
+    (instruction (copy 65 0 9 (Held 0) ∷ []) ∷ instruction [] ∷ metadata (Constant 0) ∷ [])
+    ∷ [])
 
 -- its bytes behind the version
 abbrev strict_and_weak_bytes : List ℕ

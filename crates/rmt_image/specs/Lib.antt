@@ -5,3 +5,4 @@ pub mod ReadingNames
 pub mod ReadingTails
 pub mod Reading
 pub mod Size
+pub mod Formats

@@ -301,17 +301,7 @@ unfoldable pub numbers_at : Memory → Reader (List CellNumber)
 numbers_at memory bytes = listed (kept (may_have_numbers memory) (number_at 4)) (list_at cell_number_at) bytes
 
 abbrev pub slot_of_parts : SlotUnit × (Memory × List CellNumber) → SlotUnit
-slot_of_parts x = record {
-  node = x.0.node;
-  guard = x.0.guard;
-  counted = x.0.counted;
-  actions = x.0.actions;
-  last = x.0.last;
-  held = x.0.held;
-  keys = x.0.keys;
-  memory = x.1.0;
-  numbers = x.1.1;
-}
+slot_of_parts x = record x.0 { memory = x.1.0; numbers = x.1.1 }
 
 unfoldable pub slot_at : Reader SlotUnit
 slot_at bytes = made slot_of_parts (behind slot_head_at (λ s. behind (memory_at s) numbers_at)) bytes

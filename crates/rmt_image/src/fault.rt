@@ -5,7 +5,7 @@ ghost use Rattle.rmt_image.specs.declared.fault.ImageFault.TheVariants.{NoMemory
 ghost use Rattle.rmt_image.specs.declared.fault.ReadError.TheVariants.{Memory};
 
 use rmt_config::limits::LimitHit;
-use std::alloc::{AllocError, AllocFailed};
+use std::alloc::AllocError;
 use thiserror::Error;
 
 /// Why an image was not read or written.
@@ -35,14 +35,6 @@ impl From<AllocError> for ImageFault {
     }
 }
 
-impl<T: Drop> From<AllocFailed<T>> for ImageFault {
-    ghost from_gives = { λ _ e. e ≡ NoMemory };
-
-    fn from(_e: AllocFailed<T>) -> ImageFault {
-        ImageFault::NoMemory
-    }
-}
-
 /// What is wrong with the bytes of a configuration: the first fault from the front.
 #[derive(Clone, Copy, Debug, PartialEq, Eq)]
 pub enum ReadFault {
@@ -66,10 +58,5 @@ impl From<AllocError> for ReadError {
     }
 }
 
-impl<T: Drop> From<AllocFailed<T>> for ReadError {
-    ghost from_gives = { λ _ e. e ≡ Memory };
-
-    fn from(_e: AllocFailed<T>) -> ReadError {
-        ReadError::Memory
-    }
-}
+/// An item from the front of bytes and the bytes behind it, or what is wrong there.
+pub type Read<'a, T> = Result<(T, &'a [u8]), ReadError>;

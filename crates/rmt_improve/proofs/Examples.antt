@@ -3,28 +3,13 @@ use Rattle.std.proofs.Common.{◌≡◌, ℕ, ◌+◌, [], ◌∷◌, ◌++◌, 
 use Rattle.std.specs.Prelude.{replicate}
 use Rattle.std.specs.List.{range_with_len}
 use Rattle.std.specs.Result.{result_map_both}
-use Rattle.rmt_ast.specs.declared.deps.Edge.{Edge}
-use Rattle.rmt_ast.specs.declared.deps.EdgeKind.{EdgeKind}
 use Rattle.rmt_ast.specs.declared.deps.EdgeKind.TheVariants.{Match, Action, Successor, Word}
 use Rattle.rmt_ast.specs.declared.deps.Deps.{Deps}
-use Rattle.rmt_pack.specs.declared.placement.Part.{Part}
 use Rattle.rmt_place.specs.declared.demand.Demand.{Demand}
 use Rattle.rmt_place.specs.Starting.{stages_in}
+use Rattle.rmt_place.proofs.Examples.{part, edge, no_edges, keyless}
 use Rattle.rmt_improve.specs.Orders.{blocks_of, by_weight, exchanged, heights_of}
 use Rattle.rmt_improve.specs.Tries.{best_try, is_better_than, is_placed_better, last_start, order_of_try}
-
-abbrev part : ℕ → ℕ → ℕ → Part
-part node stage quanta = record { node = node; stage = stage; quanta = quanta }
-
-abbrev edge : ℕ → ℕ → EdgeKind → Edge
-edge from to kind = record { from = from; to = to; kind = kind }
-
-abbrev no_edges : Deps
-no_edges = record { field = []; word = [] }
-
--- a table without a key
-abbrev keyless : Demand
-keyless = record { quanta = 1; sram = 0; tcam = 0; exact_words = []; ternary_words = []; slots = 1; instructions = 1; held = 0; gates = 0 }
 
 -- a ternary table of one quantum of so many TCAM blocks
 abbrev ternary : ℕ → Demand

@@ -12,6 +12,7 @@ use rmt_tests::fixtures::texts::program_of;
 use rmt_vliw::fault::{ActionDeep, VliwFault};
 use rmt_vliw::{default_instruction, fold_action, instruction};
 use std::alloc::{AllocError, Global};
+use std::process::Abort;
 use std::test::*;
 
 /// The widths of the parameters and the values of the first action of a text, folded; or which field is too deep.
@@ -176,32 +177,26 @@ fn put(word: u8, len: u8, left: Source) -> Operation {
     }
 }
 
+/// Compares an instruction with one that puts values into `out_port` and into both words of the field.
+fn sends(rt: &impl Abort, send: &Vliw, port: Source, high: Source, low: Source) {
+    let wanted = [put(65, 9, port), put(160, 32, high), put(161, 32, low)];
+    assert_eq!(rt; send.ops.as_slice(), wanted.as_slice());
+}
+
 #[test]
 fn reads_parameters(rt: HostRuntime) -> Result<(), Fail> {
     let send = first_instruction(rt.alloc(), SEND)?;
-    assert_eq!(rt;
-        send.ops.as_slice(),
-        [
-            put(65, 9, Source::Held { low: 0 }),
-            put(160, 32, Source::Held { low: 9 }),
-            put(161, 32, Source::Held { low: 41 })
-        ]
-        .as_slice()
-    );
+    let port = Source::Held { low: 0 };
+    let high = Source::Held { low: 9 };
+    sends(&rt, &send, port, high, Source::Held { low: 41 });
     Ok(())
 }
 
 #[test]
 fn takes_arguments(rt: HostRuntime) -> Result<(), Fail> {
     let send = first_default(rt.alloc(), SEND)?;
-    assert_eq!(rt;
-        send.ops.as_slice(),
-        [
-            put(65, 9, Source::Constant { value: 3 }),
-            put(160, 32, Source::Constant { value: 11 }),
-            put(161, 32, Source::Constant { value: 7 })
-        ]
-        .as_slice()
-    );
+    let port = Source::Constant { value: 3 };
+    let high = Source::Constant { value: 11 };
+    sends(&rt, &send, port, high, Source::Constant { value: 7 });
     Ok(())
 }

@@ -4,9 +4,7 @@
 ghost use Rattle.std.specs.Prelude.{◌<◌, All, IsTrue};
 ghost use Rattle.rmt_ast.specs.declared.entry.Entry.{Entry as EntryOf};
 
-use crate::layouts::programs::{
-    CROSSBAR, LARGE_TABLES, SPLIT_TERNARY, STRICT_AND_WEAK, TWO_FIELDS_ONE_WORD,
-};
+use crate::layouts::programs::{CROSSBAR, LARGE_TABLES, SPLIT_TERNARY, TWO_FIELDS_ONE_WORD};
 use crate::layouts::{HITS, long_chain, push_hits, push_parts, push_proof};
 use rmt_ast::entry::{Entry, EntryLists};
 use rmt_build::build;
@@ -16,7 +14,7 @@ use rmt_config::config::{Config, Memory, SlotUnit, Unit};
 use rmt_entries::entries;
 use rmt_phv::places::Places;
 use rmt_refine::map::CellOf;
-use rmt_tests::fixtures::programs::REALISTIC;
+use rmt_tests::fixtures::programs::{REALISTIC, STRICT_AND_WEAK};
 use rmt_tests::fixtures::texts::{program_of, repeated};
 use std::alloc::{AllocError, Global};
 use std::process::Abort;

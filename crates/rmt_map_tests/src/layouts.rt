@@ -12,7 +12,7 @@ pub(crate) mod programs;
 
 use crate::layouts::programs::{
     ARMS, CROSSBAR, LARGE_TABLES, NO_NODE, SHARED, SIXES_BEFORE_FIVES, SIXTEEN_AND_ONE,
-    SMALL_BEFORE_WIDE, SMALLEST, SPLIT_TERNARY, STRICT_AND_WEAK, TWO_FIELDS_ONE_WORD,
+    SMALL_BEFORE_WIDE, SMALLEST, SPLIT_TERNARY, TWO_FIELDS_ONE_WORD,
 };
 use rmt_ast::deps::{Deps, Edge, EdgeKind};
 use rmt_ast::program::Program;
@@ -28,7 +28,7 @@ use rmt_phv::pack_fields;
 use rmt_phv::places::Places;
 use rmt_place::fault::StageFull;
 use rmt_place::{offsets, place};
-use rmt_tests::fixtures::programs::REALISTIC;
+use rmt_tests::fixtures::programs::{REALISTIC, STRICT_AND_WEAK};
 use rmt_tests::fixtures::texts::{program_of, repeated};
 use std::alloc::{AllocError, Global};
 use std::process::Abort;

@@ -1,4 +1,4 @@
-//! The tests of the back end and of what stands on it: worked rows and calls with ample memory, on public calls alone.
+//! The tests of the back end and of runs on what it makes: worked rows and calls with ample memory, on public calls alone.
 #![tactic(auto)]
 
 #[cfg(test)]
@@ -8,18 +8,10 @@ mod building;
 #[cfg(test)]
 mod formats;
 #[cfg(test)]
-mod joins;
-#[cfg(test)]
 mod layouts;
-#[cfg(test)]
-mod maps;
 #[cfg(test)]
 mod memories;
 #[cfg(test)]
 mod packing;
 #[cfg(test)]
-mod parsers;
-#[cfg(test)]
 mod running;
-#[cfg(test)]
-mod verifying;

@@ -13,6 +13,7 @@ use rmt_pack::record::{read_record, write_record};
 use rmt_pack::rows::Rows;
 use rmt_pack::shape::{EXACT, Shape, TERNARY};
 use std::alloc::{AllocError, Global};
+use std::process::Abort;
 use std::test::*;
 
 /// That many blocks, numbered from one on.
@@ -306,56 +307,69 @@ fn wide_cells_stand_and_read_back(rt: HostRuntime) -> Result<(), Fail> {
 }
 
 /// A cell, its record, and of the row where it stands the block, the number and the bits.
-const RECORDS: [(u32, [u8; 2], u8, u16, u128); 7] = [
-    (0, [0xbe, 0xef], 8, 0, 0xffff_0000_0000_0000_0000_8001_beef),
-    (1, [0x80, 0x01], 8, 0, 0xffff_0000_0000_0000_0000_8001_beef),
-    (6, [0xff, 0xff], 8, 0, 0xffff_0000_0000_0000_0000_8001_beef),
-    (7, [0x12, 0x34], 8, 1, 0x1234),
-    (2048, [0x01, 0x00], 10, 0, 0x0100),
-    (12288, [0x00, 0x01], 8, 877, 0x1_0000_0000_0000_0000_0000),
-    (16383, [0xbe, 0xef], 11, 146, 0xbeef_0000),
-];
+type Record = (u32, &'static [u8], u8, u16, u128);
 
-/// Seven records a row: the first and last of a row, the next row, the next quantum, the next unit, the last.
-#[test]
-fn records_stand_and_read_back(rt: HostRuntime) -> Result<(), Fail> {
-    let part = small_part(rt.alloc())?;
+/// Writes records into a part whose records have that many bytes, at most 3, and compares what stands then.
+fn records_stand(
+    rt: &(impl Abort + AllocGlobal),
+    part: &Shape,
+    cells: u32,
+    bytes: usize,
+    records: &[Record],
+) -> Result<(), Fail>
+    requires shape { IsShape part.now }
+    requires cells { cells_in part.now ≡ cells }
+    requires held { part.now.held ≡ 8 * bytes }
+{
+    assert!(rt; bytes <= 3);
     let mut rows = Rows::new(rt.alloc())?;
-    for &(cell, held, _, _, _) in &RECORDS {
-        let is_put = put_record(&mut rows, &part, 16384, 2, cell, &held);
+    for &(cell, held, _, _, _) in records {
+        let is_put = put_record(&mut rows, part, cells, bytes, cell, held);
         assert!(rt; is_put, "cell {cell}");
     }
-    for &(cell, held, block, row, bits) in &RECORDS {
-        let mut read = [9; 2];
-        let is_read = get_record(&rows, &part, 16384, 2, cell, &mut read);
-        let seen = (row_at(&rows, block, row), is_read, read);
-        assert!(rt; seen == (Some(bits), true, held), "cell {cell}");
+    for &(cell, held, block, row, bits) in records {
+        let mut read = [9; 3];
+        let is_read = get_record(&rows, part, cells, bytes, cell, &mut read[..bytes]);
+        let seen = (row_at(&rows, block, row), is_read);
+        assert!(rt;
+            seen == (Some(bits), true) && &read[..bytes] == held,
+            "cell {cell}"
+        );
     }
     Ok(())
 }
 
-const TERNARY_RECORDS: [(u32, [u8; 3], u8, u16, u128); 2] = [
-    (0, [0x01, 0x02, 0xff], 0, 0, 0x0102ff),
+/// Seven records a row: the first and last of a row, the next row, the next quantum, the next unit, the last.
+const RECORDS: [Record; 7] = [
+    (0, &[0xbe, 0xef], 8, 0, 0xffff_0000_0000_0000_0000_8001_beef),
+    (1, &[0x80, 0x01], 8, 0, 0xffff_0000_0000_0000_0000_8001_beef),
+    (6, &[0xff, 0xff], 8, 0, 0xffff_0000_0000_0000_0000_8001_beef),
+    (7, &[0x12, 0x34], 8, 1, 0x1234),
+    (2048, &[0x01, 0x00], 10, 0, 0x0100),
+    (12288, &[0x00, 0x01], 8, 877, 0x1_0000_0000_0000_0000_0000),
+    (16383, &[0xbe, 0xef], 11, 146, 0xbeef_0000),
+];
+
+#[test]
+fn records_stand_and_read_back(rt: HostRuntime) -> Result<(), Fail> {
+    let part = small_part(rt.alloc())?;
+    records_stand(&rt, &part, 16384, 2, &RECORDS)
+}
+
+/// The records of the first and the last row of a ternary part.
+const TERNARY_RECORDS: [Record; 2] = [
+    (0, &[0x01, 0x02, 0xff], 0, 0, 0x0102ff),
     (
         4095,
-        [0xab, 0xcd, 0xef],
+        &[0xab, 0xcd, 0xef],
         1,
         511,
         0xab_cdef_0000_0000_0000_0000_00,
     ),
 ];
 
-/// The records of the first and the last row of a ternary part.
 #[test]
 fn ternary_records_stand_and_read_back(rt: HostRuntime) -> Result<(), Fail> {
     let part = ternary_part(rt.alloc())?;
-    let mut rows = Rows::new(rt.alloc())?;
-    for &(cell, held, block, row, bits) in &TERNARY_RECORDS {
-        let mut read = [9; 3];
-        let is_put = put_record(&mut rows, &part, 4096, 3, cell, &held);
-        let is_read = get_record(&rows, &part, 4096, 3, cell, &mut read);
-        let seen = (row_at(&rows, block, row), is_put && is_read, read);
-        assert!(rt; seen == (Some(bits), true, held), "row {cell}");
-    }
-    Ok(())
+    records_stand(&rt, &part, 4096, 3, &TERNARY_RECORDS)
 }

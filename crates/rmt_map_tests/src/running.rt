@@ -3,7 +3,7 @@
 ghost use Rattle.std.specs.Prelude.{[], IfOk};
 ghost use Rattle.rmt_config.specs.declared.config.Config.{Config};
 ghost use Rattle.rmt_chip.specs.Stands.{Stands};
-ghost use Rattle.rmt_core.specs.CommitsOf.{AreCommitsOf};
+ghost use Rattle.rmt_drive.specs.CommitsOf.{AreCommitsOf};
 
 mod flight;
 

@@ -10,3 +10,16 @@ pub mod RecordLaws
 pub mod Examples
 mod FormatExamples
 mod TcamExamples
+pub mod BesideLaws
+pub mod ContentLaws
+pub mod EntryLaws
+pub mod FindLaws
+pub mod LayoutLaws
+pub mod PartLaws
+pub mod PlacedLaws
+pub mod RankLaws
+pub mod RoomLaws
+pub mod RoomOrderLaws
+pub mod SameRiseLaws
+pub mod SortedLaws
+pub mod SpelledFieldLaws

@@ -6,3 +6,4 @@ pub mod Rows
 pub mod Head
 pub mod Shape
 pub mod Cells
+pub mod Slots

@@ -17,20 +17,20 @@ use Rattle.rmt_place.specs.declared.demand.Demand.{Demand}
 use Rattle.rmt_place.specs.Placing.{order_of, placement_in, placement_of, placement}
 use Rattle.rmt_place.specs.Starting.{starts_of}
 
-abbrev part : ℕ → ℕ → ℕ → Part
+abbrev pub part : ℕ → ℕ → ℕ → Part
 part node stage quanta = record { node = node; stage = stage; quanta = quanta }
 
-abbrev edge : ℕ → ℕ → EdgeKind → Edge
+abbrev pub edge : ℕ → ℕ → EdgeKind → Edge
 edge from to kind = record { from = from; to = to; kind = kind }
 
-abbrev no_edges : Deps
+abbrev pub no_edges : Deps
 no_edges = record { field = []; word = [] }
 
 abbrev places_of : Program → List (List Lane)
 places_of p = result_unwrap_or (packing p) []
 
 -- a table without a key
-abbrev keyless : Demand
+abbrev pub keyless : Demand
 keyless = record { quanta = 1; sram = 0; tcam = 0; exact_words = []; ternary_words = []; slots = 1; instructions = 1; held = 0; gates = 0 }
 
 -- an exact table of so many quanta of so many blocks, with one listed action, whose key lies in these words

@@ -314,6 +314,26 @@ module _ (p : Program) (places : List (List Lane)) (frame : List ℕ) (goes : �
             (omega (arith, whole)))
       ]
 
+  -- one state of the parser, and one header of the walk
+  state_same : IsProgram p → KeepsApart p places → refusal p ≡ None → All (λ b. b < 256) frame → (n : ℕ) (r : Reached) (w : walks.Reached) → n < length p.headers → AreInStep p places frame r w
+      → EndsAs places frame (taken goes (plain p places) frame (entry_of (plain p places) n (value_at frame r.at (slice_get (plain p places).states n))) r) (walks.step next p frame n (slice_get p.headers n) w)
+  state_same good keeps fits small n r w lt in_step =
+      let parser : ParserConfig = plain p places in
+      let item = slice_get-item p.headers n lt in
+      let h : Header = item.0 in
+      let found : slice_get p.headers n ≡ Some h = item.1 in
+      let looked : ℕ = lookup_value frame r.at (state_of p h) in
+      let state : slice_get parser.states n ≡ Some (state_of p h) = slice_get-map (state_of p) p.headers n ∙ ap (option_map (state_of p)) found in
+      let m : IsMet p places n h looked = met p places n h looked found in
+      let tail : Option TailOf = option_map (λ t. tail_at p n h t m.number) h.tail in
+      ends_same places frame (taken goes parser frame (entry_of parser n (value_at frame r.at (slice_get parser.states n))) r) (step goes frame tail (Some (entry_to places n h m.value m.mask m.target)) r) (walks.step next p frame n (slice_get p.headers n) w) (walks.step next p frame n (Some h) w)
+      (ap (λ (o : Option ParserState). taken goes parser frame (entry_of parser n (value_at frame r.at o)) r) state
+      ∙ ap (λ (o : Option ℕ). taken goes parser frame o r) m.taken
+      ∙ ap (λ (o : Option TailOf). step goes frame o (slice_get parser.entries m.number) r) m.told
+      ∙ ap (λ (o : Option ParserEntry). step goes frame tail o r) m.there)
+      (ap (λ (o : Option Header). walks.step next p frame n o w) found)
+      (header_same good keeps fits small n h r w m.number m.value m.mask m.target found lt m.to in_step)
+
 -- ---- all headers
 
 module _ (p : Program) (places : List (List Lane)) (good : IsProgram p) (keeps : KeepsApart p places) (fits : refusal p ≡ None) (frame : List ℕ) (small : All (λ b. b < 256) frame) where
@@ -321,44 +341,14 @@ module _ (p : Program) (places : List (List Lane)) (good : IsProgram p) (keeps :
   same_from : (k n : ℕ) (r : Reached) (w : walks.Reached) → n < length p.headers → AreInStep p places frame r w → EndsAs places frame (parse_from k (plain p places) frame n r) (walk_from k p frame n w)
   same_from zero n r w lt in_step = refl
   same_from (suc k) n r w lt in_step =
-      let parser : ParserConfig = plain p places in
-      let goes : ℕ → Reached → Parse = parse_from k parser frame in
-      let item = slice_get-item p.headers n lt in
-      let h : Header = item.0 in
-      let found : slice_get p.headers n ≡ Some h = item.1 in
-      let looked : ℕ = lookup_value frame r.at (state_of p h) in
-      let state : slice_get parser.states n ≡ Some (state_of p h) = slice_get-map (state_of p) p.headers n ∙ ap (option_map (state_of p)) found in
-      let m : IsMet p places n h looked = met p places n h looked found in
-      let tail : Option TailOf = option_map (λ t. tail_at p n h t m.number) h.tail in
-      ends_same places frame (parse_from (suc k) parser frame n r) (step goes frame tail (Some (entry_to places n h m.value m.mask m.target)) r) (walk_from (suc k) p frame n w) (walks.step (walk_from k p frame) p frame n (Some h) w)
-      (ap (λ (o : Option ParserState). taken goes parser frame (entry_of parser n (value_at frame r.at o)) r) state
-      ∙ ap (λ (o : Option ℕ). taken goes parser frame o r) m.taken
-      ∙ ap (λ (o : Option TailOf). step goes frame o (slice_get parser.entries m.number) r) m.told
-      ∙ ap (λ (o : Option ParserEntry). step goes frame tail o r) m.there)
-      (ap (λ (o : Option Header). walks.step (walk_from k p frame) p frame n o w) found)
-      (header_same p places frame goes (walk_from k p frame) (λ j x y below both. same_from k j x y below both) good keeps fits small n h r w m.number m.value m.mask m.target found lt m.to in_step)
+      state_same p places frame (parse_from k (plain p places) frame) (walk_from k p frame) (λ j x y below both. same_from k j x y below both) good keeps fits small n r w lt in_step
 
   -- the same where both are cut off after so many
   pub same_within : (rest : Parse) (other : Walk) → EndsAs places frame rest other → (k n : ℕ) (r : Reached) (w : walks.Reached) → n < length p.headers → AreInStep p places frame r w
       → EndsAs places frame (parse_within rest k (plain p places) frame n r) (walk_within other k p frame n w)
   same_within rest other ends zero n r w lt in_step = ends
   same_within rest other ends (suc k) n r w lt in_step =
-      let parser : ParserConfig = plain p places in
-      let goes : ℕ → Reached → Parse = parse_within rest k parser frame in
-      let item = slice_get-item p.headers n lt in
-      let h : Header = item.0 in
-      let found : slice_get p.headers n ≡ Some h = item.1 in
-      let looked : ℕ = lookup_value frame r.at (state_of p h) in
-      let state : slice_get parser.states n ≡ Some (state_of p h) = slice_get-map (state_of p) p.headers n ∙ ap (option_map (state_of p)) found in
-      let m : IsMet p places n h looked = met p places n h looked found in
-      let tail : Option TailOf = option_map (λ t. tail_at p n h t m.number) h.tail in
-      ends_same places frame (parse_within rest (suc k) parser frame n r) (step goes frame tail (Some (entry_to places n h m.value m.mask m.target)) r) (walk_within other (suc k) p frame n w) (walks.step (walk_within other k p frame) p frame n (Some h) w)
-      (ap (λ (o : Option ParserState). taken goes parser frame (entry_of parser n (value_at frame r.at o)) r) state
-      ∙ ap (λ (o : Option ℕ). taken goes parser frame o r) m.taken
-      ∙ ap (λ (o : Option TailOf). step goes frame o (slice_get parser.entries m.number) r) m.told
-      ∙ ap (λ (o : Option ParserEntry). step goes frame tail o r) m.there)
-      (ap (λ (o : Option Header). walks.step (walk_within other k p frame) p frame n o w) found)
-      (header_same p places frame goes (walk_within other k p frame) (λ j x y below both. same_within rest other ends k j x y below both) good keeps fits small n h r w m.number m.value m.mask m.target found lt m.to in_step)
+      state_same p places frame (parse_within rest k (plain p places) frame) (walk_within other k p frame) (λ j x y below both. same_within rest other ends k j x y below both) good keeps fits small n r w lt in_step
 
 -- ---- the start
 

@@ -158,6 +158,20 @@ module _ (p : Program) (low : ℕ → ℕ) (n mask value : ℕ) (s : List ℕ) w
       ∙ here ∙ tests.0.value_is_masked ∙ sym values.0)
       (runs_from_pass fs ts tests.1 (All-tail (λ g. slice_index s g ≡ slice n (low g) (width_of p g)) f fs holds) masks.1 values.1 parts.1)
 
+-- the masks and the values of a case's tests, also written into the bytes of its header, and where each field stands in them
+pub record CaseParts : Type 0 where
+  pub masks : List ℕ
+  pub values : List ℕ
+  pub mask : ℕ
+  pub value : ℕ
+  pub low : ℕ → ℕ
+
+abbrev pub case_parts : Program → Header → List Test → CaseParts
+case_parts p h ts =
+    let masks = map (λ (t : Test). t.mask) ts in
+    let values = map (λ (t : Test). t.value) ts in
+    record { masks = masks; values = values; mask = number_with p h masks; value = number_with p h values; low = low_of p h }
+
 -- each field is read back where values are written
 pub case_reads : (p : Program) (n : ℕ) (h : Header) → IsHeader p n h → (xs : List ℕ) → AllFit (low_of p h) (width_of p) h.select xs → AllZip (λ f x. slice (number_with p h xs) (low_of p h f) (width_of p f) ≡ x) h.select xs
 case_reads p n h is xs fit = filled_reads (low_of p h) (width_of p) 0 h.select xs fit (select_apart p n h is)
@@ -167,74 +181,62 @@ abbrev pub HasSelected : Program → Header → ℕ → List ℕ → Type 0
 HasSelected p h n s = All (λ f. slice_index s f ≡ slice n (low_of p h f) (width_of p f)) h.select
 
 module _ (p : Program) (m : ℕ) (h : Header) (is : IsHeader p m h) (few : length (lookups_of p h) ≤ 4) (n : ℕ) (s : List ℕ) (holds : HasSelected p h n s) (ts : List Test) (tests : AreTests p h.select ts) where
-  abbrev masks : List ℕ
-  masks = map (λ (t : Test). t.mask) ts
+  abbrev case : CaseParts
+  case = case_parts p h ts
 
-  abbrev values : List ℕ
-  values = map (λ (t : Test). t.value) ts
-
-  abbrev mask : ℕ
-  mask = number_with p h masks
-
-  abbrev value : ℕ
-  value = number_with p h values
-
-  abbrev low : ℕ → ℕ
-  low = low_of p h
-
-  fit_masks : AllFit low (width_of p) h.select masks
+  fit_masks : AllFit case.low (width_of p) h.select case.masks
   fit_masks = masks_fit p h.select ts tests
 
-  fit_values : AllFit low (width_of p) h.select values
+  fit_values : AllFit case.low (width_of p) h.select case.values
   fit_values = values_fit p h.select ts tests
 
-  read_masks : AllZip (λ f x. slice mask (low f) (width_of p f) ≡ x) h.select masks
-  read_masks = filled_reads low (width_of p) 0 h.select masks fit_masks (select_apart p m h is)
+  read_masks : AllZip (λ f x. slice case.mask (case.low f) (width_of p f) ≡ x) h.select case.masks
+  read_masks = filled_reads case.low (width_of p) 0 h.select case.masks fit_masks (select_apart p m h is)
 
-  read_values : AllZip (λ f x. slice value (low f) (width_of p f) ≡ x) h.select values
-  read_values = filled_reads low (width_of p) 0 h.select values fit_values (select_apart p m h is)
+  read_values : AllZip (λ f x. slice case.value (case.low f) (width_of p f) ≡ x) h.select case.values
+  read_values = filled_reads case.low (width_of p) 0 h.select case.values fit_values (select_apart p m h is)
 
   small : (x o : ℕ) → byte_of h.bytes x o < 256
   small x o = slice-lt x (8 * (h.bytes - 1 - o)) 8
 
   -- the lookup bytes of what a number and the masks have in common
-  shown_and : bit_and (shown p h n) (shown p h mask) ≡ shown p h (bit_and n mask)
+  shown_and : bit_and (shown p h n) (shown p h case.mask) ≡ shown p h (bit_and n case.mask)
   shown_and =
-      high_and (byte_of h.bytes n) (byte_of h.bytes mask) (small n) (small mask) (lookups_of p h)
-      (length-map (lookups_of p h) (byte_of h.bytes n)) (length-map (lookups_of p h) (byte_of h.bytes mask))
-      (length-map (lookups_of p h) (λ o. bit_and (byte_of h.bytes n o) (byte_of h.bytes mask o))) few
-      ∙ ap high_bytes (map_same (λ o. bit_and (byte_of h.bytes n o) (byte_of h.bytes mask o)) (byte_of h.bytes (bit_and n mask)) (lookups_of p h)
-      (λ k d lt. sym (slice-and n mask (8 * (h.bytes - 1 - get_or (lookups_of p h) k d)) 8)))
+      high_and (byte_of h.bytes n) (byte_of h.bytes case.mask) (small n) (small case.mask) (lookups_of p h)
+      (length-map (lookups_of p h) (byte_of h.bytes n)) (length-map (lookups_of p h) (byte_of h.bytes case.mask))
+      (length-map (lookups_of p h) (λ o. bit_and (byte_of h.bytes n o) (byte_of h.bytes case.mask o))) few
+      ∙ ap high_bytes (map_same (λ o. bit_and (byte_of h.bytes n o) (byte_of h.bytes case.mask o)) (byte_of h.bytes (bit_and n case.mask)) (lookups_of p h)
+      (λ k d lt. sym (slice-and n case.mask (8 * (h.bytes - 1 - get_or (lookups_of p h) k d)) 8)))
 
   -- lookup bytes that agree show numbers that agree
-  same_from_shown : shown p h (bit_and n mask) ≡ shown p h value → bit_and n mask ≡ value
+  same_from_shown : shown p h (bit_and n case.mask) ≡ shown p h case.value → bit_and n case.mask ≡ case.value
   same_from_shown same =
-      let each = high_apart (byte_of h.bytes (bit_and n mask)) (byte_of h.bytes value) (small (bit_and n mask)) (small value) (lookups_of p h)
-      (length-map (lookups_of p h) (byte_of h.bytes (bit_and n mask))) (length-map (lookups_of p h) (byte_of h.bytes value)) few same in
-      same_on_runs low (width_of p) n h.select masks values fit_masks fit_values (λ i f bit.
+      let each = high_apart (byte_of h.bytes (bit_and n case.mask)) (byte_of h.bytes case.value) (small (bit_and n case.mask)) (small case.value) (lookups_of p h)
+      (length-map (lookups_of p h) (byte_of h.bytes (bit_and n case.mask))) (length-map (lookups_of p h) (byte_of h.bytes case.value)) few same in
+      same_on_runs case.low (width_of p) n h.select case.masks case.values fit_masks fit_values (λ i f bit.
       let o : ℕ = h.bytes - 1 - i / 8 in
       let own : Contains h.fields f = All-contains (Contains h.fields) h.select f is.selects_own bit.own in
       let within = place_within p h.fields f own in
       let below = bit.below in
       let whole = is.whole_bytes in
-      let run : byte_of h.bytes (bit_and n mask) o ≡ byte_of h.bytes value o =
-      All-contains (λ k. byte_of h.bytes (bit_and n mask) k ≡ byte_of h.bytes value k) (lookups_of p h) o each (bit_looked_up p m h i f is bit) in
-      bit_from_slice (bit_and n mask) value (8 * (h.bytes - 1 - o)) 8 i run (omega (arith, within, below, whole)) (omega (arith, within, below, whole)))
+      let run : byte_of h.bytes (bit_and n case.mask) o ≡ byte_of h.bytes case.value o =
+      All-contains (λ k. byte_of h.bytes (bit_and n case.mask) k ≡ byte_of h.bytes case.value k) (lookups_of p h) o each (bit_looked_up p m h i f is bit) in
+      bit_from_slice (bit_and n case.mask) case.value (8 * (h.bytes - 1 - o)) 8 i run (omega (arith, within, below, whole)) (omega (arith, within, below, whole)))
 
   -- tests that pass show the same
-  same_from_pass : all_pass ts h.select s ≡ true → bit_and n mask ≡ value
+  same_from_pass : all_pass ts h.select s ≡ true → bit_and n case.mask ≡ case.value
   same_from_pass pass =
-      let each = runs_from_pass p low n mask value s h.select ts tests holds read_masks read_values pass in
-      same_on_runs low (width_of p) n h.select masks values fit_masks fit_values (λ i f bit.
-      bit_from_slice (bit_and n mask) value (low f) (width_of p f) i
-      (All-contains (λ g. slice (bit_and n mask) (low g) (width_of p g) ≡ slice value (low g) (width_of p g)) h.select f each bit.own) bit.from bit.below)
+      let each = runs_from_pass p case.low n case.mask case.value s h.select ts tests holds read_masks read_values pass in
+      same_on_runs case.low (width_of p) n h.select case.masks case.values fit_masks fit_values (λ i f bit.
+      bit_from_slice (bit_and n case.mask) case.value (case.low f) (width_of p f) i
+      (All-contains (λ g. slice (bit_and n case.mask) (case.low g) (width_of p g) ≡ slice case.value (case.low g) (width_of p g)) h.select f each bit.own) bit.from bit.below)
 
   -- so a case's entry agrees with the lookup bytes exactly where its tests pass
   pub case_passes : eqb (bit_and (shown p h n) (looked_up p h (map (λ (t : Test). t.mask) ts))) (looked_up p h (map (λ (t : Test). t.value) ts)) ≡ all_pass ts h.select s
   case_passes =
-      let left : bit_and (shown p h n) (looked_up p h masks) ≡ shown p h (bit_and n mask) = ap (bit_and (shown p h n)) (looked_up_shown p h masks) ∙ shown_and in
-      let right : looked_up p h values ≡ shown p h value = looked_up_shown p h values in
-      ap (λ x. eqb x (looked_up p h values)) left ∙ ap (eqb (shown p h (bit_and n mask))) right
-      ∙ same_Bool (eqb (shown p h (bit_and n mask)) (shown p h value)) (all_pass ts h.select s)
-      (λ e. all_pass_from p low n mask value s h.select ts tests holds read_masks read_values (same_from_shown (eqb-true (shown p h (bit_and n mask)) (shown p h value) e)))
-      (λ e. eq-eqb (shown p h (bit_and n mask)) (shown p h value) (ap (shown p h) (same_from_pass e)))
+      let left : bit_and (shown p h n) (looked_up p h case.masks) ≡ shown p h (bit_and n case.mask) = ap (bit_and (shown p h n)) (looked_up_shown p h case.masks) ∙ shown_and in
+      let right : looked_up p h case.values ≡ shown p h case.value = looked_up_shown p h case.values in
+      ap (λ x. eqb x (looked_up p h case.values)) left ∙ ap (eqb (shown p h (bit_and n case.mask))) right
+      ∙ same_Bool (eqb (shown p h (bit_and n case.mask)) (shown p h case.value)) (all_pass ts h.select s)
+      (λ e. all_pass_from p case.low n case.mask case.value s h.select ts tests holds read_masks read_values (same_from_shown (eqb-true (shown p h (bit_and n case.mask)) (shown p h case.value) e)))
+      (λ e. eq-eqb (shown p h (bit_and n case.mask)) (shown p h case.value) (ap (shown p h) (same_from_pass e)))

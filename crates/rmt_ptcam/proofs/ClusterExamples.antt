@@ -1,30 +1,21 @@
 -- Joined and clustered parsers that are worked by hand.
-use Rattle.std.proofs.Common.{◌≡◌, Bool, true, false, ◌++◌, ℕ, List, [], ◌∷◌, None, Some, length, map, refl}
+use Rattle.std.proofs.Common.{◌≡◌, Bool, true, false, ◌++◌, ◌+◌, ℕ, List, [], ◌∷◌, None, Some, length, map, refl}
 use Rattle.std.specs.Prelude.{codes, is_some, replicate}
 use Rattle.std.specs.List.{range_with_len}
-use Rattle.rmt_bits.specs.declared.lane.Lane.{Lane}
 use Rattle.rmt_ast.proofs.Programs.{field, two_headers, tail_between}
-use Rattle.rmt_ptcam.specs.Types.{Program, Field, Header, Case, Target, ParserConfig, ParserEntry}
+use Rattle.rmt_ptcam.specs.Types.{Program, Field, Header, Case, Target, ParserConfig, ParserEntry, Next}
 use Rattle.rmt_ast.specs.declared.program.Target.TheVariants as target
 use Rattle.rmt_config.specs.declared.config.Extract.TheVariants.{Bits, One}
 use Rattle.rmt_config.specs.declared.config.Next.TheVariants as next
 use Rattle.rmt_config.specs.Parser.{parse, Short}
 use Rattle.rmt_config.specs.ParserForm.{parser_is_formed}
 use Rattle.rmt_ptcam.specs.Plain.{plain}
+use Rattle.rmt_ptcam.proofs.Examples.{lane, places, tail_places}
 use Rattle.rmt_ptcam.specs.Joining.{join_named, join_of, can_join, joined_entry, together, widened_entry}
 use Rattle.rmt_ptcam.specs.ByteTests.{ByteTest, joined_tests, tests_of}
 use Rattle.rmt_ptcam.specs.Words.{byte_at, spread}
 use Rattle.rmt_ptcam.specs.Clustering.{arrivals, clustered, with_next}
 use Rattle.rmt_ptcam.specs.Joins.{joins as joins_told, replayed}
-
-abbrev lane : ℕ → ℕ → ℕ → Lane
-lane word low len = record { word = word; low = low; len = len }
-
--- in_port, out_port, drop, h.valid, h.k, g.valid, g.x; h.k shares its word with drop
-abbrev places : List (List Lane)
-places =
-    (lane 64 0 9 ∷ []) ∷ (lane 65 0 9 ∷ []) ∷ (lane 160 0 1 ∷ []) ∷ (lane 0 0 1 ∷ [])
-    ∷ (lane 160 1 8 ∷ []) ∷ (lane 1 0 1 ∷ []) ∷ (lane 66 0 16 ∷ []) ∷ []
 
 -- the entry of h that goes to g and the one of g in one: it needs both, and does all extracts; g's state can't be met
 two_in_one : (clustered two_headers places).entries
@@ -51,7 +42,7 @@ unfolding together
 cut = refl
 
 -- an entry with a tail isn't joined
-with_tail : join_of (plain tail_between ((lane 64 0 9 ∷ []) ∷ (lane 65 0 9 ∷ []) ∷ (lane 0 0 1 ∷ []) ∷ (lane 1 0 1 ∷ []) ∷ (lane 2 0 8 ∷ []) ∷ (lane 3 0 1 ∷ []) ∷ (lane 4 0 8 ∷ []) ∷ [])) 0 0 ≡ None
+with_tail : join_of (plain tail_between tail_places) 0 0 ≡ None
 unfolding together
 with_tail = refl
 
@@ -84,52 +75,20 @@ one_test width value to = record { tests = record { value = value; mask = width 
 abbrev two_tests : ℕ → ℕ → ℕ → Target → Case
 two_tests first second mask to = record { tests = record { value = first; mask = 0xf } ∷ record { value = second; mask = mask } ∷ []; target = to }
 
+-- a header without a tail, whose fields stand behind valid
+abbrev header_of : List ℕ → ℕ → ℕ → ℕ → List ℕ → List Case → Target → Header
+header_of name valid count bytes select cases other = record { name = name; valid = valid; fields = range_with_len (valid + 1) count; bytes = bytes; tail = None; select = select; cases = cases; other = other }
+
 abbrev switch : Program
 switch = record two_headers {
   fields = switch_fields;
   headers =
-      record {
-        name = codes "eth";
-        valid = 3;
-        fields = range_with_len 4 3;
-        bytes = 14;
-        tail = None;
-        select = 6 ∷ [];
-        cases = one_test 0xffff 0x8100 (target.Node 1) ∷ one_test 0xffff 0x0800 (target.Node 2) ∷ one_test 0xffff 0x86dd (target.Node 3) ∷ [];
-        other = target.Accept;
-      }
-      ∷ record {
-        name = codes "vlan";
-        valid = 7;
-        fields = range_with_len 8 4;
-        bytes = 4;
-        tail = None;
-        select = 11 ∷ [];
-        cases = one_test 0xffff 0x0800 (target.Node 2) ∷ one_test 0xffff 0x86dd (target.Node 3) ∷ [];
-        other = target.Accept;
-      }
-      ∷ record {
-        name = codes "ipv4";
-        valid = 12;
-        fields = range_with_len 13 12;
-        bytes = 20;
-        tail = None;
-        select = 14 ∷ 21 ∷ [];
-        cases = two_tests 5 6 0xff (target.Node 4) ∷ two_tests 5 17 0xff (target.Node 5) ∷ two_tests 5 0 0 target.Accept ∷ [];
-        other = target.Reject;
-      }
-      ∷ record {
-        name = codes "ipv6";
-        valid = 25;
-        fields = range_with_len 26 8;
-        bytes = 40;
-        tail = None;
-        select = 30 ∷ [];
-        cases = one_test 0xff 6 (target.Node 4) ∷ one_test 0xff 17 (target.Node 5) ∷ [];
-        other = target.Accept;
-      }
-      ∷ record { name = codes "tcp"; valid = 34; fields = range_with_len 35 9; bytes = 20; tail = None; select = []; cases = []; other = target.Accept }
-      ∷ record { name = codes "udp"; valid = 44; fields = range_with_len 45 4; bytes = 8; tail = None; select = []; cases = []; other = target.Accept }
+      header_of (codes "eth") 3 3 14 (6 ∷ []) (one_test 0xffff 0x8100 (target.Node 1) ∷ one_test 0xffff 0x0800 (target.Node 2) ∷ one_test 0xffff 0x86dd (target.Node 3) ∷ []) target.Accept
+      ∷ header_of (codes "vlan") 7 4 4 (11 ∷ []) (one_test 0xffff 0x0800 (target.Node 2) ∷ one_test 0xffff 0x86dd (target.Node 3) ∷ []) target.Accept
+      ∷ header_of (codes "ipv4") 12 12 20 (14 ∷ 21 ∷ []) (two_tests 5 6 0xff (target.Node 4) ∷ two_tests 5 17 0xff (target.Node 5) ∷ two_tests 5 0 0 target.Accept ∷ []) target.Reject
+      ∷ header_of (codes "ipv6") 25 8 40 (30 ∷ []) (one_test 0xff 6 (target.Node 4) ∷ one_test 0xff 17 (target.Node 5) ∷ []) target.Accept
+      ∷ header_of (codes "tcp") 34 9 20 [] [] target.Accept
+      ∷ header_of (codes "udp") 44 4 8 [] [] target.Accept
       ∷ [];
 }
 
@@ -216,11 +175,14 @@ tails_in_form = refl
 abbrev pair_of : List ℕ → List ℕ → ParserEntry → ParserEntry → ParserConfig
 pair_of here there e f = record { states = record { lookups = here } ∷ record { lookups = there } ∷ []; entries = e ∷ f ∷ []; tails = [] }
 
+abbrev entry_of : ℕ → Next → ℕ → ℕ → ParserEntry
+entry_of state to bytes count = record { state = state; value = 0; mask = 0; need = bytes; advance = bytes; next = to; extracts = replicate count (One (lane 0 0 1)) }
+
 abbrev first_of : ℕ → ℕ → ParserEntry
-first_of bytes count = record { state = 0; value = 0; mask = 0; need = bytes; advance = bytes; next = next.State 1; extracts = replicate count (One (lane 0 0 1)) }
+first_of = entry_of 0 (next.State 1)
 
 abbrev second_of : ℕ → ℕ → ParserEntry
-second_of bytes count = record { state = 1; value = 0; mask = 0; need = bytes; advance = bytes; next = next.Accept; extracts = replicate count (One (lane 0 0 1)) }
+second_of = entry_of 1 next.Accept
 
 abbrev joins : ParserConfig → Bool
 joins parser = is_some (join_of parser 0 0)
@@ -316,9 +278,8 @@ entries_16384 = refl
 abbrev three : Program
 three = record two_headers {
   headers =
-      record { name = codes "a"; valid = 3; fields = 4 ∷ []; bytes = 1; tail = None; select = 4 ∷ []; cases = one_test 0xff 1 (target.Node 1) ∷ []; other = target.Reject }
-      ∷ record { name = codes "b"; valid = 3; fields = 4 ∷ []; bytes = 1; tail = None; select = 4 ∷ []; cases = one_test 0xff 2 target.Accept ∷ []; other = target.Reject }
-      ∷ record { name = codes "c"; valid = 3; fields = 4 ∷ []; bytes = 1; tail = None; select = []; cases = []; other = target.Accept } ∷ [];
+      header_of (codes "a") 3 1 1 (4 ∷ []) (one_test 0xff 1 (target.Node 1) ∷ []) target.Reject ∷ header_of (codes "b") 3 1 1 (4 ∷ []) (one_test 0xff 2 target.Accept ∷ []) target.Reject
+      ∷ header_of (codes "c") 3 1 1 [] [] target.Accept ∷ [];
 }
 
 three_states : (clustered three []).states ≡ record { lookups = 0 ∷ 1 ∷ [] } ∷ []

@@ -105,6 +105,24 @@ module _ (p : Program) (g : List StateRows) (stand : Stand g) (js : List Join) (
           let few = (joined_stand g h stand j joined).1.keeps.few in
           omega (arith, within, own, few)
 
+-- what is known where it was joined
+pub record StepTaken (p : Program) (g : List StateRows) (js : List Join) (j : Join) (to : Next) (h : List StateRows) : Type 0 where
+  pub step : ◌≡◌ {A = Clustering} (record { parser = parser_in h; joins = js ++ j ∷ []; behind = j.entry + length (entries_to (parser_in g) to) }) (next_entry p j.state (record { parser = parser_in g; joins = js; behind = j.entry }))
+  pub stand : Stand h
+  pub within : j.entry + length (entries_to (parser_in g) to) ≤ length (entries_in j.state (parser_in h).entries)
+  pub small : j.entry + length (entries_to (parser_in g) to) < 65536
+
+pub step_taken : (p : Program) (g : List StateRows) → Stand g → (js : List Join) (j : Join) (to : Next) → goes_on (entry_named (parser_in g) j) ≡ Some to → is_wanted p (parser_in g) to ≡ true
+    → (h : List StateRows) (done : Bool) → cond done (Some h) None ≡ joined_in g j → done ≡ true → StepTaken p g js j to h
+step_taken p g stand js j to goes wanted h done made is =
+    let some : joined_in g j ≡ Some h = sym made ∙ ap (λ b. cond b (Some h) None) is in
+    record {
+      step = step_joined p g stand js j to goes wanted h some;
+      stand = (joined_stand g h stand j some).1;
+      within = step_within p g stand js j to goes wanted h some;
+      small = step_small p g stand js j to goes wanted h some;
+    }
+
 -- ---- all of them
 
 -- the parser behind all joins of the rule

@@ -24,7 +24,7 @@ use Rattle.rmt_ptcam.specs.Steps.{parse_within}
 use Rattle.rmt_ptcam.specs.Clustering.{compact, is_met, met_states, number_in, renamed, renamed_next, states_kept, with_next}
 use Rattle.rmt_ptcam.proofs.AddingLaws.{length_rows}
 use Rattle.rmt_ptcam.proofs.FormedRows.{IsFormed, IsRow, entries_of_rows, formed_parts, rows_are, split_at}
-use Rattle.rmt_ptcam.proofs.TailForms.{IsRowTail}
+use Rattle.rmt_ptcam.proofs.TailForms.{IsRowTail, other_tail}
 use Rattle.rmt_ptcam.proofs.JoinedForm.{made_keeps}
 use Rattle.rmt_ptcam.proofs.JoinedKeeps.{sorted_rows}
 use Rattle.rmt_ptcam.proofs.JoinedParse.{find_map, one_more_state}
@@ -328,17 +328,7 @@ module _ (parser : ParserConfig) (keeps : KeepsForm parser) where
     where
       by : (o : Option TailOf) → IfSome o (IsRowTail x.entry) → IfSome o (IsRowTail (rename x).entry)
       by None fits = tt
-      by (Some t) fits = record {
-        header = fits.header;
-        some_bits = fits.some_bits;
-        few_bits = fits.few_bits;
-        within = fits.within;
-        some_unit = fits.some_unit;
-        small_unit = fits.small_unit;
-        small_base = fits.small_base;
-        greatest = fits.greatest;
-        moves = fits.moves;
-      }
+      by (Some t) fits = other_tail x.entry (rename x).entry t t.entry t.from fits.within fits.moves fits
 
   rows_formed : All (IsRow kept) rows
   rows_formed = All-map (IsRow kept) rename own (λ k d lt. renamed_row (get_or own k d) (own_met k d lt) (λ t on. own_next k d lt t (own_met k d lt) on) (own_formed k d lt))

@@ -19,11 +19,11 @@ use Rattle.rmt_config.specs.Agreement.{held_in}
 use Rattle.rmt_ast.specs.Walk.{walk}
 use Rattle.rmt_ast.specs.Walk as walks
 
-abbrev lane : ℕ → ℕ → ℕ → Lane
+abbrev pub lane : ℕ → ℕ → ℕ → Lane
 lane word low len = record { word = word; low = low; len = len }
 
 -- in_port, out_port, drop, h.valid, h.k, g.valid, g.x; h.k shares its word with drop
-abbrev places : List (List Lane)
+abbrev pub places : List (List Lane)
 places =
     (lane 64 0 9 ∷ []) ∷ (lane 65 0 9 ∷ []) ∷ (lane 160 0 1 ∷ []) ∷ (lane 0 0 1 ∷ [])
     ∷ (lane 160 1 8 ∷ []) ∷ (lane 1 0 1 ∷ []) ∷ (lane 66 0 16 ∷ []) ∷ []
@@ -136,7 +136,7 @@ low_first : held_in (0x34 ∷ 0x12 ∷ []) (lane 0 0 8 ∷ lane 1 0 8 ∷ []) �
 low_first = refl
 
 -- a tail of two bytes behind one byte, and then the header g
-abbrev tail_places : List (List Lane)
+abbrev pub tail_places : List (List Lane)
 tail_places = (lane 64 0 9 ∷ []) ∷ (lane 65 0 9 ∷ []) ∷ (lane 0 0 1 ∷ []) ∷ (lane 1 0 1 ∷ []) ∷ (lane 2 0 8 ∷ []) ∷ (lane 3 0 1 ∷ []) ∷ (lane 4 0 8 ∷ []) ∷ []
 
 tail_parsed : parse (plain tail_between tail_places) (2 ∷ 7 ∷ 8 ∷ 9 ∷ 10 ∷ [])

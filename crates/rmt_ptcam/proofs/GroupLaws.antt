@@ -224,6 +224,9 @@ parser_again parser keeps =
 pub stand_again : (parser : ParserConfig) → KeepsForm parser → Stand (by_state parser)
 stand_again parser keeps = record { own = own_groups (rows_of parser) 0 parser.states; keeps = subst KeepsForm (sym (parser_again parser keeps)) keeps }
 
+pub start_stands : (parser : ParserConfig) → KeepsForm parser → (start : List StateRows) → start ≡ by_state parser → Stand start
+start_stands parser keeps start is = subst Stand (sym is) (stand_again parser keeps)
+
 -- ---- loops over rows and states
 
 -- the state of an entry is there

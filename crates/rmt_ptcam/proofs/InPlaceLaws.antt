@@ -28,7 +28,7 @@ use Rattle.rmt_ptcam.proofs.ClusteringLaws.{AsMany, good_same, many_stays}
 use Rattle.rmt_ptcam.proofs.FewerLaws.{filter_map}
 use Rattle.rmt_ptcam.proofs.FormedRows.{IsRow, rows_are}
 use Rattle.rmt_ptcam.proofs.GroupLaws.{made_by, parser_again, stand_again}
-use Rattle.rmt_ptcam.proofs.TailForms.{IsRowTail}
+use Rattle.rmt_ptcam.proofs.TailForms.{IsRowTail, other_tail}
 use Rattle.rmt_ptcam.proofs.JoinFacts.{RiseLow, ends_push, entry_compares, lookups_formed}
 use Rattle.rmt_ptcam.proofs.JoinedForm.{formed_entry}
 use Rattle.rmt_ptcam.proofs.JoinsHold.{named_holds}
@@ -392,17 +392,7 @@ formed_again ss n (x ∷ xs) formed =
   where
     by : (o : Option TailOf) → IfSome (with_number n o) (IsRowTail x.entry) → IfSome o (IsRowTail x.entry)
     by None fits = tt
-    by (Some t) fits = record {
-      header = fits.header;
-      some_bits = fits.some_bits;
-      few_bits = fits.few_bits;
-      within = fits.within;
-      some_unit = fits.some_unit;
-      small_unit = fits.small_unit;
-      small_base = fits.small_base;
-      greatest = fits.greatest;
-      moves = fits.moves;
-    }
+    by (Some t) fits = other_tail x.entry x.entry (record t { entry = n }) t.entry t.from fits.within fits.moves fits
 
 pub rows_formed_in : (g : List StateRows) → Stand g → (n : ℕ) (s : StateRows) → slice_get g n ≡ Some s → All (IsRow (map state_in g)) s.rows
 rows_formed_in g stand n s there =
@@ -718,6 +708,15 @@ none_made parser keeps js start now b first was given = sym (ap (λ t. cond t (S
 pub written : (len : ℕ) (now items seen : List StateRows) → seen ≡ take len (now ++ drop (length now) items) → length now ≡ len → seen ≡ now
 written len now items seen is long = is ∙ ap (λ k. take k (now ++ drop (length now) items)) (sym long) ∙ take-append_seam now (drop (length now) items)
 
+-- it stands as it was
+pub stand_seen : (len : ℕ) (now items seen : List StateRows) → seen ≡ take len (now ++ drop (length now) items) → length now ≡ len → Stand now → Stand seen
+stand_seen len now items seen is long stand = subst Stand (sym (written len now items seen is long)) stand
+
+-- all joins, seen again
+pub all_seen : (parser : ParserConfig) → KeepsForm parser → (js : List Join) (start now items seen : List StateRows) (len : ℕ) (b : Bool) → start ≡ by_state parser → b ≡ true
+    → cond b (Some (parser_in now)) None ≡ behind_joins (parser_in start) js → seen ≡ take len (now ++ drop (length now) items) → length now ≡ len → AllMade parser js seen
+all_seen parser keeps js start now items seen len b first was given is long = subst (AllMade parser js) (sym (written len now items seen is long)) (all_made parser keeps js start now b first was given)
+
 -- ---- one join
 
 pub record OneMade (parser : ParserConfig) (j : Join) (now : List StateRows) : Type 0 where
@@ -731,6 +730,10 @@ one_made parser keeps j start now b first was given =
     let behind = (joined_stand start now stand j (sym given ∙ ap (λ t. cond t (Some now) None) was)).0 in
     let some : Some (parser_in now) ≡ join_named parser j = sym behind ∙ ap (λ q. join_named q j) again in
     record { some = some; good = subst (λ (o : Option ParserConfig). IfSome o (IsGood parser)) (sym some) (named_holds (IsGood parser) (join_stays parser) parser j (good_same parser keeps)) }
+
+pub one_seen : (parser : ParserConfig) → KeepsForm parser → (j : Join) (start now items seen : List StateRows) (len : ℕ) (b : Bool) → start ≡ by_state parser → b ≡ true
+    → cond b (Some now) None ≡ joined_in start j → seen ≡ take len (now ++ drop (length now) items) → length now ≡ len → OneMade parser j seen
+one_seen parser keeps j start now items seen len b first was given is long = subst (OneMade parser j) (sym (written len now items seen is long)) (one_made parser keeps j start now b first was given)
 
 pub none_joined : (parser : ParserConfig) → KeepsForm parser → (j : Join) (start now : List StateRows) (b : Bool) → start ≡ by_state parser → b ≡ false → cond b (Some now) None ≡ joined_in start j → None ≡ join_named parser j
 none_joined parser keeps j start now b first was given =

@@ -1,6 +1,6 @@
 -- The rows of a joined parser, and what joining gives.
-use Rattle.std.proofs.Common.{◌≡◌, ◌≢◌, ◌&&◌, cond, eqb, nat_lt, Bool, true, false, ℕ, ◌+◌, ◌-◌, ◌*◌, ◌%◌, ◌^◌, ◌<◌, ◌≤◌, List, [], ◌∷◌, ◌++◌, get_or, length, map, take, drop, Option, Some, None, refl, sym, ap, subst, ◌∙◌, arith}
-use Rattle.std.specs.Prelude.{All, IfSome, nat_le, option_map, slice_get, slice_set, unwrap_or}
+use Rattle.std.proofs.Common.{◌≡◌, ◌≢◌, ◌&&◌, cond, eqb, nat_lt, Bool, true, false, ℕ, ◌+◌, ◌-◌, ◌*◌, ◌%◌, ◌^◌, ◌<◌, ◌≤◌, List, [], ◌∷◌, ◌++◌, get_or, length, map, Option, Some, None, refl, sym, ap, subst, ◌∙◌, arith}
+use Rattle.std.specs.Prelude.{All, IfSome, nat_le, option_map, slice_get, unwrap_or}
 use Rattle.std.specs.List.{list_all}
 use Rattle.std.specs.List.Sorted.{IsNonDecreasingBy}
 use Rattle.std.proofs.lemmas.Bool.{and_parts, and_from, lt-ltb, le-leb, ltb-true, leb-true, eqb-true, eqb-false}
@@ -15,14 +15,15 @@ use Rattle.rmt_config.specs.declared.config.Extract.TheVariants.{Bits, One}
 use Rattle.rmt_config.specs.declared.config.Next.TheVariants as next
 use Rattle.rmt_config.specs.LaneForm.{lane_is_formed}
 use Rattle.rmt_config.specs.ParserForm.{extract_is_formed, lookups_of, next_is_formed, state_is_formed}
-use Rattle.rmt_ptcam.specs.Joining.{KeepsForm, Row, entries_in, joined, joined_row, lookups_at, moved, rows_in, rows_of, together, widened, widened_entry}
+use Rattle.rmt_ptcam.specs.Joining.{KeepsForm, Row, entries_in, joined, moved, rows_of, widened_entry}
 use Rattle.rmt_ptcam.specs.Words.{both, byte_at, entry_of_both, spread, spread_entry}
 use Rattle.rmt_ptcam.proofs.TestLaws.{joined_is, widened_is}
 use Rattle.rmt_ptcam.proofs.AddingLaws.{length_rows, row_of}
 use Rattle.rmt_ptcam.proofs.FormLaws.{sorted-append, sorted-same}
 use Rattle.rmt_ptcam.proofs.FormedRows.{IsFormed, IsRow, entries_of_rows, rows_are}
-use Rattle.rmt_ptcam.proofs.TailForms.{IsRowTail}
+use Rattle.rmt_ptcam.proofs.TailForms.{IsRowTail, other_tail}
 use Rattle.rmt_ptcam.proofs.JoinFacts.{MayJoin, RiseLow, are_joined, entry_compares, lookups_formed, rows_in_entries}
+use Rattle.rmt_ptcam.proofs.JoinParts.{JoinParts, join_parts}
 use Rattle.rmt_ptcam.proofs.JoinedForm.{made_keeps}
 use Rattle.rmt_ptcam.proofs.JoinedParse.{formed_e, get_set_same, next_there, second_formed, second_own}
 use Rattle.rmt_ptcam.proofs.LookupLaws.{Compares, byte_small, compares_at, compares_by}
@@ -80,47 +81,23 @@ module _ (parser : ParserConfig) (keeps : KeepsForm parser) (at : ℕ) (e : Pars
   abbrev n : ℕ
   n = e.state
 
-  abbrev here : List ℕ
-  here = lookups_at parser.states n
-
-  abbrev behind : List ℕ
-  behind = lookups_at parser.states m
-
-  abbrev to : List ℕ
-  to = together here e.advance behind
-
-  abbrev states : List ParserState
-  states = slice_set parser.states n (record { lookups = to })
-
-  abbrev front : List Row
-  front = take at (rows_of parser)
-
-  abbrev back : List Row
-  back = drop (at + 1) (rows_of parser)
-
-  abbrev second : List Row
-  second = rows_in m (rows_of parser)
-
-  abbrev widen : Row → Row
-  widen = widened here to n
-
-  abbrev join_row : Row → Row
-  join_row = joined_row here behind e
+  abbrev parts : JoinParts
+  parts = join_parts parser at e m
 
   first : IsFormed parser.states e
   first = formed_e parser keeps at e m there on may
 
-  as_many : length states ≡ length parser.states
-  as_many = length-set parser.states n (record { lookups = to })
+  as_many : length parts.states ≡ length parser.states
+  as_many = length-set parser.states n (record { lookups = parts.to })
 
-  own_lookups : lookups_of states n ≡ length to
-  own_lookups = ap (λ (o : Option ParserState). unwrap_or (option_map (λ (s : ParserState). length s.lookups) o) 0) (get_set_same parser.states n (record { lookups = to }) first.state_there)
+  own_lookups : lookups_of parts.states n ≡ length parts.to
+  own_lookups = ap (λ (o : Option ParserState). unwrap_or (option_map (λ (s : ParserState). length s.lookups) o) 0) (get_set_same parser.states n (record { lookups = parts.to }) first.state_there)
 
-  other_lookups : (s : ℕ) → s ≢ n → lookups_of states s ≡ lookups_of parser.states s
-  other_lookups s other = ap (λ (o : Option ParserState). unwrap_or (option_map (λ (x : ParserState). length x.lookups) o) 0) (slice_get-set_other parser.states n s (record { lookups = to }) other)
+  other_lookups : (s : ℕ) → s ≢ n → lookups_of parts.states s ≡ lookups_of parser.states s
+  other_lookups s other = ap (λ (o : Option ParserState). unwrap_or (option_map (λ (x : ParserState). length x.lookups) o) 0) (slice_get-set_other parser.states n s (record { lookups = parts.to }) other)
 
   -- a row of another state
-  kept_row : (x : Row) → x.entry.state ≢ n → IsRow parser.states x → IsRow states x
+  kept_row : (x : Row) → x.entry.state ≢ n → IsRow parser.states x → IsRow parts.states x
   kept_row x other is = record {
     entry = record {
       state_there = subst (λ k. x.entry.state < k) (sym as_many) is.entry.state_there;
@@ -138,21 +115,21 @@ module _ (parser : ParserConfig) (keeps : KeepsForm parser) (at : ℕ) (e : Pars
   }
 
   -- a row of the state, over more lookups
-  own_row : (x : Row) → x.entry.state ≡ n → IsRow parser.states x → IsRow states (record x { entry = widened_entry here to x.entry })
+  own_row : (x : Row) → x.entry.state ≡ n → IsRow parser.states x → IsRow parts.states (record x { entry = widened_entry parts.here parts.to x.entry })
   own_row x own is =
-      let lists : RiseLow here = lookups_formed parser.states n keeps.states in
-      let few : length here ≤ 4 = few_here here e.advance behind lists.rises lists.low may.few in
-      let old : Compares here x.entry.mask x.entry.value = entry_compares parser.states x.entry n is.entry own in
-      let new : Compares to (spread here to x.entry.mask) (spread here to x.entry.value) =
-      compares_by (byte_at here x.entry.mask) (byte_at here x.entry.value) (byte_small here x.entry.mask) (byte_small here x.entry.value)
-      (compares_at 0 here x.entry.mask x.entry.value lists.rises few old) to may.few in
-      subst (λ (f : ParserEntry). IsRow states (record x { entry = f })) (sym (widened_is here to x.entry)) (record {
+      let lists : RiseLow parts.here = lookups_formed parser.states n keeps.states in
+      let few : length parts.here ≤ 4 = few_here parts.here e.advance parts.behind lists.rises lists.low may.few in
+      let old : Compares parts.here x.entry.mask x.entry.value = entry_compares parser.states x.entry n is.entry own in
+      let new : Compares parts.to (spread parts.here parts.to x.entry.mask) (spread parts.here parts.to x.entry.value) =
+      compares_by (byte_at parts.here x.entry.mask) (byte_at parts.here x.entry.value) (byte_small parts.here x.entry.mask) (byte_small parts.here x.entry.value)
+      (compares_at 0 parts.here x.entry.mask x.entry.value lists.rises few old) parts.to may.few in
+      subst (λ (f : ParserEntry). IsRow parts.states (record x { entry = f })) (sym (widened_is parts.here parts.to x.entry)) (record {
         entry = record {
           state_there = subst (λ k. x.entry.state < k) (sym as_many) is.entry.state_there;
           state_small = is.entry.state_small;
           mask_small = new.mask.small;
           masked = new.within;
-          mask_within = ap (λ k. spread here to x.entry.mask % 2 ^ (8 * (4 - k))) (ap (lookups_of states) own ∙ own_lookups) ∙ new.mask.within;
+          mask_within = ap (λ k. spread parts.here parts.to x.entry.mask % 2 ^ (8 * (4 - k))) (ap (lookups_of parts.states) own ∙ own_lookups) ∙ new.mask.within;
           need_small = is.entry.need_small;
           advance = is.entry.advance;
           next = subst (λ k. next_is_formed k x.entry.state x.entry.next ≡ true) (sym as_many) is.entry.next;
@@ -162,47 +139,37 @@ module _ (parser : ParserConfig) (keeps : KeepsForm parser) (at : ℕ) (e : Pars
         tail = same_need x.tail is.tail;
       })
     where
-      same_need : (o : Option TailOf) → IfSome o (IsRowTail x.entry) → IfSome o (IsRowTail (spread_entry here to x.entry))
+      same_need : (o : Option TailOf) → IfSome o (IsRowTail x.entry) → IfSome o (IsRowTail (spread_entry parts.here parts.to x.entry))
       same_need None fits = tt
-      same_need (Some t) fits = record {
-        header = fits.header;
-        some_bits = fits.some_bits;
-        few_bits = fits.few_bits;
-        within = fits.within;
-        some_unit = fits.some_unit;
-        small_unit = fits.small_unit;
-        small_base = fits.small_base;
-        greatest = fits.greatest;
-        moves = fits.moves;
-      }
+      same_need (Some t) fits = other_tail x.entry (spread_entry parts.here parts.to x.entry) t t.entry t.from fits.within fits.moves fits
 
-  widened_row : (x : Row) → IsRow parser.states x → IsRow states (widen x)
+  widened_row : (x : Row) → IsRow parser.states x → IsRow parts.states (parts.widen x)
   widened_row x is = by (eqb x.entry.state n) refl
     where
-      by : (b : Bool) → eqb x.entry.state n ≡ b → IsRow states (cond b (record x { entry = widened_entry here to x.entry }) x)
+      by : (b : Bool) → eqb x.entry.state n ≡ b → IsRow parts.states (cond b (record x { entry = widened_entry parts.here parts.to x.entry }) x)
       by true own = own_row x (eqb-true x.entry.state n own) is
       by false other = kept_row x (eqb-false x.entry.state n other) is
 
   -- a joined row
-  new_row : (y : Row) → y.entry.state ≡ m → IsRow parser.states y → (e.need + y.entry.need ≤ 128) × (length e.extracts + length y.entry.extracts ≤ 64) → IsRow states (join_row y)
+  new_row : (y : Row) → y.entry.state ≡ m → IsRow parser.states y → (e.need + y.entry.need ≤ 128) × (length e.extracts + length y.entry.extracts ≤ 64) → IsRow parts.states (parts.join_row y)
   new_row y own is light =
       let f : ParserEntry = y.entry in
       let words = are_joined parser at e f m keeps may first is.entry own in
-      let new : Compares to (both here e.advance behind e.mask f.mask) (both here e.advance behind e.value f.value) = both_compares here e.advance behind e.mask e.value f.mask f.value words in
+      let new : Compares parts.to (both parts.here e.advance parts.behind e.mask f.mask) (both parts.here e.advance parts.behind e.value f.value) = both_compares parts.here e.advance parts.behind e.mask e.value f.mask f.value words in
       let later : n < m = ltb-true n m (next_there parser keeps at e m there on may).1 in
       let need : e.need + f.need ≤ 128 = light.0 in
       let first_within = first.advance in
       let second_within = is.entry.advance in
-      subst (λ (g : ParserEntry). IsRow states (record (join_row y) { entry = g })) (sym (joined_is here behind e f)) (record {
+      subst (λ (g : ParserEntry). IsRow parts.states (record (parts.join_row y) { entry = g })) (sym (joined_is parts.here parts.behind e f)) (record {
         entry = record {
           state_there = subst (λ k. n < k) (sym as_many) first.state_there;
           state_small = first.state_small;
           mask_small = new.mask.small;
           masked = new.within;
-          mask_within = ap (λ k. both here e.advance behind e.mask f.mask % 2 ^ (8 * (4 - k))) own_lookups ∙ new.mask.within;
+          mask_within = ap (λ k. both parts.here e.advance parts.behind e.mask f.mask % 2 ^ (8 * (4 - k))) own_lookups ∙ new.mask.within;
           need_small = omega (arith, need);
           advance = omega (arith, first_within, second_within);
-          next = earlier_next (length states) n m f.next later (subst (λ k. next_is_formed k m f.next ≡ true) (sym as_many) (subst (λ s. next_is_formed (length parser.states) s f.next ≡ true) own is.entry.next));
+          next = earlier_next (length parts.states) n m f.next later (subst (λ k. next_is_formed k m f.next ≡ true) (sym as_many) (subst (λ s. next_is_formed (length parser.states) s f.next ≡ true) own is.entry.next));
           few = let long = length-append e.extracts (map (moved e.advance) f.extracts) in let some = length-map f.extracts (moved e.advance) in let all = light.1 in omega (arith, long, some, all);
           extracts =
               list_all-append (extract_is_formed (e.need + f.need)) e.extracts (map (moved e.advance) f.extracts)
@@ -215,61 +182,50 @@ module _ (parser : ParserConfig) (keeps : KeepsForm parser) (at : ℕ) (e : Pars
         tail = by y.tail is.tail;
       })
     where
-      by : (o : Option TailOf) → IfSome o (IsRowTail y.entry) → IfSome (option_map (λ (t : TailOf). record t { from = t.from + 8 * e.advance }) o) (IsRowTail (entry_of_both here behind e y.entry))
+      by : (o : Option TailOf) → IfSome o (IsRowTail y.entry) → IfSome (option_map (λ (t : TailOf). record t { from = t.from + 8 * e.advance }) o) (IsRowTail (entry_of_both parts.here parts.behind e y.entry))
       by None fits = tt
-      by (Some t) fits = record {
-        header = fits.header;
-        some_bits = fits.some_bits;
-        few_bits = fits.few_bits;
-        within = let a = fits.within in let b = first.advance in omega (arith, a, b);
-        some_unit = fits.some_unit;
-        small_unit = fits.small_unit;
-        small_base = fits.small_base;
-        greatest = fits.greatest;
-        moves = let a = fits.moves in let b = may.whole in omega (arith, a, b);
-      }
+      by (Some t) fits =
+          other_tail y.entry (entry_of_both parts.here parts.behind e y.entry) t t.entry (t.from + 8 * e.advance) (let a = fits.within in let b = first.advance in omega (arith, a, b))
+          (let a = fits.moves in let b = may.whole in omega (arith, a, b)) fits
 
-  abbrev rows : List Row
-  rows = map widen front ++ (map join_row second ++ map widen back)
-
-  second_light : All (λ (y : Row). (e.need + y.entry.need ≤ 128) × (length e.extracts + length y.entry.extracts ≤ 64)) second
+  second_light : All (λ (y : Row). (e.need + y.entry.need ≤ 128) × (length e.extracts + length y.entry.extracts ≤ 64)) parts.second
   second_light =
       let P : ParserEntry → Type 0 = λ f. (e.need + f.need ≤ 128) × (length e.extracts + length f.extracts ≤ 64) in
-      All_back P second (subst (λ (es : List ParserEntry). All P es) (sym (rows_in_entries parser m 0 parser.entries)) may.light)
+      All_back P parts.second (subst (λ (es : List ParserEntry). All P es) (sym (rows_in_entries parser m 0 parser.entries)) may.light)
     where
       All_back : (P : ParserEntry → Type 0) (xs : List Row) → All P (map (λ (x : Row). x.entry) xs) → All (λ (x : Row). P x.entry) xs
       All_back P [] each = All-nil (λ (x : Row). P x.entry)
       All_back P (x ∷ xs) each = All-cons (λ (x : Row). P x.entry) x xs (All-head P x.entry (map (λ (y : Row). y.entry) xs) each) (All_back P xs (All-tail P x.entry (map (λ (y : Row). y.entry) xs) each))
 
-  pub rows_formed : All (IsRow states) rows
+  pub rows_formed : All (IsRow parts.states) parts.rows
   rows_formed =
       let all : All (IsRow parser.states) (rows_of parser) = rows_are parser keeps in
-      let wide : (xs : List Row) → All (IsRow parser.states) xs → All (IsRow states) (map widen xs) =
-      λ xs each. All-map (IsRow states) widen xs (All-weaker (IsRow parser.states) (λ (x : Row). IsRow states (widen x)) widened_row xs each) in
-      All-append (IsRow states) (map widen front) (map join_row second ++ map widen back) (wide front (All-take (IsRow parser.states) at (rows_of parser) all))
-      (All-append (IsRow states) (map join_row second) (map widen back)
-      (All-map (IsRow states) join_row second (λ k d lt.
-      new_row (get_or second k d) (second_own parser keeps at e m there on may k d lt) (second_formed parser keeps at e m there on may k d lt) (second_light k d lt)))
-      (wide back (All-drop (IsRow parser.states) (at + 1) (rows_of parser) all)))
+      let wide : (xs : List Row) → All (IsRow parser.states) xs → All (IsRow parts.states) (map parts.widen xs) =
+      λ xs each. All-map (IsRow parts.states) parts.widen xs (All-weaker (IsRow parser.states) (λ (x : Row). IsRow parts.states (parts.widen x)) widened_row xs each) in
+      All-append (IsRow parts.states) (map parts.widen parts.front) (map parts.join_row parts.second ++ map parts.widen parts.back) (wide parts.front (All-take (IsRow parser.states) at (rows_of parser) all))
+      (All-append (IsRow parts.states) (map parts.join_row parts.second) (map parts.widen parts.back)
+      (All-map (IsRow parts.states) parts.join_row parts.second (λ k d lt.
+      new_row (get_or parts.second k d) (second_own parser keeps at e m there on may k d lt) (second_formed parser keeps at e m there on may k d lt) (second_light k d lt)))
+      (wide parts.back (All-drop (IsRow parser.states) (at + 1) (rows_of parser) all)))
 
   -- ---- in order
 
   abbrev state_of : Row → ℕ
   state_of x = x.entry.state
 
-  widen_state : (x : Row) → state_of (widen x) ≡ state_of x
+  widen_state : (x : Row) → state_of (parts.widen x) ≡ state_of x
   widen_state x = by (eqb x.entry.state n)
     where
-      by : (b : Bool) → state_of (cond b (record x { entry = widened_entry here to x.entry }) x) ≡ state_of x
+      by : (b : Bool) → state_of (cond b (record x { entry = widened_entry parts.here parts.to x.entry }) x) ≡ state_of x
       by true = refl
       by false = refl
 
-  sorted_widen : (xs : List Row) → IsNonDecreasingBy state_of xs → IsNonDecreasingBy state_of (map widen xs)
+  sorted_widen : (xs : List Row) → IsNonDecreasingBy state_of xs → IsNonDecreasingBy state_of (map parts.widen xs)
   sorted_widen xs sorted i j d le lt =
-      let long = length-map xs widen in
+      let long = length-map xs parts.widen in
       let inside : j < length xs = omega (arith, long, lt) in
-      let one : state_of (get_or (map widen xs) i d) ≡ state_of (get_or xs i d) = ap state_of (get_or-map widen xs i d d (omega (arith, le, inside))) ∙ widen_state (get_or xs i d) in
-      let two : state_of (get_or (map widen xs) j d) ≡ state_of (get_or xs j d) = ap state_of (get_or-map widen xs j d d inside) ∙ widen_state (get_or xs j d) in
+      let one : state_of (get_or (map parts.widen xs) i d) ≡ state_of (get_or xs i d) = ap state_of (get_or-map parts.widen xs i d d (omega (arith, le, inside))) ∙ widen_state (get_or xs i d) in
+      let two : state_of (get_or (map parts.widen xs) j d) ≡ state_of (get_or xs j d) = ap state_of (get_or-map parts.widen xs j d d inside) ∙ widen_state (get_or xs j d) in
       let three = sorted i j d le inside in
       omega (arith, one, two, three)
 
@@ -281,7 +237,7 @@ module _ (parser : ParserConfig) (keeps : KeepsForm parser) (at : ℕ) (e : Pars
       let found : slice_get (rows_of parser) at ≡ Some (record { entry = e; tail = tail_of parser at }) = row_of parser at e there in
       (ap state_of (get_or_from_slice_get (rows_of parser) at (record { entry = e; tail = tail_of parser at }) d found), slice_get_within (rows_of parser) at (record { entry = e; tail = tail_of parser at }) found)
 
-  sorted_front : IsNonDecreasingBy state_of front
+  sorted_front : IsNonDecreasingBy state_of parts.front
   sorted_front i j d le lt =
       let long = length-take at (rows_of parser) in
       let one = ap state_of (get_or-take at (rows_of parser) i d (omega (arith, long, le, lt))) in
@@ -289,7 +245,7 @@ module _ (parser : ParserConfig) (keeps : KeepsForm parser) (at : ℕ) (e : Pars
       let three = sorted_all i j d le (omega (arith, long, lt)) in
       omega (arith, one, two, three)
 
-  sorted_back : IsNonDecreasingBy state_of back
+  sorted_back : IsNonDecreasingBy state_of parts.back
   sorted_back i j d le lt =
       let long = length-drop (at + 1) (rows_of parser) in
       let one = ap state_of (get_or-drop (at + 1) (rows_of parser) i d) in
@@ -297,7 +253,7 @@ module _ (parser : ParserConfig) (keeps : KeepsForm parser) (at : ℕ) (e : Pars
       let three = sorted_all (at + 1 + i) (at + 1 + j) d (omega (arith, le)) (omega (arith, long, lt)) in
       omega (arith, one, two, three)
 
-  front_low : All (λ (x : Row). state_of x ≤ n) front
+  front_low : All (λ (x : Row). state_of x ≤ n) parts.front
   front_low k d lt =
       let long = length-take at (rows_of parser) in
       let own = at_own d in
@@ -305,7 +261,7 @@ module _ (parser : ParserConfig) (keeps : KeepsForm parser) (at : ℕ) (e : Pars
       let three = sorted_all k at d (omega (arith, long, lt)) own.1 in
       omega (arith, one, three, own.0)
 
-  back_high : All (λ (x : Row). n ≤ state_of x) back
+  back_high : All (λ (x : Row). n ≤ state_of x) parts.back
   back_high k d lt =
       let long = length-drop (at + 1) (rows_of parser) in
       let own = at_own d in
@@ -313,42 +269,42 @@ module _ (parser : ParserConfig) (keeps : KeepsForm parser) (at : ℕ) (e : Pars
       let three = sorted_all at (at + 1 + k) d (omega arith) (omega (arith, long, lt)) in
       omega (arith, two, three, own.0)
 
-  widened_low : All (λ (x : Row). state_of x ≤ n) (map widen front)
-  widened_low = All-map (λ (x : Row). state_of x ≤ n) widen front (λ k d lt. subst (λ s. s ≤ n) (sym (widen_state (get_or front k d))) (front_low k d lt))
+  widened_low : All (λ (x : Row). state_of x ≤ n) (map parts.widen parts.front)
+  widened_low = All-map (λ (x : Row). state_of x ≤ n) parts.widen parts.front (λ k d lt. subst (λ s. s ≤ n) (sym (widen_state (get_or parts.front k d))) (front_low k d lt))
 
-  widened_high : All (λ (x : Row). n ≤ state_of x) (map widen back)
-  widened_high = All-map (λ (x : Row). n ≤ state_of x) widen back (λ k d lt. subst (λ s. n ≤ s) (sym (widen_state (get_or back k d))) (back_high k d lt))
+  widened_high : All (λ (x : Row). n ≤ state_of x) (map parts.widen parts.back)
+  widened_high = All-map (λ (x : Row). n ≤ state_of x) parts.widen parts.back (λ k d lt. subst (λ s. n ≤ s) (sym (widen_state (get_or parts.back k d))) (back_high k d lt))
 
-  joined_own : All (λ (x : Row). state_of x ≡ n) (map join_row second)
-  joined_own = All-map (λ (x : Row). state_of x ≡ n) join_row second (λ k d lt. refl)
+  joined_own : All (λ (x : Row). state_of x ≡ n) (map parts.join_row parts.second)
+  joined_own = All-map (λ (x : Row). state_of x ≡ n) parts.join_row parts.second (λ k d lt. refl)
 
-  rows_sorted : IsNonDecreasingBy state_of rows
+  rows_sorted : IsNonDecreasingBy state_of parts.rows
   rows_sorted =
-      sorted-append state_of (map widen front) (map join_row second ++ map widen back) n widened_low
-      (All-append (λ (x : Row). n ≤ state_of x) (map join_row second) (map widen back) (All-weaker (λ (x : Row). state_of x ≡ n) (λ (x : Row). n ≤ state_of x) (λ (x : Row) same. omega (arith, same)) (map join_row second) joined_own) widened_high)
-      (sorted_widen front sorted_front)
-      (sorted-append state_of (map join_row second) (map widen back) n (All-weaker (λ (x : Row). state_of x ≡ n) (λ (x : Row). state_of x ≤ n) (λ (x : Row) same. omega (arith, same)) (map join_row second) joined_own) widened_high
-      (sorted-same state_of (map join_row second) n joined_own) (sorted_widen back sorted_back))
+      sorted-append state_of (map parts.widen parts.front) (map parts.join_row parts.second ++ map parts.widen parts.back) n widened_low
+      (All-append (λ (x : Row). n ≤ state_of x) (map parts.join_row parts.second) (map parts.widen parts.back) (All-weaker (λ (x : Row). state_of x ≡ n) (λ (x : Row). n ≤ state_of x) (λ (x : Row) same. omega (arith, same)) (map parts.join_row parts.second) joined_own) widened_high)
+      (sorted_widen parts.front sorted_front)
+      (sorted-append state_of (map parts.join_row parts.second) (map parts.widen parts.back) n (All-weaker (λ (x : Row). state_of x ≡ n) (λ (x : Row). state_of x ≤ n) (λ (x : Row) same. omega (arith, same)) (map parts.join_row parts.second) joined_own) widened_high
+      (sorted-same state_of (map parts.join_row parts.second) n joined_own) (sorted_widen parts.back sorted_back))
 
-  pub rows_count : length rows + 1 ≡ length parser.entries + length (entries_in m parser.entries)
+  pub rows_count : length parts.rows + 1 ≡ length parser.entries + length (entries_in m parser.entries)
   rows_count =
-      let a = length-append (map widen front) (map join_row second ++ map widen back) in
-      let b = length-append (map join_row second) (map widen back) in
-      let c = length-map front widen in
-      let d = length-map second join_row in
-      let f = length-map back widen in
+      let a = length-append (map parts.widen parts.front) (map parts.join_row parts.second ++ map parts.widen parts.back) in
+      let b = length-append (map parts.join_row parts.second) (map parts.widen parts.back) in
+      let c = length-map parts.front parts.widen in
+      let d = length-map parts.second parts.join_row in
+      let f = length-map parts.back parts.widen in
       let g = length-take at (rows_of parser) in
       let h = length-drop (at + 1) (rows_of parser) in
       let i = length_rows parser in
       let j = slice_get_within parser.entries at e there in
-      let k : length second ≡ length (entries_in m parser.entries) = sym (length-map second (λ (x : Row). x.entry)) ∙ ap length (rows_in_entries parser m 0 parser.entries) in
+      let k : length parts.second ≡ length (entries_in m parser.entries) = sym (length-map parts.second (λ (x : Row). x.entry)) ∙ ap length (rows_in_entries parser m 0 parser.entries) in
       omega (arith, a, b, c, d, f, g, h, i, j, k)
 
-  states_formed : All (λ s. state_is_formed s ≡ true) states
+  states_formed : All (λ s. state_is_formed s ≡ true) parts.states
   states_formed =
-      All-set (λ s. state_is_formed s ≡ true) parser.states n (record { lookups = to })
-      (and_from (rises_from 0 to) (list_all (λ o. nat_lt o 128) to) (together_rises here behind e.advance)
-      (list_all_below to (together_low here behind e.advance))) keeps.states
+      All-set (λ s. state_is_formed s ≡ true) parser.states n (record { lookups = parts.to })
+      (and_from (rises_from 0 parts.to) (list_all (λ o. nat_lt o 128) parts.to) (together_rises parts.here parts.behind e.advance)
+      (list_all_below parts.to (together_low parts.here parts.behind e.advance))) keeps.states
 
   pub joined_keeps : KeepsForm (joined parser at e m)
   joined_keeps =
@@ -357,4 +313,4 @@ module _ (parser : ParserConfig) (keeps : KeepsForm parser) (at : ℕ) (e : Pars
       let many = as_many in
       let some = keeps.some in
       let few = keeps.few_states in
-      made_keeps states rows (omega (arith, many, some)) (omega (arith, many, few)) (omega (arith, count, room)) states_formed rows_formed rows_sorted
+      made_keeps parts.states parts.rows (omega (arith, many, some)) (omega (arith, many, few)) (omega (arith, count, room)) states_formed rows_formed rows_sorted

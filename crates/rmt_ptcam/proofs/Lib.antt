@@ -18,6 +18,7 @@ pub mod TogetherLaws
 pub mod WindowLaws
 pub mod RowLaws
 pub mod FormedRows
+pub mod JoinParts
 pub mod JoinFacts
 pub mod JoinLaws
 pub mod JoinedParse

@@ -38,6 +38,15 @@ run_more parser frame state k r h was =
     let next : length parser.states - k ≡ suc (length parser.states - (k + 1)) = omega arith in
     was ∙ ap (λ n. parse_from n parser frame state r) next
 
+-- so what a step gives is what the whole parse gives
+pub run_gives : (parser : ParserConfig) (frame : List ℕ) (state k : ℕ) (r : Reached) (result : Step) (vector : List ℕ) (tails : List TailAt) → k < length parser.states
+    → parse parser frame ≡ parse_from (length parser.states - k) parser frame state r
+    → ((goes : ℕ → Reached → Parse) → StepGives goes (taken goes parser frame (entry_of parser state (value_at frame r.at (slice_get parser.states state))) r) result vector tails)
+    → StepGives (parse_from (length parser.states - (k + 1)) parser frame) (parse parser frame) result vector tails
+run_gives parser frame state k r result vector tails h was gives =
+    let goes : ℕ → Reached → Parse = parse_from (length parser.states - (k + 1)) parser frame in
+    subst (λ (p : Parse). StepGives goes p result vector tails) (sym (run_more parser frame state k r h was)) (gives goes)
+
 pub run_end : (parser : ParserConfig) (frame : List ℕ) (state k : ℕ) (r : Reached) → length parser.states ≤ k
     → parse parser frame ≡ parse_from (length parser.states - k) parser frame state r → parse parser frame ≡ Reject
 run_end parser frame state k r h was =

@@ -27,7 +27,7 @@ use Rattle.rmt_ptcam.specs.Needs.{extract_count, first_fault, full_fault, header
 use Rattle.rmt_ptcam.specs.Plain.{bits_from, entries_from, entries_of, entry_of_case, entry_to, extracts_of, looked_up, next_of, plain, state_of}
 use Rattle.rmt_ptcam.proofs.AgreementLaws.{few_lookups}
 use Rattle.rmt_ptcam.proofs.BitRunLaws.{bit_from_slice, same_on_runs}
-use Rattle.rmt_ptcam.proofs.CaseLaws.{byte_of, case_reads, looked_up_shown, low_of, masks_fit, number_with, shown, values_fit}
+use Rattle.rmt_ptcam.proofs.CaseLaws.{CaseParts, byte_of, case_parts, case_reads, looked_up_shown, masks_fit, shown, values_fit}
 use Rattle.rmt_ptcam.proofs.FormedRows.{formed_from}
 use Rattle.rmt_ptcam.proofs.FormLaws.{header_formed, plain_few, plain_is_parser, plain_rises, plain_tails_formed}
 use Rattle.rmt_ptcam.proofs.LookupLaws.{Compares, IsOver, agrees_from, word_over}
@@ -49,44 +49,32 @@ value_runs p low mask value (f ∷ fs) (t ∷ ts) tests masks values =
     (value_runs p low mask value fs ts tests.1 masks.1 values.1)
 
 module _ (p : Program) (n : ℕ) (h : Header) (is : IsHeader p n h) (few : length (lookups_of p h) ≤ 4) (ts : List Test) (tests : AreTests p h.select ts) where
-  abbrev masks : List ℕ
-  masks = map (λ (t : Test). t.mask) ts
-
-  abbrev values : List ℕ
-  values = map (λ (t : Test). t.value) ts
-
-  abbrev mask : ℕ
-  mask = number_with p h masks
-
-  abbrev value : ℕ
-  value = number_with p h values
-
-  abbrev low : ℕ → ℕ
-  low = low_of p h
+  abbrev case : CaseParts
+  case = case_parts p h ts
 
   -- the values have no bit outside the masks
-  value_masked : bit_and value mask ≡ value
+  value_masked : bit_and case.value case.mask ≡ case.value
   value_masked =
-      let each : All (λ f. slice (bit_and value mask) (low f) (width_of p f) ≡ slice value (low f) (width_of p f)) h.select =
-      value_runs p low mask value h.select ts tests (case_reads p n h is masks (masks_fit p h.select ts tests)) (case_reads p n h is values (values_fit p h.select ts tests)) in
-      same_on_runs low (width_of p) value h.select masks values (masks_fit p h.select ts tests) (values_fit p h.select ts tests) (λ i f bit.
-      bit_from_slice (bit_and value mask) value (low f) (width_of p f) i
-      (All-contains (λ g. slice (bit_and value mask) (low g) (width_of p g) ≡ slice value (low g) (width_of p g)) h.select f each bit.own) bit.from bit.below)
+      let each : All (λ f. slice (bit_and case.value case.mask) (case.low f) (width_of p f) ≡ slice case.value (case.low f) (width_of p f)) h.select =
+      value_runs p case.low case.mask case.value h.select ts tests (case_reads p n h is case.masks (masks_fit p h.select ts tests)) (case_reads p n h is case.values (values_fit p h.select ts tests)) in
+      same_on_runs case.low (width_of p) case.value h.select case.masks case.values (masks_fit p h.select ts tests) (values_fit p h.select ts tests) (λ i f bit.
+      bit_from_slice (bit_and case.value case.mask) case.value (case.low f) (width_of p f) i
+      (All-contains (λ g. slice (bit_and case.value case.mask) (case.low g) (width_of p g) ≡ slice case.value (case.low g) (width_of p g)) h.select f each bit.own) bit.from bit.below)
 
   small : (x o : ℕ) → byte_of h.bytes x o < 256
   small x o = slice-lt x (8 * (h.bytes - 1 - o)) 8
 
-  case_compares : Compares (lookups_of p h) (looked_up p h masks) (looked_up p h values)
+  case_compares : Compares (lookups_of p h) (looked_up p h case.masks) (looked_up p h case.values)
   case_compares = record {
-    mask = subst (IsOver (lookups_of p h)) (sym (looked_up_shown p h masks)) (word_over (byte_of h.bytes mask) (small mask) (lookups_of p h) few);
-    value = subst (IsOver (lookups_of p h)) (sym (looked_up_shown p h values)) (word_over (byte_of h.bytes value) (small value) (lookups_of p h) few);
+    mask = subst (IsOver (lookups_of p h)) (sym (looked_up_shown p h case.masks)) (word_over (byte_of h.bytes case.mask) (small case.mask) (lookups_of p h) few);
+    value = subst (IsOver (lookups_of p h)) (sym (looked_up_shown p h case.values)) (word_over (byte_of h.bytes case.value) (small case.value) (lookups_of p h) few);
     within =
-        ap (λ x. bit_and x (looked_up p h masks)) (looked_up_shown p h values) ∙ ap (bit_and (shown p h value)) (looked_up_shown p h masks)
-        ∙ agrees_from (byte_of h.bytes value) (byte_of h.bytes mask) (byte_of h.bytes value) (small value) (small mask) (small value) (lookups_of p h) few
+        ap (λ x. bit_and x (looked_up p h case.masks)) (looked_up_shown p h case.values) ∙ ap (bit_and (shown p h case.value)) (looked_up_shown p h case.masks)
+        ∙ agrees_from (byte_of h.bytes case.value) (byte_of h.bytes case.mask) (byte_of h.bytes case.value) (small case.value) (small case.mask) (small case.value) (lookups_of p h) few
         (λ k d lt.
         let at : ℕ = 8 * (h.bytes - 1 - get_or (lookups_of p h) k d) in
-        sym (slice-and value mask at 8) ∙ ap (λ x. slice x at 8) value_masked)
-        ∙ sym (looked_up_shown p h values);
+        sym (slice-and case.value case.mask at 8) ∙ ap (λ x. slice x at 8) value_masked)
+        ∙ sym (looked_up_shown p h case.values);
   }
 
 -- ---- how many extracts

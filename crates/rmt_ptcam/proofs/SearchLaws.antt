@@ -10,6 +10,10 @@ use Rattle.rmt_ptcam.specs.Types.{ParserEntry, TailOf}
 use Rattle.rmt_config.specs.declared.config.Next.TheVariants as next
 use Rattle.rmt_bits.proofs.ListLaws.{find-none}
 
+-- what was read of a list that is seen again
+pub read_again : (es items : List ParserEntry) (n : ℕ) (e : ParserEntry) → e ≡ get_or items n e → items ≡ es → e ≡ get_or es n e
+read_again es items n e is same = is ∙ ap (λ (xs : List ParserEntry). get_or xs n e) same
+
 module _ {X : Type 0} (p : X → Bool) where
   -- an item that passes, all before which fail
   pub position_here : (xs : List X) (i : ℕ) (d : X) → i < length xs → ((k : ℕ) → k < i → p (get_or xs k d) ≡ false) → p (get_or xs i d) ≡ true → position p xs ≡ Some i

@@ -26,7 +26,8 @@ use Rattle.rmt_ptcam.specs.Joining.{KeepsForm, Row, joined, lookups_at, rows_in,
 use Rattle.rmt_ptcam.specs.Steps.{MeetsNoMore, ParsesWithin, parse_within, walk_within}
 use Rattle.rmt_ptcam.proofs.JoinFacts.{MayJoin, find_in}
 use Rattle.rmt_ptcam.proofs.JoinsHold.{StaysUnderJoins, joins_hold}
-use Rattle.rmt_ptcam.proofs.JoinedParse.{found_row, get_set_same, new_rows, own_rows, step_other}
+use Rattle.rmt_ptcam.proofs.JoinedParse.{found_row, get_set_same, own_rows, step_other}
+use Rattle.rmt_ptcam.proofs.JoinParts.{join_parts}
 use Rattle.rmt_ptcam.proofs.RowLaws.{hits, row_step, taken_made, taken_row}
 use Rattle.rmt_bits.proofs.ListLaws.{slice_get-set_other}
 
@@ -208,16 +209,16 @@ module _ (parser : ParserConfig) (keeps : KeepsForm parser) (at : ℕ) (e : Pars
   joined_within (suc k) s r rest below done =
       let goes : ℕ → Reached → Parse = parse_within rest k (joined parser at e m) frame in
       let later : (t : ℕ) (q : Reached) → t < length parser.states → Done parser keeps frame k t q → merged k rest t q ≡ parse_within rest k parser frame t q = λ t q lt d. joined_within k t q rest lt d in
-      taken_made goes frame s (value_at frame r.at (slice_get (slice_set parser.states n (record { lookups = together (lookups_at parser.states n) e.advance (lookups_at parser.states m) })) s)) r (slice_set parser.states n (record { lookups = together (lookups_at parser.states n) e.advance (lookups_at parser.states m) })) (new_rows parser keeps at e m there goes_to may)
+      taken_made goes frame s (value_at frame r.at (slice_get (slice_set parser.states n (record { lookups = together (lookups_at parser.states n) e.advance (lookups_at parser.states m) })) s)) r (slice_set parser.states n (record { lookups = together (lookups_at parser.states n) e.advance (lookups_at parser.states m) })) (join_parts parser at e m).rows
       ∙ elim (cases_eq s n) [
         | inl same ↦
-            subst (λ t. Done parser keeps frame (suc k) t r → row_step goes frame (find (hits t (value_at frame r.at (slice_get (slice_set parser.states n (record { lookups = together (lookups_at parser.states n) e.advance (lookups_at parser.states m) })) t))) (new_rows parser keeps at e m there goes_to may)) r ≡ row_step (parse_within rest k parser frame) frame (found parser keeps frame t r) r) (sym same)
+            subst (λ t. Done parser keeps frame (suc k) t r → row_step goes frame (find (hits t (value_at frame r.at (slice_get (slice_set parser.states n (record { lookups = together (lookups_at parser.states n) e.advance (lookups_at parser.states m) })) t))) (join_parts parser at e m).rows) r ≡ row_step (parse_within rest k parser frame) frame (found parser keeps frame t r) r) (sym same)
             (λ d.
-            ap (λ (o : Option ParserState). row_step goes frame (find (hits n (value_at frame r.at o)) (new_rows parser keeps at e m there goes_to may)) r) (get_set_same parser.states n (record { lookups = together (lookups_at parser.states n) e.advance (lookups_at parser.states m) }) (subst (λ t. t < length parser.states) same below))
+            ap (λ (o : Option ParserState). row_step goes frame (find (hits n (value_at frame r.at o)) (join_parts parser at e m).rows) r) (get_set_same parser.states n (record { lookups = together (lookups_at parser.states n) e.advance (lookups_at parser.states m) }) (subst (λ t. t < length parser.states) same below))
             ∙ own_rows parser keeps at e m there goes_to may frame small r goes (parse_within rest k parser frame) (same_row k n r rest d later) (λ hit. own_joined r hit k rest d later))
             done
         | inr other ↦
-            ap (λ (o : Option ParserState). row_step goes frame (find (hits s (value_at frame r.at o)) (new_rows parser keeps at e m there goes_to may)) r) (slice_get-set_other parser.states n s (record { lookups = together (lookups_at parser.states n) e.advance (lookups_at parser.states m) }) other)
+            ap (λ (o : Option ParserState). row_step goes frame (find (hits s (value_at frame r.at o)) (join_parts parser at e m).rows) r) (slice_get-set_other parser.states n s (record { lookups = together (lookups_at parser.states n) e.advance (lookups_at parser.states m) }) other)
             ∙ step_other parser keeps at e m there goes_to may s (value_of parser keeps frame s r) other goes frame r ∙ same_row k s r rest done later
       ]
       ∙ sym (by_row parser keeps frame rest k s r)

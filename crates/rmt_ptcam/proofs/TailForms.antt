@@ -50,6 +50,11 @@ tail_from e t is =
     and_from _ _ (and_from _ _ (and_from _ _ (and_from _ _ (and_from _ _ (and_from _ _ (lt-ltb t.header 64 is.header) field) (le-leb 1 t.unit is.some_unit))
     (lt-ltb t.unit 256 is.small_unit)) (lt-ltb t.base 256 is.small_base)) is.greatest) (eq-eqb e.advance e.need is.moves)
 
+-- another entry may have it too, from another bit, where that is within what it needs
+pub other_tail : (e f : ParserEntry) (t : TailOf) (entry from : ℕ) → from + t.len ≤ 8 * f.need → f.advance ≡ f.need → IsRowTail e t → IsRowTail f (record t { entry = entry; from = from })
+other_tail e f t entry from within moves is =
+    record { header = is.header; some_bits = is.some_bits; few_bits = is.few_bits; within = within; some_unit = is.some_unit; small_unit = is.small_unit; small_base = is.small_base; greatest = is.greatest; moves = moves }
+
 -- so it is one that the chip can run
 pub tail_runs : (parser : ParserConfig) (t : TailOf) → is_tail_of t (slice_get parser.entries t.entry) ≡ true → IsTailOf parser t
 tail_runs parser t is = by (slice_get parser.entries t.entry) refl

@@ -57,32 +57,24 @@ none_at o = record { offset = o; value = 0; mask = 0 }
 abbrev chosen : Bool → ByteTest → List ByteTest → ℕ → ByteTest
 chosen b t ts o = unwrap_or (cond b (Some t) (find (λ (u : ByteTest). eqb u.offset o) ts)) (none_at o)
 
-value_in : (ls : List ℕ) (bytes : List (ℕ × ℕ)) (o : ℕ) → (test_for (map test_at (zip ls bytes)) o).value ≡ byte_in ls (map (λ (x : ℕ × ℕ). x.0) bytes) o
-value_in [] bytes o = refl
-value_in (l ∷ ls) [] o = refl
-value_in (l ∷ ls) (x ∷ bytes) o = by (eqb l o) (value_in ls bytes o)
-  where
-    by : (b : Bool) → (test_for (map test_at (zip ls bytes)) o).value ≡ byte_in ls (map (λ (y : ℕ × ℕ). y.0) bytes) o
-        → (chosen b (test_at (l, x)) (map test_at (zip ls bytes)) o).value ≡ cond b x.0 (byte_in ls (map (λ (y : ℕ × ℕ). y.0) bytes) o)
-    by true rest = refl
-    by false rest = rest
-
-mask_in : (ls : List ℕ) (bytes : List (ℕ × ℕ)) (o : ℕ) → (test_for (map test_at (zip ls bytes)) o).mask ≡ byte_in ls (map (λ (x : ℕ × ℕ). x.1) bytes) o
-mask_in [] bytes o = refl
-mask_in (l ∷ ls) [] o = refl
-mask_in (l ∷ ls) (x ∷ bytes) o = by (eqb l o) (mask_in ls bytes o)
-  where
-    by : (b : Bool) → (test_for (map test_at (zip ls bytes)) o).mask ≡ byte_in ls (map (λ (y : ℕ × ℕ). y.1) bytes) o
-        → (chosen b (test_at (l, x)) (map test_at (zip ls bytes)) o).mask ≡ cond b x.1 (byte_in ls (map (λ (y : ℕ × ℕ). y.1) bytes) o)
-    by true rest = refl
-    by false rest = rest
+-- the value or the mask of the test of a byte
+module _ (part : ByteTest → ℕ) (own : ℕ × ℕ → ℕ) (none : (o : ℕ) → part (none_at o) ≡ 0) (told : (l : ℕ) (x : ℕ × ℕ) → part (test_at (l, x)) ≡ own x) where
+  part_in : (ls : List ℕ) (bytes : List (ℕ × ℕ)) (o : ℕ) → part (test_for (map test_at (zip ls bytes)) o) ≡ byte_in ls (map own bytes) o
+  part_in [] bytes o = none o
+  part_in (l ∷ ls) [] o = none o
+  part_in (l ∷ ls) (x ∷ bytes) o = by (eqb l o) (part_in ls bytes o)
+    where
+      by : (b : Bool) → part (test_for (map test_at (zip ls bytes)) o) ≡ byte_in ls (map own bytes) o
+          → part (chosen b (test_at (l, x)) (map test_at (zip ls bytes)) o) ≡ cond b (own x) (byte_in ls (map own bytes) o)
+      by true rest = told l x
+      by false rest = rest
 
 -- the tests of an entry have the bytes of its words
 pub value_at_test : (ls : List ℕ) (e : ParserEntry) (o : ℕ) → (test_for (tests_of ls e) o).value ≡ byte_at ls e.value o
-value_at_test ls e o = value_in ls (zip (bytes_of 4 e.value) (bytes_of 4 e.mask)) o ∙ sym (word_at ls e.value o)
+value_at_test ls e o = part_in (λ (t : ByteTest). t.value) (λ x. x.0) (λ k. refl) (λ l x. refl) ls (zip (bytes_of 4 e.value) (bytes_of 4 e.mask)) o ∙ sym (word_at ls e.value o)
 
 pub mask_at_test : (ls : List ℕ) (e : ParserEntry) (o : ℕ) → (test_for (tests_of ls e) o).mask ≡ byte_at ls e.mask o
-mask_at_test ls e o = mask_in ls (zip (bytes_of 4 e.value) (bytes_of 4 e.mask)) o ∙ sym (word_at ls e.mask o)
+mask_at_test ls e o = part_in (λ (t : ByteTest). t.mask) (λ x. x.1) (λ k. refl) (λ l x. refl) ls (zip (bytes_of 4 e.value) (bytes_of 4 e.mask)) o ∙ sym (word_at ls e.mask o)
 
 -- ---- tests of two entries
 
@@ -145,25 +137,22 @@ module _ (here there : List ℕ) (e f : ParserEntry) where
   abbrev tests : List ByteTest
   tests = joined_tests e.advance (tests_of here e) (tests_of there f)
 
-  value_of_both : (o : ℕ) → (test_for tests o).value ≡ byte_of_both here e.advance there e.value f.value o
-  value_of_both o = elim (cases_lt o e.advance) [
+  part_of_both : (part : ByteTest → ℕ) (word : ParserEntry → ℕ) → ((ls : List ℕ) (x : ParserEntry) (o : ℕ) → part (test_for (tests_of ls x) o) ≡ byte_at ls (word x) o)
+      → ((t : ByteTest) → part (later e.advance t) ≡ part t) → (o : ℕ) → part (test_for tests o) ≡ byte_of_both here e.advance there (word e) (word f) o
+  part_of_both part word at_test kept o = elim (cases_lt o e.advance) [
     | inl lt ↦
-        ap (λ (t : ByteTest). t.value) (front_test e.advance (tests_of here e) (tests_of there f) o lt) ∙ value_at_test here e o
-        ∙ sym (ap (λ (b : Bool). cond b (byte_at here e.value o) (byte_at there f.value (o - e.advance))) (lt-ltb o e.advance lt))
+        ap part (front_test e.advance (tests_of here e) (tests_of there f) o lt) ∙ at_test here e o
+        ∙ sym (ap (λ (b : Bool). cond b (byte_at here (word e) o) (byte_at there (word f) (o - e.advance))) (lt-ltb o e.advance lt))
     | inr le ↦
-        ap (λ (t : ByteTest). t.value) (back_test e.advance (tests_of here e) (tests_of there f) o le) ∙ value_at_test there f (o - e.advance)
-        ∙ sym (ap (λ (b : Bool). cond b (byte_at here e.value o) (byte_at there f.value (o - e.advance))) (le-ltb o e.advance le))
+        ap part (back_test e.advance (tests_of here e) (tests_of there f) o le) ∙ kept (test_for (tests_of there f) (o - e.advance)) ∙ at_test there f (o - e.advance)
+        ∙ sym (ap (λ (b : Bool). cond b (byte_at here (word e) o) (byte_at there (word f) (o - e.advance))) (le-ltb o e.advance le))
   ]
 
+  value_of_both : (o : ℕ) → (test_for tests o).value ≡ byte_of_both here e.advance there e.value f.value o
+  value_of_both = part_of_both (λ (t : ByteTest). t.value) (λ (x : ParserEntry). x.value) value_at_test (λ t. refl)
+
   mask_of_both : (o : ℕ) → (test_for tests o).mask ≡ byte_of_both here e.advance there e.mask f.mask o
-  mask_of_both o = elim (cases_lt o e.advance) [
-    | inl lt ↦
-        ap (λ (t : ByteTest). t.mask) (front_test e.advance (tests_of here e) (tests_of there f) o lt) ∙ mask_at_test here e o
-        ∙ sym (ap (λ (b : Bool). cond b (byte_at here e.mask o) (byte_at there f.mask (o - e.advance))) (lt-ltb o e.advance lt))
-    | inr le ↦
-        ap (λ (t : ByteTest). t.mask) (back_test e.advance (tests_of here e) (tests_of there f) o le) ∙ mask_at_test there f (o - e.advance)
-        ∙ sym (ap (λ (b : Bool). cond b (byte_at here e.mask o) (byte_at there f.mask (o - e.advance))) (le-ltb o e.advance le))
-  ]
+  mask_of_both = part_of_both (λ (t : ByteTest). t.mask) (λ (x : ParserEntry). x.mask) mask_at_test (λ t. refl)
 
 -- ---- entries by their words
 

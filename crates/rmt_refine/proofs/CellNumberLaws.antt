@@ -30,7 +30,8 @@ use Rattle.rmt_refine.specs.Listed.{ListTheirCells, ListsItsCells}
 use Rattle.rmt_refine.specs.Outcomes.{entries_at}
 use Rattle.rmt_refine.proofs.NumberLaws.{counted_is, from_counted, in_counted}
 use Rattle.rmt_refine.proofs.OutcomeLaws.{list_at}
-use Rattle.rmt_refine.proofs.PartLaws.{IsPart, part_of_spot, slot_is_unit, slot_of_part, some_and, spot_of_part, then_some, unit_of_part}
+use Rattle.rmt_pack.proofs.PartLaws.{IsPart, slot_is_unit, then_some}
+use Rattle.rmt_refine.proofs.PartLaws.{part_of_spot, slot_of_part, some_and, spot_of_part, unit_of_part}
 use Rattle.rmt_refine.proofs.RisingLaws.{same_order}
 use Rattle.rmt_bits.proofs.MemberLaws.{Contains-map, Contains-unmap, Contains-split, Contains-item, Contains-flat_map, flat_from, Contains-from_any}
 

@@ -1,5 +1,5 @@
 -- The program on two stages: the cells of the configuration hold its entries.
-use Rattle.std.proofs.Common.{◌≡◌, ℕ, zero, suc, ◌<◌, true, List, [], ◌∷◌, Some, map, refl, ◌∙◌, subst, inl, inr, arith}
+use Rattle.std.proofs.Common.{◌≡◌, ◌≢◌, ℕ, zero, suc, ◌<◌, true, List, [], ◌∷◌, Some, map, refl, sym, ◌∙◌, subst, inl, inr, arith}
 use Rattle.std.specs.Prelude.{All, Contains, IsSomeAnd, slice_get}
 use Rattle.std.proofs.lemmas.List.Elements.{All-nil, All-contains}
 use Rattle.std.proofs.lemmas.Option.{none-some, same_Some}
@@ -19,7 +19,7 @@ use Rattle.rmt_refine.specs.Cells.{CellsCarried, HoldsEntry, IsBefore, IsCandida
 use Rattle.rmt_config.specs.Effects.{HasArguments}
 use Rattle.rmt_refine.specs.Units.{table_at}
 use Rattle.rmt_refine.proofs.CellLaws.{carried_from}
-use Rattle.rmt_refine.proofs.FindLaws.{Contains-range}
+use Rattle.rmt_pack.proofs.FindLaws.{Contains-range}
 use Rattle.rmt_refine.proofs.CellNumberLaws.{cells_listed}
 use Rattle.rmt_refine.proofs.MemoryExamples.{first_holds, second_holds}
 use Rattle.rmt_refine.proofs.ListedLaws.{never, three}
@@ -140,23 +140,14 @@ no_cells n t widths none = record {
   order = λ e f a b there_e there_f is_a is_b told_a told_b before. absurd (none a is_a);
 }
 
-note_spot : (k place n : ℕ) → IsSpotOf config 0 (record { stage = k; place = place; cell = n }) → ⊥
-note_spot zero zero n is = let lt = is.1 in omega (arith, lt)
-note_spot zero (suc zero) n is = let e = is.0 in omega (arith, e)
-note_spot zero (suc (suc place)) n is = is
-note_spot (suc zero) zero n is = let e = is.0 in omega (arith, e)
-note_spot (suc zero) (suc zero) n is = let e = is.0 in omega (arith, e)
-note_spot (suc zero) (suc (suc place)) n is = is
-note_spot (suc (suc k)) place n is = is
-
-back_spot : (k place n : ℕ) → IsSpotOf config 2 (record { stage = k; place = place; cell = n }) → ⊥
-back_spot zero zero n is = let e = is.0 in omega (arith, e)
-back_spot zero (suc zero) n is = let e = is.0 in omega (arith, e)
-back_spot zero (suc (suc place)) n is = is
-back_spot (suc zero) zero n is = let e = is.0 in omega (arith, e)
-back_spot (suc zero) (suc zero) n is = let lt = is.1 in omega (arith, lt)
-back_spot (suc zero) (suc (suc place)) n is = is
-back_spot (suc (suc k)) place n is = is
+no_spot : (node : ℕ) → node ≢ 1 → (k place n : ℕ) → IsSpotOf config node (record { stage = k; place = place; cell = n }) → ⊥
+no_spot node other zero zero n is = let lt = is.1 in omega (arith, lt)
+no_spot node other zero (suc zero) n is = other (sym is.0)
+no_spot node other zero (suc (suc place)) n is = is
+no_spot node other (suc zero) zero n is = other (sym is.0)
+no_spot node other (suc zero) (suc zero) n is = let lt = is.1 in omega (arith, lt)
+no_spot node other (suc zero) (suc (suc place)) n is = is
+no_spot node other (suc (suc k)) place n is = is
 
 abbrev OwnCells : ℕ → Table → List Entry → Type 0
 OwnCells n t es = TableCellsCarried program config (own_view config) cells n t (map (width_of program) t.key) es
@@ -165,9 +156,9 @@ of_table : (n : ℕ) (t u : Table) (es fs : List Entry) → Some t ≡ Some u �
 of_table n t u es fs same_t same_es own = subst (λ x. OwnCells n x fs) (same_Some t u same_t) (subst (OwnCells n t) (same_Some es fs same_es) own)
 
 table_cells : (n : ℕ) (t : Table) (es : List Entry) → table_at program n ≡ Some t → slice_get lists n ≡ Some es → OwnCells n t es
-table_cells zero t es at list = of_table 0 note t [] es at list (no_cells 0 note [] (λ spot is. note_spot spot.stage spot.place spot.cell is))
+table_cells zero t es at list = of_table 0 note t [] es at list (no_cells 0 note [] (λ spot is. no_spot 0 (λ e. omega (arith, e)) spot.stage spot.place spot.cell is))
 table_cells (suc zero) t es at list = of_table 1 ports t entries es at list ports_cells
-table_cells (suc (suc zero)) t es at list = of_table 2 back t [] es at list (no_cells 2 back [] (λ spot is. back_spot spot.stage spot.place spot.cell is))
+table_cells (suc (suc zero)) t es at list = of_table 2 back t [] es at list (no_cells 2 back [] (λ spot is. no_spot 2 (λ e. omega (arith, e)) spot.stage spot.place spot.cell is))
 table_cells (suc (suc (suc n))) t es at list = absurd (none-some t at)
 
 abbrev OfSome : CellOf → Type 0

@@ -28,10 +28,11 @@ use Rattle.rmt_refine.specs.Outcomes.{entries_at, run_before}
 use Rattle.rmt_refine.specs.Units.{applied, table_at}
 use Rattle.rmt_refine.proofs.CarriedLaws.{set_in}
 use Rattle.rmt_refine.proofs.FieldLaws.{action_run, applied_state, args_run, fields_listed}
-use Rattle.rmt_refine.proofs.FindLaws.{found_passes}
+use Rattle.rmt_pack.proofs.FindLaws.{found_passes}
 use Rattle.rmt_refine.proofs.LookUpLaws.{hit_some}
 use Rattle.rmt_refine.proofs.OutcomeLaws.{own_entries}
-use Rattle.rmt_refine.proofs.PartLaws.{some_and, then_some}
+use Rattle.rmt_refine.proofs.PartLaws.{some_and}
+use Rattle.rmt_pack.proofs.PartLaws.{then_some}
 use Rattle.rmt_refine.proofs.RunLaws.{guard_at, run_next}
 use Rattle.rmt_refine.proofs.RunningLaws.{ActsIn, RunsFor, RunsInstruction}
 use Rattle.rmt_bits.proofs.MemberLaws.{Contains-map, Contains-unmap, Contains-flat_map, from_flat_map}

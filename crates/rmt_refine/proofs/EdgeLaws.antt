@@ -22,7 +22,7 @@ use Rattle.rmt_pack.specs.Placements.{Keeps, is_strict, quanta_in}
 use Rattle.rmt_refine.specs.Carries.{EdgesKept, all_edges}
 use Rattle.rmt_refine.specs.Outcomes.{ChildrenFollow, entries_at, node_outcome, run_before}
 use Rattle.rmt_refine.specs.Units.{UnitsCarried}
-use Rattle.rmt_refine.proofs.FindLaws.{Contains-range, Contains-range_from}
+use Rattle.rmt_pack.proofs.FindLaws.{Contains-range, Contains-range_from}
 use Rattle.rmt_refine.proofs.NodeLaws.{part_there}
 use Rattle.rmt_refine.proofs.RankLaws.{compare}
 use Rattle.rmt_refine.proofs.FieldLaws.{Goes}

@@ -1,28 +1,27 @@
 -- The entries of well-formed lists: each is in the list of its table, and has a number of its own.
-use Rattle.std.proofs.Common.{◌≡◌, ◌≢◌, ◌⊎◌, ℕ, ◌<◌, ◌==◌, true, List, [], ◌∷◌, ◌++◌, Option, Some, None, All, Contains, filter_map, length, map, get_or, refl, sym, ap, subst, ◌∙◌, inl, inr, arith}
+use Rattle.std.proofs.Common.{◌≡◌, ◌≢◌, ◌⊎◌, ℕ, ◌<◌, List, [], ◌∷◌, Option, Some, None, All, Contains, filter_map, length, map, get_or, refl, sym, ap, subst, ◌∙◌, inl, inr, arith}
 use Rattle.std.specs.Prelude.{AllPairs, IsSomeAnd, option_and_then, option_map, slice_get, slice_index}
-use Rattle.std.specs.List.{AllZip, cons_option, flat_map}
-use Rattle.std.proofs.lemmas.Bool.{eq-eqb}
-use Rattle.std.proofs.lemmas.List.{get_or-map, length-map, map-append}
+use Rattle.std.specs.List.{AllZip, cons_option}
+use Rattle.std.proofs.lemmas.List.{length-map}
 use Rattle.std.proofs.lemmas.List.Elements.{All-cons, All-contains, All-head, All-nil, All-tail}
 use Rattle.std.proofs.lemmas.List.Kept.{AllPairs-cons}
 use Rattle.rmt_bits.proofs.PairLaws.{AllPairs-head, AllPairs-none, AllPairs-tail}
 use Rattle.std.proofs.lemmas.Option.{same_Some, slice_get-get_or, slice_get-map, slice_get_within}
-use Rattle.rmt_bits.proofs.MemberLaws.{Contains-item, flat_from, Contains-flat_map, Contains-split, Contains-first, Contains-later, list_any-Contains}
+use Rattle.rmt_bits.proofs.MemberLaws.{Contains-item, flat_from, Contains-flat_map}
 use Rattle.rmt_ast.specs.declared.entry.Entry.{Entry}
 use Rattle.rmt_ast.specs.declared.names.Names.{Names}
 use Rattle.rmt_ast.specs.declared.program.What.TheVariants as what
-use Rattle.rmt_ast.specs.Answers.{entry_numbers}
 use Rattle.rmt_ast.specs.EntryLists.{AreEntries, AreEntriesAt, IsEntry, params_of, terms_at, terms_of}
 use Rattle.rmt_ast.specs.NameRules.{terms_named}
 use Rattle.rmt_ast.specs.WellFormed.{AreDistinct, Fits}
 use Rattle.rmt_refine.specs.Types.{Node, Program, Table, What}
-use Rattle.rmt_config.specs.Commits.{all_entries, is_numbered_in}
+use Rattle.rmt_config.specs.Commits.{all_entries}
 use Rattle.rmt_refine.specs.Commits.{AreNamesOf}
 use Rattle.rmt_refine.specs.Units.{applied, table_at}
 use Rattle.rmt_refine.proofs.PartLaws.{some_and}
 use Rattle.rmt_refine.proofs.RankLaws.{compare}
 use Rattle.rmt_refine.proofs.TheLaw.{table_entries}
+use Rattle.rmt_pack.proofs.EntryLaws.{AllPairs-unmap, all_numbers}
 
 -- ---- pairs
 
@@ -38,13 +37,6 @@ two_items R xs a b pairs in_a in_b = elim (compare in_a.0 in_b.0) [
     | inr e ↦ inr (inr (sym in_a.2 ∙ same_item xs in_a.0 a b in_a.1 (ap (λ i. get_or xs i b) e ∙ in_b.2)))
   ]
 ]
-
--- pairs of what a map gives
-pub AllPairs-unmap : {X Y : Type 0} (R : Y → Y → Type 0) (f : X → Y) (xs : List X) → AllPairs R (map f xs) → AllPairs (λ a b. R (f a) (f b)) xs
-AllPairs-unmap R f xs h i j d lt within =
-    let long = length-map xs f in
-    subst (λ y. R y (f (get_or xs j d))) (get_or-map f xs i d (f d) (omega (arith, lt, within)))
-    (subst (R (get_or (map f xs) i (f d))) (get_or-map f xs j d (f d) within) (h i j (f d) lt (omega (arith, long, within))))
 
 -- ---- what a function gives of some items
 
@@ -67,22 +59,7 @@ AllPairs-filter_map {X} {Y} f R S gives (x ∷ xs) pairs = by (f x) refl (AllPai
         AllPairs-cons S y (filter_map f xs)
         (All-filter_map f (R x) (S y) (λ z w r g. gives x z y w r e g) xs (AllPairs-head R x xs pairs)) rest
 
-pub Contains-filter_map : {X Y : Type 0} (f : X → Option Y) (xs : List X) (x : X) (y : Y) → Contains xs x → f x ≡ Some y → Contains (filter_map f xs) y
-Contains-filter_map f [] x y there e = absurd (let lt = there.1 in omega (arith, lt))
-Contains-filter_map {X} {Y} f (z ∷ zs) x y there e = elim (Contains-split z zs x there) [
-  | inl same ↦ subst (λ o. Contains (cons_option o (filter_map f zs)) y) (sym (ap f same ∙ e)) (Contains-first y (filter_map f zs))
-  | inr later ↦ behind (f z) (Contains-filter_map f zs x y later e)
-]
-  where
-    behind : (o : Option Y) → Contains (filter_map f zs) y → Contains (cons_option o (filter_map f zs)) y
-    behind None h = h
-    behind (Some w) h = Contains-later w (filter_map f zs) y h
-
 -- ---- numbers
-
-pub all_numbers : (lists : List (List Entry)) → flat_map entry_numbers lists ≡ map (λ (e : Entry). e.number) (all_entries lists)
-all_numbers [] = refl
-all_numbers (es ∷ lists) = ap (λ ns. entry_numbers es ++ ns) (all_numbers lists) ∙ sym (map-append (λ (e : Entry). e.number) es (all_entries lists))
 
 pub numbers_apart : (p : Program) (lists : List (List Entry)) → AreEntries p lists → AllPairs (λ (a b : Entry). a.number ≢ b.number) (all_entries lists)
 numbers_apart p lists entries = AllPairs-unmap ◌≢◌ (λ (e : Entry). e.number) (all_entries lists) (subst AreDistinct (all_numbers lists) entries.numbers_once)
@@ -96,9 +73,6 @@ one_entry p lists e f entries in_e in_f same = elim (two_items (λ (a b : Entry)
     | inr is ↦ is
   ]
 ]
-
-pub is_numbered : (es : List Entry) (e : Entry) → Contains es e → is_numbered_in es e ≡ true
-is_numbered es e there = list_any-Contains (λ (o : Entry). o.number == e.number) es e there (eq-eqb e.number e.number refl)
 
 -- ---- the list of an entry
 

@@ -4,7 +4,7 @@ use Rattle.std.specs.Prelude.{AllPairs, IsSomeAnd, count_by, option_map, slice_g
 use Rattle.std.proofs.lemmas.Bool.{and_from, cases_eq, eq-eqb, false≢true}
 use Rattle.std.proofs.lemmas.List.Elements.{All-contains, All-contains_itself}
 use Rattle.std.proofs.lemmas.Option.{same_Some}
-use Rattle.rmt_bits.proofs.MemberLaws.{Contains-item, Contains-map, Contains-unmap}
+use Rattle.rmt_bits.proofs.MemberLaws.{Contains-map, Contains-unmap}
 use Rattle.rmt_ast.specs.declared.entry.Entry.{Entry}
 use Rattle.rmt_ast.specs.declared.names.Names.{Names}
 use Rattle.rmt_ast.specs.declared.program.Kind.TheVariants as kind
@@ -24,10 +24,12 @@ use Rattle.rmt_refine.specs.View.{View}
 use Rattle.rmt_refine.specs.Units.{UnitsCarried, table_at}
 use Rattle.rmt_refine.specs.Cells.{CellsCarried}
 use Rattle.rmt_refine.specs.Commits.{AreNamesOf, seen_by}
-use Rattle.rmt_refine.proofs.EntryLaws.{AllPairs-unmap, entry_listed, entry_named, numbers_apart}
-use Rattle.rmt_refine.proofs.PartLaws.{and_at}
-use Rattle.rmt_refine.proofs.RoomLaws.{room_is}
-use Rattle.rmt_refine.proofs.RoomOrderLaws.{any_key, fewer_first, pair_at, rooms_rise}
+use Rattle.rmt_pack.proofs.EntryLaws.{AllPairs-unmap}
+use Rattle.rmt_refine.proofs.EntryLaws.{entry_listed, entry_named, numbers_apart}
+use Rattle.rmt_pack.proofs.PartLaws.{and_at}
+use Rattle.rmt_pack.proofs.RoomLaws.{room_is}
+use Rattle.rmt_refine.proofs.RoomOrderLaws.{any_key, rooms_rise}
+use Rattle.rmt_pack.proofs.RoomOrderLaws.{fewer_first, pair_at, room_there}
 use Rattle.rmt_refine.proofs.StandLaws.{Apart, HoldsIts, InOrder, StandsIn, all_carried, entry_holds, few_codes, placed_there, shown, shown_seen, shown_unseen, told_of}
 
 -- ---- a head with both visible bits
@@ -51,12 +53,6 @@ full_code : (i : ℕ) → i < 32 → code_of (1 + 2 * 3 + 8 * i) ≡ i
 full_code i lt = omega (arith, lt)
 
 -- ---- its entries in their rooms
-
-pub room_there : (c : Config) (seed : ℕ) (t : Terms) (k : Kind) (es : List Entry) (e : Entry) (room : Room) → IsFilled c seed t k es e room → Contains (rooms_for c seed e.table (key_number t e)) room
-room_there c seed t kind.Keyless es e room h = absurd h
-room_there c seed t kind.Exact es e room h = h
-room_there c seed t kind.Prefix es e room h = Contains-item (rooms_for c seed e.table (key_number t e)) (count_by (λ f. goes_first kind.Prefix f e) es) room h
-room_there c seed t kind.Ternary es e room h = Contains-item (rooms_for c seed e.table (key_number t e)) (count_by (λ f. goes_first kind.Ternary f e) es) room h
 
 module _ (p : Program) (m : Map) (c : Config) (names : Names) (cells : RunCells) (after : List (List Entry)) (seed : ℕ) (placed : List Placed)
     (limits : IsWithinLimits c) (naming : AreNamesOf p names) (units : UnitsCarried p m.places m.placement.parts m.starts c)

@@ -1,24 +1,22 @@
 -- What fit changes make of well-formed entries: they stay well formed, and each entry is one that stood or has a new number.
-use Rattle.std.proofs.Common.{◌≡◌, ◌≢◌, ◌⊎◌, ℕ, zero, suc, ◌+◌, ◌-◌, ◌^◌, ◌<◌, ◌≤◌, ◌==◌, Bool, true, false, ◌&&◌, cond, List, [], ◌∷◌, ◌++◌, length, map, Option, Some, None, All, Contains, refl, sym, ap, subst, ◌∙◌, inl, inr, arith}
-use Rattle.std.specs.Prelude.{AllPairs, option_map, slice_get, slice_set, unwrap_or}
+use Rattle.std.proofs.Common.{◌≡◌, ◌≢◌, ◌⊎◌, ℕ, zero, suc, ◌+◌, ◌-◌, ◌<◌, ◌≤◌, ◌==◌, true, false, ◌&&◌, List, [], ◌∷◌, ◌++◌, length, map, Option, Some, None, All, Contains, refl, sym, ap, subst, ◌∙◌, inl, inr, arith}
+use Rattle.std.specs.Prelude.{option_map, slice_get, slice_set, unwrap_or}
 use Rattle.std.specs.List.{AllZip, flat_map}
 use Rattle.std.specs.Str.{bytes_eq}
-use Rattle.std.proofs.Math.Pow.{pow-lt}
-use Rattle.std.proofs.lemmas.Bool.{and_from, cases_eq, cases_lt, eq-eqb, eqb-true, false≢true}
+use Rattle.std.proofs.lemmas.Bool.{and_from, cases_eq, eq-eqb, eqb-true, false≢true}
 use Rattle.std.proofs.lemmas.List.{length-append, length-map, length-set}
 use Rattle.std.proofs.lemmas.List.Elements.{All-append, All-cons, All-contains, All-contains_itself, All-nil, All-set, All-weaker}
-use Rattle.std.proofs.lemmas.List.Kept.{AllPairs-cons}
 use Rattle.std.proofs.lemmas.List.Quantifiers.{all_pairs_push}
 use Rattle.std.proofs.lemmas.Option.{none-some, same_Some, slice_get-map}
 use Rattle.std.proofs.lemmas.Slice.Eq.{bytes_eq-Decides}
 use Rattle.rmt_bits.proofs.AllLaws.{All-flat_map, All-parts, All-unmap}
 use Rattle.rmt_bits.proofs.ListLaws.{slice_get-set_other}
 use Rattle.rmt_bits.proofs.MemberLaws.{Contains-first, Contains-item, Contains-map, Contains-split, Contains-unmap, flat_from, list_any-Contains, any_item}
-use Rattle.rmt_bits.proofs.PairLaws.{AllPairs-append, AllPairs-head, AllPairs-map, AllPairs-none, AllPairs-tail, AllPairs-weaker}
+use Rattle.rmt_bits.proofs.PairLaws.{AllPairs-append, AllPairs-none}
 use Rattle.rmt_ast.specs.declared.entry.Entry.{Entry}
 use Rattle.rmt_ast.specs.declared.program.Kind.TheVariants as kind
 use Rattle.rmt_ast.specs.Answers.{entry_numbers}
-use Rattle.rmt_ast.specs.Changes.{Adds, Change, EntryKey, Installed, Removes, are_same, changed, committed, is_keyed_by, list_of, next_number, without}
+use Rattle.rmt_ast.specs.Changes.{Adds, Change, Installed, Removes, are_same, changed, committed, is_keyed_by, list_of, next_number, without}
 use Rattle.rmt_ast.specs.EntryLists.{AreEntries, AreEntriesAt, AreTableEntries, HasKeysOnce, HasRank, IsEntry, IsPrefix, Terms, terms_at, terms_of}
 use Rattle.rmt_ast.specs.Events.{Arrives, Commits, Event, lists_from}
 use Rattle.rmt_ast.specs.WellFormed.{AreDistinct, HasKey, IsProgram}
@@ -27,9 +25,11 @@ use Rattle.rmt_config.specs.Commits.{all_entries, is_numbered_in}
 use Rattle.rmt_refine.specs.Commits.{KeepEntries}
 use Rattle.rmt_refine.specs.Fit.{AreFit, AreFitChanges, CanBeAdded, CanBeMade, has_once, is_held, key_of_entry}
 use Rattle.rmt_refine.specs.Units.{applied, table_at}
-use Rattle.rmt_refine.proofs.EntryLaws.{all_numbers, listed_in, one_entry}
+use Rattle.rmt_pack.proofs.EntryLaws.{all_numbers, distinct_at, entries_without, numbered, one_rank, same_rank}
+use Rattle.rmt_refine.proofs.EntryLaws.{listed_in, one_entry}
 use Rattle.rmt_refine.proofs.NumberLaws.{one_list}
-use Rattle.rmt_refine.proofs.PartLaws.{and_from as some_from, some_and, then_some}
+use Rattle.rmt_pack.proofs.PartLaws.{and_from as some_from, then_some}
+use Rattle.rmt_refine.proofs.PartLaws.{some_and}
 use Rattle.rmt_refine.proofs.TheLaw.{its_table, its_terms}
 use Rattle.rmt_bits.proofs.MostLaws.{fold_max}
 use Rattle.rmt_ast.proofs.EntryLaws.{all_without}
@@ -57,12 +57,6 @@ distinct_from (es ∷ lists) own one =
     no_succ from.0 (one 0 (suc from.0) es from.1 x refl from.2 there (subst (Contains (entry_numbers from.1)) (sym same) from.3)))
     (flat_map entry_numbers lists) (All-contains_itself (flat_map entry_numbers lists)))
     (entry_numbers es) (All-contains_itself (entry_numbers es)))
-
-pub distinct_at : (n : ℕ) (es : List Entry) (o : Option Terms) → AreEntriesAt n es o → AreDistinct (entry_numbers es)
-distinct_at n es None are = subst (λ (xs : List Entry). AreDistinct (entry_numbers xs)) (sym are) (AllPairs-none ◌≢◌)
-distinct_at n es (Some t) are =
-    AllPairs-map ◌≢◌ (λ (e : Entry). e.number) es
-    (AllPairs-weaker (λ (a b : Entry). a.number < b.number) (λ (a b : Entry). a.number ≢ b.number) (λ a b lt same. omega (arith, lt, same)) es are.rising)
 
 -- ---- a list in place of another
 
@@ -169,41 +163,8 @@ terms_there p n t at =
 
 -- ---- an entry is added
 
-abbrev pub numbered : Entry → ℕ → Entry
-numbered e n = record e { number = n }
-
-pub same_rank : (k : Kind) (ws : List ℕ) (e : Entry) (n : ℕ) → HasRank k ws e → HasRank k ws (numbered e n)
-same_rank kind.Keyless ws e n h = h
-same_rank kind.Exact ws e n h = h
-same_rank kind.Prefix ws e n h = h
-same_rank kind.Ternary ws e n h = h
-
--- prefixes of one mask have one length
-one_length : (w a b : ℕ) → a ≤ w → b ≤ w → 2 ^ w - 2 ^ (w - a) ≡ 2 ^ w - 2 ^ (w - b) → a < b → ⊥
-one_length w a b la lb e lt =
-    let less : 2 ^ (w - b) < 2 ^ (w - a) = pow-lt (omega (arith, lt, la, lb)) in
-    let top : 2 ^ (w - a) ≤ 2 ^ w = elim (cases_eq a 0) [
-      | inl none ↦ (let same : w - a ≡ w = omega (arith, none) in subst (λ m. 2 ^ m ≤ 2 ^ w) (sym same) (omega arith))
-      | inr some ↦ (let less : 2 ^ (w - a) < 2 ^ w = pow-lt (omega (arith, some, la)) in omega (arith, less))
-    ] in
-    powers (2 ^ w) (2 ^ (w - a)) (2 ^ (w - b)) less top e
-  where
-    powers : (x y z : ℕ) → z < y → y ≤ x → x - y ≡ x - z → ⊥
-    powers x y z lt le same = omega (arith, lt, le, same)
-
-pub one_rank : (ws : List ℕ) (ts : List Test) (a b : ℕ) → 1 ≤ length ws → AllZip (IsPrefix a) ws ts → AllZip (IsPrefix b) ws ts → a ≡ b
-one_rank [] ts a b some ha hb = absurd (omega (arith, some))
-one_rank (w ∷ ws) [] a b some ha hb = absurd ha
-one_rank (w ∷ ws) (t ∷ ts) a b some ha hb = elim (cases_lt a b) [
-  | inl lt ↦ absurd (one_length w a b ha.0.0 hb.0.0 (sym ha.0.1 ∙ hb.0.1) lt)
-  | inr ge ↦ elim (cases_eq a b) [
-    | inl same ↦ same
-    | inr other ↦ absurd (one_length w b a hb.0.0 ha.0.0 (sym hb.0.1 ∙ ha.0.1) (omega (arith, ge, other)))
-  ]
-]
-
 -- entries with the same tests have the same key
-ranks_agree : (k : Kind) (ws : List ℕ) (e o : Entry) → has_once k ≡ true → (k ≡ kind.Prefix → 1 ≤ length ws) → HasRank k ws e → HasRank k ws o → e.tests ≡ o.tests → e.rank ≡ o.rank
+pub ranks_agree : (k : Kind) (ws : List ℕ) (e o : Entry) → has_once k ≡ true → (k ≡ kind.Prefix → 1 ≤ length ws) → HasRank k ws e → HasRank k ws o → e.tests ≡ o.tests → e.rank ≡ o.rank
 ranks_agree kind.Keyless ws e o once some he ho same = absurd (false≢true once)
 ranks_agree kind.Exact ws e o once some he ho same = he.1 ∙ sym ho.1
 ranks_agree kind.Prefix ws e o once some he ho same = one_rank ws e.tests e.rank o.rank (some refl) he (subst (AllZip (IsPrefix o.rank) ws) (sym same) ho)
@@ -227,7 +188,7 @@ other_tests n t es e once some each is new =
     false≢true (sym new ∙ and_from (has_once t.kind) (is_held (key_of_entry e) es) once held))
     es (All-contains_itself es)
 
-keys_pushed : (k : Kind) (es : List Entry) (e : Entry) → HasKeysOnce k es → (has_once k ≡ true → All (λ (o : Entry). o.tests ≢ e.tests) es) → HasKeysOnce k (es ++ e ∷ [])
+pub keys_pushed : (k : Kind) (es : List Entry) (e : Entry) → HasKeysOnce k es → (has_once k ≡ true → All (λ (o : Entry). o.tests ≢ e.tests) es) → HasKeysOnce k (es ++ e ∷ [])
 keys_pushed kind.Keyless es e once other = tt
 keys_pushed kind.Exact es e once other = all_pairs_push (λ (a b : Entry). a.tests ≢ b.tests) es e once (other refl)
 keys_pushed kind.Prefix es e once other = all_pairs_push (λ (a b : Entry). a.tests ≢ b.tests) es e once (other refl)
@@ -250,37 +211,6 @@ table_added n t es e next some are is new room below = record {
 }
 
 -- ---- an entry is removed
-
-pairs_without : (R : Entry → Entry → Type 0) (key : EntryKey) (es : List Entry) → AllPairs R es → AllPairs R (without key es)
-pairs_without R key [] all = all
-pairs_without R key (e ∷ es) all = by (is_keyed_by key e) (pairs_without R key es (AllPairs-tail R e es all))
-  where
-    by : (b : Bool) → AllPairs R (without key es) → AllPairs R (cond b es (e ∷ without key es))
-    by true rest = AllPairs-tail R e es all
-    by false rest = AllPairs-cons R e (without key es) (all_without (R e) key es (AllPairs-head R e es all)) rest
-
-fewer : (key : EntryKey) (es : List Entry) → length (without key es) ≤ length es
-fewer key [] = omega arith
-fewer key (e ∷ es) = by (is_keyed_by key e) (fewer key es)
-  where
-    by : (b : Bool) → length (without key es) ≤ length es → length (cond b es (e ∷ without key es)) ≤ length (e ∷ es)
-    by true le = omega arith
-    by false le = omega (arith, le)
-
-keys_without : (k : Kind) (key : EntryKey) (es : List Entry) → HasKeysOnce k es → HasKeysOnce k (without key es)
-keys_without kind.Keyless key es once = tt
-keys_without kind.Exact key es once = pairs_without (λ (a b : Entry). a.tests ≢ b.tests) key es once
-keys_without kind.Prefix key es once = pairs_without (λ (a b : Entry). a.tests ≢ b.tests) key es once
-keys_without kind.Ternary key es once = tt
-
-pub entries_without : (n : ℕ) (key : EntryKey) (es : List Entry) (o : Option Terms) → AreEntriesAt n es o → AreEntriesAt n (without key es) o
-entries_without n key es None are = ap (without key) are
-entries_without n key es (Some t) are = record {
-  each = all_without (IsEntry n t) key es are.each;
-  rising = pairs_without (λ (a b : Entry). a.number < b.number) key es are.rising;
-  keys_once = keys_without t.kind key es are.keys_once;
-  within_size = let le = fewer key es in let size = are.within_size in omega (arith, le, size);
-}
 
 -- ---- a change that can be made
 

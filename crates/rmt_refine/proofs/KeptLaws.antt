@@ -28,11 +28,13 @@ use Rattle.rmt_refine.specs.View.{View, slot_of}
 use Rattle.rmt_refine.specs.Units.{UnitsCarried, table_at}
 use Rattle.rmt_refine.specs.Cells.{CellsCarried, IsSpotOf, IsTold, Spot}
 use Rattle.rmt_refine.specs.Commits.{AreNamesOf, CommitsKeepEntries, KeepEntries, seen_by}
-use Rattle.rmt_refine.proofs.PartLaws.{and_at, part_of_spot}
-use Rattle.rmt_refine.proofs.EntryLaws.{All-filter_map, AllPairs-filter_map, AllPairs-unmap, IsListed, entry_listed, entry_named, listed_in, numbers_apart, one_entry}
-use Rattle.rmt_refine.proofs.RoomLaws.{RoomAt, RoomIs, room_at, room_is}
-use Rattle.rmt_refine.proofs.PlacedLaws.{Comes, HasItsRoom, Stays, Takes, all_placed, each_has_its_room, each_placed, placed_entries, placed_entry, stay_fine}
-use Rattle.rmt_refine.proofs.StandLaws.{cell_of_spot, Apart, HoldsIts, InOrder, StandsIn, all_carried, at_is, before_from, entry_holds, few_codes, is_spot, its_key, placed_there, seen_from, shown, shown_seen, shown_unseen, spot, then_so, told_of, widths}
+use Rattle.rmt_pack.proofs.PartLaws.{and_at}
+use Rattle.rmt_refine.proofs.PartLaws.{part_of_spot}
+use Rattle.rmt_refine.proofs.EntryLaws.{All-filter_map, AllPairs-filter_map, IsListed, entry_listed, entry_named, listed_in, numbers_apart, one_entry}
+use Rattle.rmt_pack.proofs.EntryLaws.{AllPairs-unmap}
+use Rattle.rmt_pack.proofs.RoomLaws.{RoomAt, RoomIs, room_at, room_is, at_is}
+use Rattle.rmt_pack.proofs.PlacedLaws.{Comes, HasItsRoom, Stays, Takes, all_placed, each_has_its_room, each_placed, placed_entries, placed_entry, stay_fine}
+use Rattle.rmt_refine.proofs.StandLaws.{cell_of_spot, Apart, HoldsIts, InOrder, StandsIn, all_carried, before_from, entry_holds, few_codes, is_spot, its_key, placed_there, seen_from, shown, shown_seen, shown_unseen, spot, then_so, told_of, widths}
 use Rattle.rmt_refine.proofs.VisibleBitLaws.{seen_coming, seen_next, set-alike, unseen_next}
 use Rattle.rmt_bits.proofs.FindLaws.{find-some}
 

@@ -1,4 +1,3 @@
-pub mod FindLaws
 pub mod KeyLaws
 pub mod RankLaws
 pub mod PartLaws
@@ -33,9 +32,6 @@ pub mod EndLaws
 pub mod PacketLaws
 pub mod RefinedLaws
 pub mod VisibleBitLaws
-pub mod PlacedLaws
-pub mod RoomLaws
-pub mod ContentLaws
 mod UnseenLaws
 mod SameCellLaws
 mod OneStateLaws
@@ -52,15 +48,11 @@ mod RunNumberLaws
 mod EventRunLaws
 pub mod ShortLaws
 mod RunStateLaws
-pub mod SpelledFieldLaws
 pub mod SpelledRankLaws
 pub mod SpelledEntryLaws
-pub mod SortedLaws
 pub mod SpelledLaws
 pub mod FitLaws
 pub mod RoomOrderLaws
-pub mod BesideLaws
-pub mod LayoutLaws
 mod RefinedExamples
 mod Examples
 mod TwoStages
@@ -78,3 +70,4 @@ mod CommitRunExamples
 mod TailExamples
 mod OutcomeExamples
 mod ListExamples
+pub mod TableCodeLaws

@@ -22,10 +22,12 @@ use Rattle.rmt_refine.specs.Units.{HasKind}
 use Rattle.rmt_config.specs.Rooms.{tests_as_one}
 use Rattle.rmt_refine.specs.Cells.{HoldsEntry, IsBefore, IsSpotOf, IsTold, Spot, TableCellsCarried}
 use Rattle.rmt_refine.specs.LookUps.{FindsAs, FindsEntry}
-use Rattle.rmt_refine.proofs.FindLaws.{best_there, find-least, none_unless, found_passes}
+use Rattle.rmt_pack.proofs.FindLaws.{best_there, find-least, none_unless, found_passes}
 use Rattle.rmt_refine.proofs.KeyLaws.{FieldsFit, key_agrees, whole_key}
-use Rattle.rmt_refine.proofs.RankLaws.{are_ordered, goes_where_precedes, precedes_chain, precedes_never}
-use Rattle.rmt_refine.proofs.PartLaws.{IsPart, and_at, candidates_within, look_of_part, part_of_slot, part_of_spot, same_candidates, spot_of_part}
+use Rattle.rmt_refine.proofs.RankLaws.{are_ordered, goes_where_precedes}
+use Rattle.rmt_pack.proofs.RankLaws.{precedes_chain, precedes_never}
+use Rattle.rmt_pack.proofs.PartLaws.{IsPart, and_at, part_of_slot}
+use Rattle.rmt_refine.proofs.PartLaws.{candidates_within, look_of_part, part_of_spot, same_candidates, spot_of_part}
 use Rattle.rmt_bits.proofs.MemberLaws.{Contains-first, Contains-later}
 use Rattle.std.proofs.lemmas.List.Elements.{All-contains}
 use Rattle.rmt_bits.proofs.FindLaws.{find-some}

@@ -42,7 +42,7 @@ use Rattle.rmt_refine.proofs.InputLaws.{AllLeave, commit_leave, commit_packets, 
 use Rattle.rmt_refine.proofs.KeptLaws.{entries_kept}
 use Rattle.rmt_refine.proofs.OneStateLaws.{after_changing, changing, length_changing, one_state, same_turned, version_made}
 use Rattle.rmt_refine.proofs.PartLaws.{some_and}
-use Rattle.rmt_refine.proofs.PlacedLaws.{each_has_its_room}
+use Rattle.rmt_pack.proofs.PlacedLaws.{each_has_its_room}
 use Rattle.rmt_refine.proofs.RefinedLaws.{one_packet}
 use Rattle.rmt_refine.proofs.SameCellLaws.{SameCells, look_same, same_itself}
 use Rattle.rmt_refine.proofs.StandLaws.{placed_spot}

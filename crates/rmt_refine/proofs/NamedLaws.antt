@@ -20,7 +20,8 @@ use Rattle.rmt_ast.specs.WellFormed.{Fits, HasKey, IsProgram, IsTable}
 use Rattle.rmt_refine.specs.Types.{Kind, Node, Program, Table, What}
 use Rattle.rmt_refine.specs.Commits.{AreNamesOf}
 use Rattle.rmt_refine.specs.Units.{applied, table_at}
-use Rattle.rmt_refine.proofs.PartLaws.{some_and, then_some}
+use Rattle.rmt_refine.proofs.PartLaws.{some_and}
+use Rattle.rmt_pack.proofs.PartLaws.{then_some}
 use Rattle.rmt_refine.proofs.TheLaw.{its_table}
 
 params_named : (p : Program) (actions : List ℕ) → map (λ (a : ActionName). a.params) (map (action_named p) actions) ≡ map (params_of p) actions

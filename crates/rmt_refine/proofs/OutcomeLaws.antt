@@ -24,7 +24,7 @@ use Rattle.rmt_refine.specs.Cells.{CellsCarried}
 use Rattle.rmt_refine.specs.LookUps.{FindsAs}
 use Rattle.rmt_refine.specs.Outcomes.{ChildrenFollow, IsSetIn, TableSetIn, entries_at, run_before}
 use Rattle.rmt_refine.proofs.NodeLaws.{stands_in_last}
-use Rattle.rmt_refine.proofs.PartLaws.{and_at, and_from, then_some}
+use Rattle.rmt_pack.proofs.PartLaws.{and_at, and_from, then_some}
 use Rattle.rmt_refine.proofs.RunLaws.{is_earlier, outcome_at}
 use Rattle.rmt_refine.proofs.StageLaws.{IsRun, stands_where_set}
 use Rattle.rmt_refine.proofs.TheLaw.{look_up_law, table_entries}

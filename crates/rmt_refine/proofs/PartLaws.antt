@@ -4,7 +4,7 @@ use Rattle.std.specs.Prelude.{⊤, All, Contains, IsSomeAnd, MatchOption, nat_lt
 use Rattle.std.specs.List.{AllZip, range_with_len}
 use Rattle.std.proofs.lemmas.Bool.{ltb-true}
 use Rattle.std.proofs.lemmas.List.Elements.{All-nil, filter_passes}
-use Rattle.std.proofs.lemmas.Option.{none-some, same_Some, slice_get_within}
+use Rattle.std.proofs.lemmas.Option.{slice_get_within}
 use Rattle.std.proofs.lemmas.Slice.Zip.{AllZip-right}
 use Rattle.rmt_bits.proofs.AllLaws.{All-slice_get}
 use Rattle.rmt_bits.specs.declared.lane.Lane.{Lane}
@@ -20,6 +20,7 @@ use Rattle.rmt_refine.specs.View.{View, as_slot, found_in_slot, look_in, slot_at
 use Rattle.rmt_refine.specs.Units.{DoesAs, HasKind, TableCarried, UnitCarried, UnitsCarried, applied, nodes_in, table_at}
 use Rattle.rmt_refine.specs.Cells.{IsSpotOf, Spot}
 use Rattle.rmt_config.proofs.CellLaws.{exact-candidates, ternary-candidates}
+use Rattle.rmt_pack.proofs.PartLaws.{IsPart, and_at, and_from, slot_is_unit, then_some}
 
 -- ---- values that are there
 
@@ -27,28 +28,7 @@ pub some_and : {X : Type 0} (o : Option X) (P : X → Type 0) → IsSomeAnd o P 
 some_and None P h = absurd h
 some_and (Some x) P h = (x, refl, h)
 
-pub and_at : {X : Type 0} (o : Option X) (P : X → Type 0) (x : X) → o ≡ Some x → IsSomeAnd o P → P x
-and_at o P x e h = subst (λ q. IsSomeAnd q P) e h
-
-pub and_from : {X : Type 0} (o : Option X) (P : X → Type 0) (x : X) → o ≡ Some x → P x → IsSomeAnd o P
-and_from o P x e h = subst (λ q. IsSomeAnd q P) (sym e) h
-
-pub then_some : {X Y : Type 0} (f : X → Option Y) (o : Option X) (y : Y) → option_and_then f o ≡ Some y → (x : X) × (o ≡ Some x) × (f x ≡ Some y)
-then_some f None y e = absurd (none-some y e)
-then_some f (Some x) y e = (x, refl, e)
-
 -- ---- a part of a node
-
--- a slot of node n stands at a place of stage k
-pub record IsPart (c : Config) (n k place : ℕ) (stage : Stage) (slot : SlotUnit) : Type 0 where
-  pub stage_is : slice_get c.stages k ≡ Some stage
-  pub slot_is : slot_of stage place ≡ Some slot
-  pub node_is : slot.node ≡ n
-
-pub part_of_slot : (c : Config) (n k place : ℕ) (slot : SlotUnit) → slot_at c k place ≡ Some slot → slot.node ≡ n → (stage : Stage) × IsPart c n k place stage slot
-part_of_slot c n k place slot e node =
-    let r = then_some (λ (stage : Stage). slot_of stage place) (slice_get c.stages k) slot e in
-    (r.0, record { stage_is = r.1; slot_is = r.2; node_is = node })
 
 pub slot_of_part : (c : Config) (n k place : ℕ) (stage : Stage) (slot : SlotUnit) → IsPart c n k place stage slot → slot_at c k place ≡ Some slot
 slot_of_part c n k place stage slot part = ap (option_and_then (λ (x : Stage). slot_of x place)) part.stage_is ∙ part.slot_is
@@ -72,10 +52,6 @@ pub look_of_part : (c : Config) (v : View) (n k place key : ℕ) (stage : Stage)
 look_of_part c v n k place key stage slot part = ap (option_and_then (found_in_slot v k place key)) (slot_of_part c n k place stage slot part)
 
 -- ---- its memory
-
-pub slot_is_unit : (u : Unit) (slot : SlotUnit) → as_slot u ≡ Some slot → u ≡ Slot slot
-slot_is_unit (Gate g) slot e = absurd (none-some slot e)
-slot_is_unit (Slot s) slot e = ap Slot (same_Some s slot e)
 
 kind_done : (p : Program) (places : List (List Lane)) (parts : List Part) (k m : ℕ) (w : What) (t : Table) (slot : SlotUnit)
     → applied p w ≡ Some t → DoesAs p places parts k m w (Slot slot) → HasKind t.kind (quanta_in parts m k) slot.memory

@@ -1,9 +1,13 @@
 -- Numbers in order, each once, depend only on which numbers there are.
-use Rattle.std.proofs.Common.{◌≡◌, ℕ, ◌<◌, Bool, true, false, ◌==◌, cond, List, [], ◌∷◌, refl, sym, ap, ◌∙◌, subst, inl, inr, tests, arith}
-use Rattle.std.specs.Prelude.{Contains, nat_lt, ⊤}
+use Rattle.std.proofs.Common.{◌≡◌, ℕ, ◌<◌, Bool, true, false, ◌==◌, cond, List, [], ◌∷◌, refl, sym, ◌∙◌, subst, inl, inr, tests, arith}
+use Rattle.std.specs.Prelude.{AllPairs, Contains, nat_lt, ⊤}
 use Rattle.std.proofs.lemmas.Bool.{ltb-true}
 use Rattle.rmt_bits.specs.Counts.{in_order, with_number}
+use Rattle.std.proofs.lemmas.List.Elements.{All-contains_itself, All-weaker}
+use Rattle.std.proofs.lemmas.List.Kept.{AllPairs-cons}
 use Rattle.rmt_bits.proofs.MemberLaws.{Contains-first, Contains-later, Contains-split}
+use Rattle.rmt_bits.proofs.PairLaws.{AllPairs-none}
+use Rattle.rmt_pack.proofs.SameRiseLaws.{same_rising}
 
 none_there : {A : Type 0} (x : ℕ) → Contains [] x → A
 none_there x there = absurd (let lt = there.1 in omega (arith, lt))
@@ -99,32 +103,11 @@ order_there (n ∷ ns) x there = with_there n (in_order ns) x (elim (Contains-sp
   | inr later ↦ Contains-later n (in_order ns) x (order_there ns x later)
 ])
 
--- the rest of a rising list has no number of its head
-rest_there : (x y : ℕ) (xs ys : List ℕ) → Rises (x ∷ xs) → x ≡ y → ((n : ℕ) → Contains (x ∷ xs) n → Contains (y ∷ ys) n) → (n : ℕ) → Contains xs n → Contains ys n
-rest_there x y xs ys rises e to n there = elim (Contains-split y ys n (to n (Contains-later x xs n there))) [
-  | inl same ↦ absurd (let lt = rises.0 n there in omega (arith, lt, e, same))
-  | inr later ↦ later
-]
-
-same_heads : (x y : ℕ) (xs ys : List ℕ) → Rises (x ∷ xs) → Rises (y ∷ ys) → Contains (y ∷ ys) x → Contains (x ∷ xs) y → x ≡ y
-same_heads x y xs ys one other in_y in_x = elim (Contains-split y ys x in_y) [
-  | inl same ↦ sym same
-  | inr later ↦ elim (Contains-split x xs y in_x) [
-    | inl same ↦ same
-    | inr last ↦ absurd (let a = other.0 x later in let b = one.0 y last in omega (arith, a, b))
-  ]
-]
-
-same_rising : (xs ys : List ℕ) → Rises xs → Rises ys → ((n : ℕ) → Contains xs n → Contains ys n) → ((n : ℕ) → Contains ys n → Contains xs n) → xs ≡ ys
-same_rising [] [] one other to from = refl
-same_rising [] (y ∷ ys) one other to from = none_there y (from y (Contains-first y ys))
-same_rising (x ∷ xs) [] one other to from = none_there x (to x (Contains-first x xs))
-same_rising (x ∷ xs) (y ∷ ys) one other to from =
-    let e = same_heads x y xs ys one other (to x (Contains-first x xs)) (from y (Contains-first y ys)) in
-    ap (λ z. z ∷ xs) e
-    ∙ ap (λ zs. y ∷ zs) (same_rising xs ys one.1 other.1 (rest_there x y xs ys one e to) (rest_there y x ys xs other (sym e) from))
+rising_pairs : (ns : List ℕ) → Rises ns → AllPairs (λ a b. a < b) ns
+rising_pairs [] rises = AllPairs-none (λ a b. a < b)
+rising_pairs (n ∷ ns) rises = AllPairs-cons (λ a b. a < b) n ns (All-weaker (Contains ns) (λ m. n < m) rises.0 ns (All-contains_itself ns)) (rising_pairs ns rises.1)
 
 pub same_order : (xs ys : List ℕ) → ((n : ℕ) → Contains xs n → Contains ys n) → ((n : ℕ) → Contains ys n → Contains xs n) → in_order xs ≡ in_order ys
 same_order xs ys to from =
-    same_rising (in_order xs) (in_order ys) (order_rises xs) (order_rises ys) (λ n there. order_there ys n (to n (order_member xs n there)))
+    same_rising (λ n. n) (in_order xs) (in_order ys) (rising_pairs (in_order xs) (order_rises xs)) (rising_pairs (in_order ys) (order_rises ys)) (λ n there. order_there ys n (to n (order_member xs n there)))
     (λ n there. order_there xs n (from n (order_member ys n there)))

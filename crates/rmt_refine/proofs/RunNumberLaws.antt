@@ -40,7 +40,8 @@ use Rattle.rmt_refine.proofs.KeptLaws.{placed_stand}
 use Rattle.rmt_refine.proofs.MetLaws.{IsGood, commit_good, packet_good}
 use Rattle.rmt_refine.proofs.NumberLaws.{counted_is, from_counted, in_counted, one_list}
 use Rattle.rmt_refine.proofs.OneStateLaws.{changing}
-use Rattle.rmt_refine.proofs.PartLaws.{and_from as some_from, part_of_slot, part_of_spot, slot_of_part, some_and, then_some}
+use Rattle.rmt_pack.proofs.PartLaws.{and_from as some_from, part_of_slot, then_some}
+use Rattle.rmt_refine.proofs.PartLaws.{part_of_spot, slot_of_part, some_and}
 use Rattle.rmt_refine.proofs.StandLaws.{StandsIn, placed_spot, spot, seen_from, shown, shown_seen}
 use Rattle.rmt_refine.proofs.StartLaws.{SeenEntry, part_table, seen_entry}
 use Rattle.rmt_refine.proofs.UnseenLaws.{all_others, not_again, where_is}

@@ -1,6 +1,6 @@
 -- Which instructions run in a stage and what is counted in it: those of the tables whose outcome is set there, and their hits.
 use Rattle.std.proofs.Common.{◌≡◌, ℕ, zero, suc, ◌+◌, ◌<◌, ◌≤◌, Bool, true, false, ◌&&◌, ◌==◌, cond, List, [], ◌∷◌, ◌++◌, Option, Some, None, length, map, refl, sym, ap, ◌∙◌, subst, ◌⊎◌, inl, inr, arith}
-use Rattle.std.specs.Prelude.{IfSome, nat_lt, option_and_then, option_map, slice_get, slice_index, slice_set, unwrap_or}
+use Rattle.std.specs.Prelude.{nat_lt, option_and_then, option_map, slice_get, slice_index, slice_set, unwrap_or}
 use Rattle.std.proofs.lemmas.Bool.{both_ways, cases_lt, eq-eqb, eqb-true, lt-ltb}
 use Rattle.std.proofs.lemmas.Option.{none-some, same_Some, slice_get_within}
 use Rattle.rmt_bits.specs.declared.lane.Lane.{Lane}
@@ -13,23 +13,21 @@ use Rattle.rmt_ast.specs.State.{joined}
 use Rattle.rmt_config.specs.Instructions.{first_code}
 use Rattle.rmt_config.specs.declared.config.Unit.TheVariants.{Gate, Slot}
 use Rattle.rmt_config.specs.Cells.{Found}
-use Rattle.rmt_config.specs.Life.{Acts, Words, acts_of, gate_passes, guarded, key_of, looked_up, slot_acts, unit_acts}
+use Rattle.rmt_config.specs.Life.{Acts, Words, acts_of, gate_passes, guarded, looked_up, slot_acts, unit_acts}
 use Rattle.rmt_config.specs.Life.{runs as chip_runs}
 use Rattle.rmt_pack.specs.declared.placement.Part.{Part}
 use Rattle.rmt_pack.specs.Placements.{quanta_in}
-use Rattle.rmt_refine.specs.View.{View, as_slot, look_in}
-use Rattle.rmt_phv.specs.Places.{high_first}
-use Rattle.rmt_refine.specs.Units.{DoesAs, TableCarried, applied, guard_in, last_stage, nodes_in, table_at}
+use Rattle.rmt_refine.specs.View.{View, look_in}
+use Rattle.rmt_refine.specs.Units.{DoesAs, TableCarried, applied, guard_in, last_stage, table_at}
 use Rattle.rmt_config.specs.TableForm.{node_of}
 use Rattle.rmt_refine.specs.LookUps.{FindsAs}
-use Rattle.rmt_refine.specs.Outcomes.{IsSetIn, TableSetIn}
-use Rattle.rmt_refine.proofs.NodeLaws.{one_place, within_last}
-use Rattle.rmt_refine.proofs.PartLaws.{IsPart, and_at, quanta_of_node, slot_of_part, some_and, then_some, unit_of_part}
-use Rattle.rmt_refine.proofs.RankLaws.{compare}
+use Rattle.rmt_refine.specs.Outcomes.{TableSetIn}
+use Rattle.rmt_pack.proofs.PartLaws.{IsPart, and_at, then_some}
+use Rattle.rmt_refine.proofs.PartLaws.{slot_of_part}
 use Rattle.rmt_config.specs.Life.{Counted, Running, code_at}
 use Rattle.rmt_ast.specs.EntryLists.{params_of}
 use Rattle.rmt_config.specs.Effects.{HasArguments}
-use Rattle.rmt_refine.proofs.StageLaws.{AreSet, IsAt, is_set, stands_where_set, IsRun, ReadsAs, StageReads, eqb_false, guard_right, looks, not_there, own_before, own_unset, run_outcome, some_outcome, unit_law, kept_through}
+use Rattle.rmt_refine.proofs.StageLaws.{AreSet, IsAt, applied_here, hit_here, miss_here, part_at, is_set, stands_where_set, IsRun, ReadsAs, StageReads, eqb_false, guard_right, not_there, own_before, own_unset, run_outcome, some_outcome, unit_law, kept_through}
 
 -- ---- what one unit adds
 
@@ -202,6 +200,23 @@ module _ (p : Program) (places : List (List Lane)) (parts : List Part) (starts :
   same_goes : (n : ℕ) (node : Node) → slice_get p.nodes n ≡ Some node → runs node.guard outcomes ≡ true → (x : Node) → slice_get p.nodes n ≡ Some x → runs x.guard outcomes ≡ true
   same_goes n node at goes x e = subst (λ (y : Node). runs y.guard outcomes ≡ true) (same_Some node x (sym at ∙ e)) goes
 
+  -- a node whose outcome is set in a later stage doesn't act
+  not_yet : (k n : ℕ) → k < set_in n → (t : Table) → ActsIn k n t → ⊥
+  not_yet k n lt t acts = (let e = acts.set_here in omega (arith, e, lt))
+
+  -- one whose outcome is set here runs its instruction
+  abbrev runs_here : (k n place : ℕ) (stage : Stage) (s : SlotUnit) (node : Node) (t : Table) (r : Running) → UnitAt k n place stage (Slot s) node → table_at p n ≡ Some t → set_in n ≡ k
+      → runs node.guard outcomes ≡ true → RunsInstruction t (first_code stage place) stage (hit_of t.kind t.key (entries n) (state n)) r → RunsFor k n r
+  runs_here k n place stage s node t r at table set goes runs_it = record {
+    place = place;
+    stage = stage;
+    slot = s;
+    table = t;
+    part = part_at p places parts starts c v entries state outcomes set_in k n place stage s node at;
+    acts = record { table_is = table; set_here = set; goes = same_goes n node at.node_is goes };
+    runs_it = runs_it;
+  }
+
   -- a slot that runs
   slot_runs : (k n place : ℕ) (stage : Stage) (s : SlotUnit) (node : Node) (words : Words) (a : Acts) (t : Table) (o : Option Entry) → TheRun → UnitAt k n place stage (Slot s) node
       → a.place ≡ place → TableCarried places parts n k t s → table_at p n ≡ Some t → k ≤ set_in n → runs node.guard outcomes ≡ true
@@ -209,77 +224,45 @@ module _ (p : Program) (places : List (List Lane)) (parts : List Part) (starts :
       → hit_of t.kind t.key (entries n) (state n) ≡ o → FindsAs p c v n t (joined p t.key (state n)) o → TableSetIn p parts c v n t (joined p t.key (state n)) (set_in n) o
       → Makes k n stage a (unit_acts (look_in c v) k stage words a (Slot s))
   slot_runs k n place stage s node words a t None run at here carried table le goes acts looks_there hit finds sets =
-      let part : IsPart c n k place stage s = record { stage_is = at.stage_is; slot_is = ap (option_and_then as_slot) at.unit_is; node_is = at.carried.number } in
+      let part : IsPart c n k place stage s = part_at p places parts starts c v entries state outcomes set_in k n place stage s node at in
       let none = looks_there ∙ finds k place s (slot_of_part c n k place stage s part) at.carried.number in
-      elim (compare k (set_in n)) [
-        | inl lt ↦
+      elim (miss_here p places parts starts c v entries state outcomes set_in k n le sets) [
+        | inl now ↦
+            let r : Running = record { ops = code_at stage (first_code stage a.place + s.actions); held = 0 } in
+            inr (
+              r,
+              runs_here k n place stage s node t r at table now.0 goes
+                  (subst (λ h. RunsInstruction t (first_code stage place) stage h r) (sym hit)
+                  (ap (λ i. code_at stage (first_code stage i + s.actions)) here ∙ ap (λ m. code_at stage (first_code stage place + m)) carried.actions)),
+              slot_adds c v k stage words a s None acts none ∙ miss_adds stage (first_code stage a.place) s a (carried.last ∙ eq-eqb k (last_stage parts n) now.1)
+                  ∙ ap (λ h. (r ∷ a.running, counts_in stage (counted_hit t h) ++ a.counted)) (sym hit),
+            )
+        | inr later ↦
             inl (
               slot_adds c v k stage words a s None acts none
-                  ∙ miss_adds_none stage (first_code stage a.place) s a (carried.last ∙ eqb_false k (last_stage parts n) (λ e. omega (arith, e, sets, lt))),
-              (λ u h. let e = h.set_here in omega (arith, e, lt)),
+                  ∙ miss_adds_none stage (first_code stage a.place) s a (carried.last ∙ eqb_false k (last_stage parts n) (λ e. let lt = later.1 in omega (arith, e, lt))),
+              not_yet k n later.0,
             )
-        | inr more ↦ elim more [
-          | inl gt ↦ absurd (omega (arith, gt, le))
-          | inr e ↦
-              let r : Running = record { ops = code_at stage (first_code stage a.place + s.actions); held = 0 } in
-              inr (
-                r,
-                record {
-                  place = place;
-                  stage = stage;
-                  slot = s;
-                  table = t;
-                  part = part;
-                  acts = record { table_is = table; set_here = sym e; goes = same_goes n node at.node_is goes };
-                  runs_it = subst (λ h. RunsInstruction t (first_code stage place) stage h r) (sym hit)
-                      (ap (λ i. code_at stage (first_code stage i + s.actions)) here ∙ ap (λ m. code_at stage (first_code stage place + m)) carried.actions);
-                },
-                slot_adds c v k stage words a s None acts none ∙ miss_adds stage (first_code stage a.place) s a (carried.last ∙ eq-eqb k (last_stage parts n) (e ∙ sets))
-                    ∙ ap (λ h. (r ∷ a.running, counts_in stage (counted_hit t h) ++ a.counted)) (sym hit),
-              )
-        ]
       ]
   slot_runs k n place stage s node words a t (Some e) run at here carried table le goes acts looks_there hit finds sets =
-      let part : IsPart c n k place stage s = record { stage_is = at.stage_is; slot_is = ap (option_and_then as_slot) at.unit_is; node_is = at.carried.number } in
-      let f = sets.0 in
-      let set_there : f.k ≡ set_in n = sets.1 in
-      let f_part : IsPart c n f.k f.place f.stage f.slot = record { stage_is = f.stage_is; slot_is = f.slot_is; node_is = f.node_is } in
-      let f_at = unit_of_part p places parts starts c n f.k f.place f.stage f.slot run.units f_part in
-      let f_last = within_last parts n f.k (quanta_of_node p parts f.k f.place n f_at.0) in
-      elim (compare k (set_in n)) [
-        | inl lt ↦
-            inl (
-              slot_adds c v k stage words a s None acts (looks_there ∙ f.none_before k place s (omega (arith, lt, set_there)) (slot_of_part c n k place stage s part) at.carried.number)
-                  ∙ miss_adds_none stage (first_code stage a.place) s a (carried.last ∙ eqb_false k (last_stage parts n) (λ x. omega (arith, x, lt, set_there, f_last))),
-              (λ u h. let x = h.set_here in omega (arith, x, lt)),
+      elim (hit_here p places parts starts c v entries state outcomes set_in k n place stage s node t e (joined p t.key (state n)) run at le sets) [
+        | inl now ↦
+            let x = now.1 in
+            let entry = x.is_entry in
+            let r : Running = record { ops = code_at stage x.found.code; held = x.found.held } in
+            inr (
+              r,
+              runs_here k n place stage s node t r at table now.0 goes
+                  (subst (λ h. RunsInstruction t (first_code stage place) stage h r) (sym hit) (ap (code_at stage) entry.code, entry.held)),
+              slot_adds c v k stage words a s (Some x.found) acts (looks_there ∙ x.seen) ∙ hit_adds stage (first_code stage a.place) s a t e x.found carried.counted entry.number
+                  ∙ ap (λ h. (r ∷ a.running, counts_in stage (counted_hit t h) ++ a.counted)) (sym hit),
             )
-        | inr more ↦ elim more [
-          | inl gt ↦ absurd (omega (arith, gt, le))
-          | inr same ↦
-              let k_is : f.k ≡ k = set_there ∙ sym same in
-              let place_is : f.place ≡ place = one_place p parts k n f.place place (subst (λ j. slice_get (nodes_in p parts j) f.place ≡ Some n) k_is f_at.0) at.number in
-              let stage_is : f.stage ≡ stage = same_Some f.stage stage (sym f.stage_is ∙ ap (slice_get c.stages) k_is ∙ at.stage_is) in
-              let looks_is : look_in c v k place (joined p t.key (state n)) ≡ Some f.found =
-              ap (λ j. look_in c v j place (joined p t.key (state n))) (sym k_is) ∙ ap (λ i. look_in c v f.k i (joined p t.key (state n))) (sym place_is) ∙ f.looks in
-              let entry = f.is_entry in
-              let code : f.found.code ≡ first_code stage place + e.action =
-              entry.code ∙ ap (λ (x : Stage). first_code x f.place + e.action) stage_is ∙ ap (λ i. first_code stage i + e.action) place_is in
-              let r : Running = record { ops = code_at stage f.found.code; held = f.found.held } in
-              inr (
-                r,
-                record {
-                  place = place;
-                  stage = stage;
-                  slot = s;
-                  table = t;
-                  part = part;
-                  acts = record { table_is = table; set_here = sym same; goes = same_goes n node at.node_is goes };
-                  runs_it = subst (λ h. RunsInstruction t (first_code stage place) stage h r) (sym hit) (ap (code_at stage) code, entry.held);
-                },
-                slot_adds c v k stage words a s (Some f.found) acts (looks_there ∙ looks_is) ∙ hit_adds stage (first_code stage a.place) s a t e f.found carried.counted entry.number
-                    ∙ ap (λ h. (r ∷ a.running, counts_in stage (counted_hit t h) ++ a.counted)) (sym hit),
-              )
-        ]
+        | inr later ↦
+            inl (
+              slot_adds c v k stage words a s None acts (looks_there ∙ later.2)
+                  ∙ miss_adds_none stage (first_code stage a.place) s a (carried.last ∙ eqb_false k (last_stage parts n) (λ y. let lt = later.1 in omega (arith, y, lt))),
+              not_yet k n later.0,
+            )
       ]
 
   -- a unit that runs
@@ -301,21 +284,9 @@ module _ (p : Program) (places : List (List Lane)) (parts : List Part) (starts :
       let does = and_at (slice_get p.nodes n) (λ (x : Node). DoesAs p places parts k n x.what (Slot s)) node at.node_is at.carried.does in
       absurd (subst (λ x. DoesAs p places parts k n x (Slot s)) is does)
   acting_makes k n place stage (Slot s) node words a (what.Apply i) run at is here le goes acts reads =
-      let does = subst (λ x. DoesAs p places parts k n x (Slot s)) is
-      (and_at (slice_get p.nodes n) (λ (x : Node). DoesAs p places parts k n x.what (Slot s)) node at.node_is at.carried.does) in
-      let table = some_and (slice_get p.tables i) (λ (t : Table). TableCarried places parts n k t s) does in
-      let t = table.0 in
-      let carried : TableCarried places parts n k t s = table.2 in
-      let key = joined p t.key (state n) in
-      let at_table : table_at p n ≡ Some t =
-      ap (option_and_then (λ (x : Node). applied p x.what)) at.node_is ∙ ap (applied p) is ∙ table.1 in
-      let sets = subst (λ x. IsSetIn p parts c v (entries n) (state n) n x (set_in n)) is (run.sets n node at.node_is goes) in
-      let set_there = and_at (slice_get p.tables i) (λ (x : Table). TableSetIn p parts c v n x (joined p x.key (state n)) (set_in n) (hit_of x.kind x.key (entries n) (state n))) t table.1 sets in
-      let part : IsPart c n k place stage s = record { stage_is = at.stage_is; slot_is = ap (option_and_then as_slot) at.unit_is; node_is = at.carried.number } in
-      let reads_key : key_of words (high_first places t.key) ≡ key = subst (λ o. IfSome o (λ (x : Table). key_of words (high_first places x.key) ≡ joined p x.key (state n))) table.1 reads in
-      let looks_there : looked_up (look_in c v) k a.place words s ≡ look_in c v k place key =
-      ap (λ m. looked_up (look_in c v) k m words s) here ∙ looks c v n k place stage words s key part (ap (key_of words) carried.keys ∙ reads_key) s.memory refl in
-      slot_runs k n place stage s node words a t (hit_of t.kind t.key (entries n) (state n)) run at here carried at_table le goes acts looks_there refl (run.finds n t at_table) set_there
+      let x = applied_here p places parts starts c v entries state outcomes set_in k n place stage s node words a i run at is here goes reads in
+      let t = x.table in
+      slot_runs k n place stage s node words a t (hit_of t.kind t.key (entries n) (state n)) run at here x.carried x.table_is le goes acts x.looks_there refl (run.finds n t x.table_is) x.sets
 
   -- a unit of stage k
   unit_makes : (k n place : ℕ) (stage : Stage) (u : Unit) (node : Node) (words : Words) (a : Acts) → TheRun → UnitAt k n place stage u node

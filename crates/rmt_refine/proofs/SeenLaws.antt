@@ -25,7 +25,7 @@ use Rattle.rmt_refine.specs.Units.{applied, table_at}
 use Rattle.rmt_refine.proofs.CarriedLaws.{carried_run, set_in}
 use Rattle.rmt_refine.proofs.FieldLaws.{Goes}
 use Rattle.rmt_refine.proofs.OrderLaws.{action_order, match_order, reverse_order}
-use Rattle.rmt_refine.proofs.PartLaws.{then_some}
+use Rattle.rmt_pack.proofs.PartLaws.{then_some}
 use Rattle.rmt_refine.proofs.StageLaws.{stands_where_set}
 
 -- ---- a node that writes

@@ -33,7 +33,8 @@ use Rattle.rmt_refine.specs.Named.{NamesCarried}
 use Rattle.rmt_refine.specs.Outcomes.{entries_at}
 use Rattle.rmt_refine.specs.ShortCommits.{CommitsAreShort, IsReached, arrived, begins, touched, turned}
 use Rattle.rmt_refine.proofs.CellNumberLaws.{cells_listed, coded_slot}
-use Rattle.rmt_refine.proofs.EntryLaws.{is_numbered, listed_in, one_entry}
+use Rattle.rmt_pack.proofs.EntryLaws.{is_numbered}
+use Rattle.rmt_refine.proofs.EntryLaws.{listed_in, one_entry}
 use Rattle.rmt_refine.proofs.FilledLaws.{fills, full_occupied}
 use Rattle.rmt_refine.proofs.FilledLaws.{differ as filled_differ}
 use Rattle.rmt_refine.proofs.FitLaws.{FollowOn, commit_follows, keep_entries}
@@ -41,8 +42,9 @@ use Rattle.rmt_refine.proofs.KeptLaws.{at_its_cell, each_is_placed, its_cell, pl
 use Rattle.rmt_refine.proofs.MetLaws.{IsGood, commit_good, packet_good, start_good}
 use Rattle.rmt_refine.proofs.NamedLaws.{names_tell}
 use Rattle.rmt_refine.proofs.OutcomeLaws.{list_at}
-use Rattle.rmt_refine.proofs.PartLaws.{IsPart, part_of_slot, some_and, spot_of_part}
-use Rattle.rmt_refine.proofs.PlacedLaws.{Comes, Stays}
+use Rattle.rmt_pack.proofs.PartLaws.{IsPart, part_of_slot}
+use Rattle.rmt_refine.proofs.PartLaws.{some_and, spot_of_part}
+use Rattle.rmt_pack.proofs.PlacedLaws.{Comes, Stays}
 use Rattle.rmt_refine.proofs.RoomOrderLaws.{pairs_with}
 use Rattle.rmt_refine.proofs.StandLaws.{placed_spot, same_placed, shown, shown_seen, spot}
 use Rattle.rmt_refine.proofs.StartLaws.{cell_visible, part_table, seen_entry}

@@ -17,9 +17,9 @@ use Rattle.rmt_refine.specs.Units.{applied, table_at}
 use Rattle.rmt_refine.proofs.TheLaw.{its_table, table_entries}
 use Rattle.rmt_refine.specs.Types.{CellNumber, Config, Kind, Node, Program, Table, Test}
 use Rattle.rmt_refine.proofs.EntryLaws.{action_is}
-use Rattle.rmt_refine.proofs.SpelledFieldLaws.{args_spelled, params_told, tests_spelled}
+use Rattle.rmt_pack.proofs.SpelledFieldLaws.{args_spelled, params_told, tests_spelled}
 use Rattle.rmt_refine.proofs.SpelledRankLaws.{prefix_told, rank_is_told}
-use Rattle.rmt_refine.proofs.PartLaws.{then_some}
+use Rattle.rmt_pack.proofs.PartLaws.{then_some}
 
 -- an entry is one with the same facts
 entry_is : (e : Entry) (table number : ℕ) (tests : List Test) (rank action : ℕ) (args : List ℕ)

@@ -4,10 +4,10 @@ use Rattle.std.specs.Prelude.{AllPairs, IfSome, IsSomeAnd, MatchOption, find, na
 use Rattle.std.specs.List.{AllZip, range_with_len}
 use Rattle.std.proofs.lemmas.Bool.{and_parts, false≢true, lt-ltb}
 use Rattle.std.proofs.lemmas.List.{length-map}
-use Rattle.std.proofs.lemmas.List.Elements.{All-append, All-contains, All-contains_itself, All-head, All-map, All-nil, All-tail, All-weaker, Contains-append_left, Contains-append_right}
+use Rattle.std.proofs.lemmas.List.Elements.{All-append, All-contains, All-contains_itself, All-head, All-map, All-nil, All-tail, All-weaker}
 use Rattle.std.proofs.lemmas.List.Kept.{AllPairs-cons}
 use Rattle.std.proofs.lemmas.List.FromFn.{get_or-range_with_len, length-range_with_len}
-use Rattle.std.proofs.lemmas.Option.{none-some, same_Some, slice_get-get_or, slice_get_within}
+use Rattle.std.proofs.lemmas.Option.{same_Some, slice_get-get_or, slice_get_within}
 use Rattle.std.proofs.lemmas.Slice.Zip.{AllZip-left, AllZip-right}
 use Rattle.rmt_bits.proofs.AllLaws.{All-between, All-slice_get}
 use Rattle.rmt_bits.proofs.ListLaws.{slice_get-item}
@@ -45,10 +45,12 @@ use Rattle.rmt_refine.proofs.EntryLaws.{listed_in, one_entry}
 use Rattle.rmt_refine.proofs.NamedLaws.{found_from, none_from}
 use Rattle.rmt_refine.proofs.NodeLaws.{part_there, stands_in_last}
 use Rattle.rmt_refine.proofs.OutcomeLaws.{list_at}
-use Rattle.rmt_refine.proofs.PartLaws.{and_at, part_of_spot, some_and, spot_of_part}
-use Rattle.rmt_refine.proofs.RoomLaws.{PartIs, part_at_place, stages_there}
-use Rattle.rmt_refine.proofs.RoomOrderLaws.{Rises, pairs_flat, pairs_with, parts_in_order}
-use Rattle.rmt_refine.proofs.SortedLaws.{by_number_is}
+use Rattle.rmt_pack.proofs.PartLaws.{and_at, placed_has}
+use Rattle.rmt_refine.proofs.PartLaws.{part_of_spot, some_and, spot_of_part}
+use Rattle.rmt_pack.proofs.RoomLaws.{PartIs, part_at_place, stages_there}
+use Rattle.rmt_pack.proofs.RoomOrderLaws.{Rises, pairs_flat}
+use Rattle.rmt_refine.proofs.RoomOrderLaws.{pairs_with, parts_in_order}
+use Rattle.rmt_pack.proofs.SortedLaws.{by_number_is}
 use Rattle.rmt_refine.proofs.SpelledEntryLaws.{entry_spelled}
 use Rattle.rmt_refine.proofs.TheLaw.{its_table, table_entries}
 use Rattle.rmt_refine.proofs.ViewLaws.{content_is, number_is}
@@ -64,19 +66,6 @@ placed_all P k (stage ∷ stages) all =
     All-append (λ (x : Placed). P x.unit) (map (λ unit. record { stage = k; unit = unit }) stage.units) (placed_from (k + 1) stages)
     (All-map (λ (x : Placed). P x.unit) (λ unit. record { stage = k; unit = unit }) stage.units (All-head (λ (s : Stage). All P s.units) stage stages all))
     (placed_all P (k + 1) stages (All-tail (λ (s : Stage). All P s.units) stage stages all))
-
--- a unit of a stage is among the placed ones
-pub placed_has : (k : ℕ) (stages : List Stage) (i : ℕ) (stage : Stage) (u : Unit) → slice_get stages i ≡ Some stage → Contains stage.units u → (x : Placed) × Contains (placed_from k stages) x × (x.unit ≡ u)
-placed_has k [] i stage u at there = absurd (none-some stage at)
-placed_has k (s ∷ stages) zero stage u at there = (
-  record { stage = k; unit = u },
-  Contains-append_left (map (λ unit. record { stage = k; unit = unit }) s.units) (placed_from (k + 1) stages) (record { stage = k; unit = u })
-      (Contains-map (λ unit. record { stage = k; unit = unit }) s.units u (subst (λ (x : Stage). Contains x.units u) (sym (same_Some s stage at)) there)),
-  refl,
-)
-placed_has k (s ∷ stages) (suc i) stage u at there =
-    let r = placed_has (k + 1) stages i stage u at there in
-    (r.0, Contains-append_right (map (λ unit. record { stage = k; unit = unit }) s.units) (placed_from (k + 1) stages) r.0 r.1, r.2)
 
 abbrev most_node : ℕ → List Placed → ℕ
 most_node acc xs = fold (λ n (placed : Placed). max n (node_of placed.unit + 1)) acc xs
@@ -100,6 +89,15 @@ node_has (y ∷ ys) acc x there = elim (Contains-split y ys x there) [
       omega (arith, le, is)
   | inr later ↦ node_has ys (max acc (node_of y.unit + 1)) x later
 ]
+
+-- the cells of listed numbers rise
+pub cells_rise : (numbers : List CellNumber) (least : ℕ) → rises_from least (map (λ (x : CellNumber). x.cell) numbers) ≡ true → AllPairs (λ (x y : CellNumber). x.cell < y.cell) numbers
+cells_rise [] least rises = AllPairs-none (λ (x y : CellNumber). x.cell < y.cell)
+cells_rise (x ∷ xs) least rises =
+    let parts = and_parts (leb least x.cell) (rises_from (x.cell + 1) (map (λ (y : CellNumber). y.cell) xs)) rises in
+    AllPairs-cons (λ (y z : CellNumber). y.cell < z.cell) x xs
+    (λ j d lt. let above = all_above (λ (y : CellNumber). y.cell) (x.cell + 1) xs parts.1 j d lt in omega (arith, above))
+    (cells_rise xs (x.cell + 1) parts.1)
 
 module _ (p : Program) (m : Map) (c : Config) (units : UnitsCarried p m.places m.placement.parts m.starts c) where
   stage_units : (k : ℕ) (stage : Stage) → slice_get c.stages k ≡ Some stage → AllZip (UnitCarried p m.places m.placement.parts k) (nodes_in p m.placement.parts k) stage.units
@@ -257,14 +255,6 @@ module _ (p : Program) (lists : List (List Entry)) (m : Map) (c : Config) (visib
 
     abbrev Differ : Entry → Entry → Type 0
     Differ a b = a.number ≢ b.number
-
-    cells_rise : (numbers : List CellNumber) (least : ℕ) → rises_from least (map (λ (x : CellNumber). x.cell) numbers) ≡ true → AllPairs (λ (x y : CellNumber). x.cell < y.cell) numbers
-    cells_rise [] least rises = AllPairs-none (λ (x y : CellNumber). x.cell < y.cell)
-    cells_rise (x ∷ xs) least rises =
-        let parts = and_parts (leb least x.cell) (rises_from (x.cell + 1) (map (λ (y : CellNumber). y.cell) xs)) rises in
-        AllPairs-cons (λ (y z : CellNumber). y.cell < z.cell) x xs
-        (λ j d lt. let above = all_above (λ (y : CellNumber). y.cell) (x.cell + 1) xs parts.1 j d lt in omega (arith, above))
-        (cells_rise xs (x.cell + 1) parts.1)
 
     part_once : (a : PartAt) → PartIs c n a → AllPairs Differ (of_part a)
     part_once a h =

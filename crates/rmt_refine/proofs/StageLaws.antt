@@ -27,10 +27,11 @@ use Rattle.rmt_refine.specs.View.{View, as_slot, look_in}
 use Rattle.rmt_phv.specs.Places.{high_first}
 use Rattle.rmt_refine.specs.Units.{DoesAs, TableCarried, UnitCarried, UnitsCarried, applied, guard_in, guard_of, last_stage, nodes_in, table_at, tests_of}
 use Rattle.rmt_config.specs.TableForm.{node_of}
-use Rattle.rmt_refine.specs.LookUps.{FindsAs}
+use Rattle.rmt_refine.specs.LookUps.{FindsAs, IsEntryFound}
 use Rattle.rmt_refine.specs.Outcomes.{IsSetIn, TableSetIn, hit_outcome, node_outcome}
 use Rattle.rmt_refine.proofs.NodeLaws.{one_place, part_there, stands_in_last, within_last}
-use Rattle.rmt_refine.proofs.PartLaws.{IsPart, and_at, look_of_part, quanta_of_node, slot_of_part, some_and, unit_of_part}
+use Rattle.rmt_pack.proofs.PartLaws.{IsPart, and_at}
+use Rattle.rmt_refine.proofs.PartLaws.{look_of_part, quanta_of_node, slot_of_part, some_and, unit_of_part}
 use Rattle.rmt_refine.proofs.RankLaws.{compare}
 use Rattle.std.proofs.Math.Bool.{and-false}
 
@@ -281,24 +282,32 @@ module _ (p : Program) (places : List (List Lane)) (parts : List Part) (starts :
       (stays k n a.outcomes set
       (set.each n within ∙ ap (λ b. cond b (slice_index outcomes n) 0) (own_unset k n le ∙ sym (own_later k n (n + 1) later.0))))
 
-  by_found : (k n place : ℕ) (stage : Stage) (s : SlotUnit) (node : Node) (words : Words) (a : Acts) (t : Table) (o : Option Entry) → IsRun → IsAt k n place stage (Slot s) node
-      → a.place ≡ place → s.last ≡ (k == last_stage parts n) → AreSet k n a.outcomes → k ≤ set_in n → chip_runs s.node s.guard a.outcomes ≡ true
-      → looked_up (look_in c v) k a.place words s ≡ look_in c v k place (joined p t.key (state n)) → FindsAs p c v n t (joined p t.key (state n)) o
-      → TableSetIn p parts c v n t (joined p t.key (state n)) (set_in n) o → slice_index outcomes n ≡ hit_outcome o
-      → AreSet k (n + 1) (unit_acts (look_in c v) k stage words a (Slot s)).outcomes
-  by_found k n place stage s node words a t None run at here last set le acts looks_there finds sets value =
-      let part : IsPart c n k place stage s = record { stage_is = at.stage_is; slot_is = ap (option_and_then as_slot) at.unit_is; node_is = at.carried.number } in
-      let none = looks_there ∙ finds k place s (slot_of_part c n k place stage s part) at.carried.number in
-      slot_miss k n stage s words a at.within at.carried.number last set le acts none
-      (elim (compare k (set_in n)) [
-        | inl lt ↦ inr (lt, subst (λ m. k < m) sets lt)
-        | inr more ↦ elim more [
-          | inl gt ↦ absurd (omega (arith, gt, le))
-          | inr e ↦ inl (sym e, e ∙ sets, value)
-        ]
-      ])
-  by_found k n place stage s node words a t (Some e) run at here last set le acts looks_there finds sets value =
-      let part : IsPart c n k place stage s = record { stage_is = at.stage_is; slot_is = ap (option_and_then as_slot) at.unit_is; node_is = at.carried.number } in
+  -- a miss is told here, or by a later part
+  pub miss_here : (k n : ℕ) → k ≤ set_in n → set_in n ≡ last_stage parts n → ((set_in n ≡ k) × (k ≡ last_stage parts n)) ⊎ ((k < set_in n) × (k < last_stage parts n))
+  miss_here k n le sets = elim (compare k (set_in n)) [
+    | inl lt ↦ inr (lt, subst (λ m. k < m) sets lt)
+    | inr more ↦ elim more [
+      | inl gt ↦ absurd (omega (arith, gt, le))
+      | inr e ↦ inl (sym e, e ∙ sets)
+    ]
+  ]
+
+  -- the slot that stands there is a part of its node
+  pub part_at : (k n place : ℕ) (stage : Stage) (s : SlotUnit) (node : Node) → IsAt k n place stage (Slot s) node → IsPart c n k place stage s
+  part_at k n place stage s node at = record { stage_is = at.stage_is; slot_is = ap (option_and_then as_slot) at.unit_is; node_is = at.carried.number }
+
+  -- the entry that a key hits is found at this place
+  pub record FoundHere (k place : ℕ) (stage : Stage) (t : Table) (e : Entry) (key : ℕ) : Type 0 where
+    pub found : Found
+    pub seen : look_in c v k place key ≡ Some found
+    pub is_entry : IsEntryFound p t (first_code stage place) e found
+
+  -- a hit is told here, or by a later part, and nothing is found here then
+  pub hit_here : (k n place : ℕ) (stage : Stage) (s : SlotUnit) (node : Node) (t : Table) (e : Entry) (key : ℕ) → IsRun → IsAt k n place stage (Slot s) node → k ≤ set_in n
+      → TableSetIn p parts c v n t key (set_in n) (Some e)
+      → ((set_in n ≡ k) × FoundHere k place stage t e key) ⊎ ((k < set_in n) × (k < last_stage parts n) × (look_in c v k place key ≡ None))
+  hit_here k n place stage s node t e key run at le sets =
+      let part : IsPart c n k place stage s = part_at k n place stage s node at in
       let f = sets.0 in
       let set_there : f.k ≡ set_in n = sets.1 in
       let f_part : IsPart c n f.k f.place f.stage f.slot = record { stage_is = f.stage_is; slot_is = f.slot_is; node_is = f.node_is } in
@@ -306,29 +315,80 @@ module _ (p : Program) (places : List (List Lane)) (parts : List Part) (starts :
       let f_last = within_last parts n f.k (quanta_of_node p parts f.k f.place n f_at.0) in
       elim (compare k (set_in n)) [
         | inl lt ↦
-            slot_miss k n stage s words a at.within at.carried.number last set le acts
-            (looks_there ∙ f.none_before k place s (omega (arith, lt, set_there)) (slot_of_part c n k place stage s part) at.carried.number)
-            (inr (lt, omega (arith, lt, set_there, f_last)))
+            inr (lt, omega (arith, lt, set_there, f_last), f.none_before k place s (omega (arith, lt, set_there)) (slot_of_part c n k place stage s part) at.carried.number)
         | inr more ↦ elim more [
           | inl gt ↦ absurd (omega (arith, gt, le))
           | inr same ↦
               let k_is : f.k ≡ k = set_there ∙ sym same in
               let place_is : f.place ≡ place = one_place p parts k n f.place place (subst (λ j. slice_get (nodes_in p parts j) f.place ≡ Some n) k_is f_at.0) at.number in
               let stage_is : f.stage ≡ stage = same_Some f.stage stage (sym f.stage_is ∙ ap (slice_get c.stages) k_is ∙ at.stage_is) in
-              let looks_is : look_in c v k place (joined p t.key (state n)) ≡ Some f.found =
-              ap (λ j. look_in c v j place (joined p t.key (state n))) (sym k_is) ∙ ap (λ i. look_in c v f.k i (joined p t.key (state n))) (sym place_is) ∙ f.looks in
-              let entry = f.is_entry in
-              let code : f.found.code ≡ first_code stage place + e.action =
-              entry.code ∙ ap (λ (x : Stage). first_code x f.place + e.action) stage_is ∙ ap (λ i. first_code stage i + e.action) place_is in
-              let first : first_code stage a.place ≡ first_code stage place = ap (first_code stage) here in
-              let action : 2 + (f.found.code - first_code stage a.place) ≡ 2 + e.action = omega (arith, code, first) in
-              let done : (unit_acts (look_in c v) k stage words a (Slot s)).outcomes ≡ slice_set a.outcomes n (slice_index outcomes n) =
-              slot_on c v k stage words a s (Some f.found) acts (looks_there ∙ looks_is)
-              ∙ ap (λ m. slice_set a.outcomes m (2 + (f.found.code - first_code stage a.place))) at.carried.number
-              ∙ ap (slice_set a.outcomes n) (action ∙ sym value) in
-              subst (AreSet k (n + 1)) (sym done) (sets_own k n a.outcomes at.within set (sym same))
+              inl (
+                sym same,
+                record {
+                  found = f.found;
+                  seen = ap (λ j. look_in c v j place key) (sym k_is) ∙ ap (λ i. look_in c v f.k i key) (sym place_is) ∙ f.looks;
+                  is_entry =
+                      subst (λ first. IsEntryFound p t first e f.found) (ap (λ (x : Stage). first_code x f.place) stage_is ∙ ap (first_code stage) place_is) f.is_entry;
+                },
+              )
         ]
       ]
+
+  by_found : (k n place : ℕ) (stage : Stage) (s : SlotUnit) (node : Node) (words : Words) (a : Acts) (t : Table) (o : Option Entry) → IsRun → IsAt k n place stage (Slot s) node
+      → a.place ≡ place → s.last ≡ (k == last_stage parts n) → AreSet k n a.outcomes → k ≤ set_in n → chip_runs s.node s.guard a.outcomes ≡ true
+      → looked_up (look_in c v) k a.place words s ≡ look_in c v k place (joined p t.key (state n)) → FindsAs p c v n t (joined p t.key (state n)) o
+      → TableSetIn p parts c v n t (joined p t.key (state n)) (set_in n) o → slice_index outcomes n ≡ hit_outcome o
+      → AreSet k (n + 1) (unit_acts (look_in c v) k stage words a (Slot s)).outcomes
+  by_found k n place stage s node words a t None run at here last set le acts looks_there finds sets value =
+      let none = looks_there ∙ finds k place s (slot_of_part c n k place stage s (part_at k n place stage s node at)) at.carried.number in
+      slot_miss k n stage s words a at.within at.carried.number last set le acts none
+      (elim (miss_here k n le sets) [ inl now ↦ inl (now.0, now.1, value) | inr later ↦ inr later ])
+  by_found k n place stage s node words a t (Some e) run at here last set le acts looks_there finds sets value =
+      elim (hit_here k n place stage s node t e (joined p t.key (state n)) run at le sets) [
+        | inl now ↦
+            let x = now.1 in
+            let code = x.is_entry.code in
+            let first : first_code stage a.place ≡ first_code stage place = ap (first_code stage) here in
+            let action : 2 + (x.found.code - first_code stage a.place) ≡ 2 + e.action = omega (arith, code, first) in
+            let done : (unit_acts (look_in c v) k stage words a (Slot s)).outcomes ≡ slice_set a.outcomes n (slice_index outcomes n) =
+            slot_on c v k stage words a s (Some x.found) acts (looks_there ∙ x.seen)
+            ∙ ap (λ m. slice_set a.outcomes m (2 + (x.found.code - first_code stage a.place))) at.carried.number
+            ∙ ap (slice_set a.outcomes n) (action ∙ sym value) in
+            subst (AreSet k (n + 1)) (sym done) (sets_own k n a.outcomes at.within set now.0)
+        | inr later ↦ slot_miss k n stage s words a at.within at.carried.number last set le acts (looks_there ∙ later.2) (inr (later.0, later.1))
+      ]
+
+  -- what is known of a slot whose node runs: its table, what it looks up, and where the outcome is set
+  pub record AppliedHere (k n place : ℕ) (s : SlotUnit) (words : Words) (a : Acts) (i : ℕ) : Type 0 where
+    pub table : Table
+    pub listed : slice_get p.tables i ≡ Some table
+    pub table_is : table_at p n ≡ Some table
+    pub carried : TableCarried places parts n k table s
+    pub looks_there : looked_up (look_in c v) k a.place words s ≡ look_in c v k place (joined p table.key (state n))
+    pub sets : TableSetIn p parts c v n table (joined p table.key (state n)) (set_in n) (hit_of table.kind table.key (entries n) (state n))
+
+  pub applied_here : (k n place : ℕ) (stage : Stage) (s : SlotUnit) (node : Node) (words : Words) (a : Acts) (i : ℕ) → IsRun → IsAt k n place stage (Slot s) node → node.what ≡ what.Apply i
+      → a.place ≡ place → runs node.guard outcomes ≡ true → ReadsAs words n (what.Apply i) → AppliedHere k n place s words a i
+  applied_here k n place stage s node words a i run at is here goes reads =
+      let does = subst (λ x. DoesAs p places parts k n x (Slot s)) is
+      (and_at (slice_get p.nodes n) (λ (x : Node). DoesAs p places parts k n x.what (Slot s)) node at.node_is at.carried.does) in
+      let table = some_and (slice_get p.tables i) (λ (t : Table). TableCarried places parts n k t s) does in
+      let t = table.0 in
+      let carried : TableCarried places parts n k t s = table.2 in
+      let key = joined p t.key (state n) in
+      let sets = subst (λ x. IsSetIn p parts c v (entries n) (state n) n x (set_in n)) is (run.sets n node at.node_is goes) in
+      let reads_key : key_of words (high_first places t.key) ≡ key = subst (λ o. IfSome o (λ (x : Table). key_of words (high_first places x.key) ≡ joined p x.key (state n))) table.1 reads in
+      record {
+        table = t;
+        listed = table.1;
+        table_is = ap (option_and_then (λ (x : Node). applied p x.what)) at.node_is ∙ ap (applied p) is ∙ table.1;
+        carried = carried;
+        looks_there =
+            ap (λ m. looked_up (look_in c v) k m words s) here
+            ∙ looks c v n k place stage words s key (part_at k n place stage s node at) (ap (key_of words) carried.keys ∙ reads_key) s.memory refl;
+        sets =
+            and_at (slice_get p.tables i) (λ (x : Table). TableSetIn p parts c v n x (joined p x.key (state n)) (set_in n) (hit_of x.kind x.key (entries n) (state n))) t table.1 sets;
+      }
 
   slot_law : (k n place : ℕ) (stage : Stage) (s : SlotUnit) (node : Node) (words : Words) (a : Acts) (w : What) → IsRun → IsAt k n place stage (Slot s) node → node.what ≡ w
       → a.place ≡ place → AreSet k n a.outcomes → k ≤ set_in n → runs node.guard outcomes ≡ true
@@ -337,25 +397,13 @@ module _ (p : Program) (places : List (List Lane)) (parts : List Part) (starts :
       let does = and_at (slice_get p.nodes n) (λ (x : Node). DoesAs p places parts k n x.what (Slot s)) node at.node_is at.carried.does in
       absurd (subst (λ x. DoesAs p places parts k n x (Slot s)) is does)
   slot_law k n place stage s node words a (what.Apply i) run at is here set le goes acts reads =
-      let does = subst (λ x. DoesAs p places parts k n x (Slot s)) is
-      (and_at (slice_get p.nodes n) (λ (x : Node). DoesAs p places parts k n x.what (Slot s)) node at.node_is at.carried.does) in
-      let table = some_and (slice_get p.tables i) (λ (t : Table). TableCarried places parts n k t s) does in
-      let t = table.0 in
-      let carried : TableCarried places parts n k t s = table.2 in
-      let key = joined p t.key (state n) in
+      let x = applied_here k n place stage s node words a i run at is here goes reads in
+      let t = x.table in
       let hit = hit_of t.kind t.key (entries n) (state n) in
-      let at_table : table_at p n ≡ Some t =
-      ap (option_and_then (λ (x : Node). applied p x.what)) at.node_is ∙ ap (applied p) is ∙ table.1 in
-      let sets = subst (λ x. IsSetIn p parts c v (entries n) (state n) n x (set_in n)) is (run.sets n node at.node_is goes) in
-      let set_there = and_at (slice_get p.tables i) (λ (x : Table). TableSetIn p parts c v n x (joined p x.key (state n)) (set_in n) (hit_of x.kind x.key (entries n) (state n))) t table.1 sets in
       let value : slice_index outcomes n ≡ hit_outcome hit =
       run_outcome n node run at.node_is goes ∙ ap (node_outcome p (entries n) (state n)) is
-      ∙ ap (λ o. unwrap_or (option_map (λ (x : Table). hit_outcome (hit_of x.kind x.key (entries n) (state n))) o) 0) table.1 in
-      let part : IsPart c n k place stage s = record { stage_is = at.stage_is; slot_is = ap (option_and_then as_slot) at.unit_is; node_is = at.carried.number } in
-      let reads_key : key_of words (high_first places t.key) ≡ key = subst (λ o. IfSome o (λ (x : Table). key_of words (high_first places x.key) ≡ joined p x.key (state n))) table.1 reads in
-      let looks_there : looked_up (look_in c v) k a.place words s ≡ look_in c v k place key =
-      ap (λ m. looked_up (look_in c v) k m words s) here ∙ looks c v n k place stage words s key part (ap (key_of words) carried.keys ∙ reads_key) s.memory refl in
-      by_found k n place stage s node words a t hit run at here carried.last set le acts looks_there (run.finds n t at_table) set_there value
+      ∙ ap (λ o. unwrap_or (option_map (λ (y : Table). hit_outcome (hit_of y.kind y.key (entries n) (state n))) o) 0) x.listed in
+      by_found k n place stage s node words a t hit run at here x.carried.last set le acts x.looks_there (run.finds n t x.table_is) x.sets value
 
   -- a node that runs has an outcome
   hit_some_outcome : (o : Option Entry) → hit_outcome o ≡ 0 → ⊥

@@ -1,17 +1,15 @@
 -- Entries in rooms: where each entry has a room of its own in which a view shows it, and the view shows nothing else, the cells hold the entries.
-use Rattle.std.proofs.Common.{◌≡◌, ◌≢◌, ℕ, zero, suc, ◌+◌, ◌*◌, ◌<◌, ◌≤◌, ◌==◌, Bool, true, false, not, ◌&&◌, ◌||◌, cond, List, [], ◌∷◌, map, length, Some, Contains, refl, sym, ap, subst, ◌∙◌, inl, inr, arith}
+use Rattle.std.proofs.Common.{◌≡◌, ◌≢◌, ℕ, ◌+◌, ◌*◌, ◌<◌, ◌≤◌, ◌==◌, Bool, true, false, not, ◌&&◌, ◌||◌, cond, List, [], map, length, Some, Contains, refl, sym, ap, subst, ◌∙◌, inl, inr, arith}
 use Rattle.std.specs.Prelude.{AllPairs, IsSomeAnd, nat_lt, slice_get, slice_index, slice_index_or, sum_by}
-use Rattle.std.specs.List.{AllByRecursion}
 use Rattle.std.proofs.lemmas.Bool.{and_from, and_parts, eq-eqb, eqb-true, false≢true, lt-ltb, ltb-true, or_cases, or_left, or_right}
 use Rattle.std.proofs.lemmas.List.Elements.{All-contains, All-contains_itself, All-map, All-weaker}
 use Rattle.std.proofs.lemmas.List.Sums.{sum_by-take-le}
-use Rattle.std.proofs.lemmas.Option.{get_or_from_slice_get, none-some, same_Some}
+use Rattle.std.proofs.lemmas.Option.{get_or_from_slice_get, same_Some}
 use Rattle.rmt_bits.proofs.AllLaws.{All-find}
 use Rattle.rmt_bits.proofs.ListLaws.{find-passes}
 use Rattle.rmt_bits.proofs.MemberLaws.{Contains-map, Contains-unmap}
 use Rattle.rmt_bits.proofs.PairLaws.{AllPairs-map, AllPairs-weaker}
 use Rattle.rmt_ast.specs.declared.entry.Entry.{Entry}
-use Rattle.rmt_ast.specs.declared.program.Kind.TheVariants as kind
 use Rattle.rmt_ast.specs.EntryLists.{AreEntries, IsEntry, params_of, terms_of}
 use Rattle.rmt_ast.specs.RowOrder.{goes_first}
 use Rattle.rmt_ast.specs.State.{width_of}
@@ -29,7 +27,8 @@ use Rattle.rmt_refine.specs.declared.map.Map.{Map}
 use Rattle.rmt_refine.specs.View.{View, as_slot, slot_of}
 use Rattle.rmt_refine.specs.Units.{DoesAs, TableCarried, UnitsCarried, applied, nodes_in, table_at}
 use Rattle.rmt_refine.specs.Cells.{CellsCarried, HoldsEntry, IsBefore, IsCandidate, IsSpotOf, IsTold, Spot, TableCellsCarried}
-use Rattle.rmt_refine.proofs.PartLaws.{and_at, and_from as some_from, candidates_within, kind_of_part, part_of_spot, slot_is_unit, slot_of_part, spot_of_part, then_some, unit_of_part}
+use Rattle.rmt_pack.proofs.PartLaws.{and_at, and_from as some_from, slot_is_unit, then_some, code_at}
+use Rattle.rmt_refine.proofs.PartLaws.{candidates_within, kind_of_part, part_of_spot, slot_of_part, spot_of_part, unit_of_part}
 use Rattle.rmt_refine.proofs.EntryLaws.{IsListed, action_is, listed_in, one_entry, two_items}
 use Rattle.rmt_bits.specs.declared.lane.Lane.{Lane}
 use Rattle.rmt_ast.specs.declared.program.What.TheVariants as what
@@ -39,9 +38,9 @@ use Rattle.rmt_config.proofs.LimitLaws.{limits_kept}
 use Rattle.rmt_pack.specs.declared.placement.Part.{Part}
 use Rattle.rmt_refine.proofs.NodeLaws.{one_place}
 use Rattle.rmt_refine.proofs.TheLaw.{table_entries}
-use Rattle.rmt_refine.proofs.RankLaws.{goes_never}
-use Rattle.rmt_refine.proofs.RoomLaws.{RoomIs}
-use Rattle.rmt_refine.proofs.ContentLaws.{has_arguments}
+use Rattle.rmt_pack.proofs.RankLaws.{goes_never}
+use Rattle.rmt_pack.proofs.RoomLaws.{RoomIs, at_is}
+use Rattle.rmt_pack.proofs.ContentLaws.{has_arguments}
 use Rattle.rmt_bits.proofs.FindLaws.{find-some}
 
 -- ---- general
@@ -68,23 +67,10 @@ before_to a b h = elim (or_cases (nat_lt a.room.part.stage b.room.part.stage) ((
       inr (eqb-true a.room.part.stage b.room.part.stage parts.0, ltb-true a.room.cell b.room.cell parts.1)
 ]
 
--- a room at a place is the cell there
-pub at_is : (k place n : ℕ) (r : Room) → is_at k place n r ≡ true → (r.part.stage ≡ k) × (r.part.place ≡ place) × (r.cell ≡ n)
-at_is k place n r h =
-    let parts = and_parts ((r.part.stage == k) && (r.part.place == place)) (r.cell == n) h in
-    let two = and_parts (r.part.stage == k) (r.part.place == place) parts.0 in
-    (eqb-true r.part.stage k two.0, eqb-true r.part.place place two.1, eqb-true r.cell n parts.1)
-
 pub at_from : (k place n : ℕ) (r : Room) → r.part.stage ≡ k → r.part.place ≡ place → r.cell ≡ n → is_at k place n r ≡ true
 at_from k place n r a b d =
     and_from ((r.part.stage == k) && (r.part.place == place)) (r.cell == n)
     (and_from (r.part.stage == k) (r.part.place == place) (eq-eqb r.part.stage k a) (eq-eqb r.part.place place b)) (eq-eqb r.cell n d)
-
--- a stage has few instructions
-pub code_at : (xs : List Stage) (k : ℕ) (x : Stage) → AllByRecursion (λ (s : Stage). sum_by unit_instructions s.units ≤ 32) xs → slice_get xs k ≡ Some x → sum_by unit_instructions x.units ≤ 32
-code_at [] k x all e = absurd (none-some x e)
-code_at (y ∷ ys) zero x all e = subst (λ (s : Stage). sum_by unit_instructions s.units ≤ 32) (same_Some y x e) all.0
-code_at (y ∷ ys) (suc k) x all e = code_at ys k x all.1 e
 
 actions_done : (p : Program) (places : List (List Lane)) (parts : List Part) (k n : ℕ) (w : What) (t : Table) (slot : SlotUnit)
     → applied p w ≡ Some t → DoesAs p places parts k n w (Slot slot) → slot.actions ≡ length t.actions

@@ -31,7 +31,8 @@ use Rattle.rmt_refine.specs.Outcomes.{entries_at}
 use Rattle.rmt_refine.proofs.CellNumberLaws.{cells_listed, coded_slot, does_table}
 use Rattle.rmt_refine.proofs.OutcomeLaws.{list_at}
 use Rattle.rmt_refine.proofs.EntryLaws.{listed_in}
-use Rattle.rmt_refine.proofs.PartLaws.{IsPart, part_of_slot, part_of_spot, some_and, spot_of_part, unit_of_part}
+use Rattle.rmt_pack.proofs.PartLaws.{IsPart, part_of_slot}
+use Rattle.rmt_refine.proofs.PartLaws.{part_of_spot, some_and, spot_of_part, unit_of_part}
 use Rattle.rmt_refine.proofs.StandLaws.{seen_from, shown, shown_seen}
 use Rattle.rmt_refine.proofs.ViewLaws.{content_is}
 

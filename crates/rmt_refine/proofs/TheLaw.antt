@@ -19,7 +19,8 @@ use Rattle.rmt_refine.specs.View.{View}
 use Rattle.rmt_refine.specs.Units.{UnitsCarried, applied, table_at}
 use Rattle.rmt_refine.specs.Cells.{TableCellsCarried}
 use Rattle.rmt_refine.specs.LookUps.{FindsAs}
-use Rattle.rmt_refine.proofs.PartLaws.{and_at, kind_of_part, then_some}
+use Rattle.rmt_pack.proofs.PartLaws.{and_at, then_some}
+use Rattle.rmt_refine.proofs.PartLaws.{kind_of_part}
 use Rattle.rmt_refine.proofs.LookUpLaws.{Loaded, by_hit}
 
 -- the table of a node is one of the program

@@ -20,7 +20,7 @@ use Rattle.rmt_config.specs.Rooms.{content_in, entry_content, is_at, number_in}
 use Rattle.rmt_config.specs.Commits.{all_entries, AreWrites, IsCell, Placed, coming_content, leaving_content, placed_after, placed_at, settled, settled_content, settled_number, stays, staying_content, with_bit, without_bit, writes_before}
 use Rattle.rmt_refine.specs.Commits.{ChangesAreUnseen}
 use Rattle.rmt_refine.proofs.VisibleBitLaws.{AreSeenAlike, clear-alike, set-alike, unseen_coming, unseen_without}
-use Rattle.rmt_refine.proofs.PlacedLaws.{Comes, HasItsRoom, Stays, each_has_its_room}
+use Rattle.rmt_pack.proofs.PlacedLaws.{Comes, HasItsRoom, Stays, each_has_its_room}
 
 -- ---- cells that a packet sees alike
 

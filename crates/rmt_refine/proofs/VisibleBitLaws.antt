@@ -25,53 +25,34 @@ pub record KeptAt (m a b : ℕ) : Type 0 where
 kept_same : (m a : ℕ) → KeptAt m a a
 kept_same m a = record { occupied = refl; seen = refl; code = refl }
 
+-- heads with the same bits but for one; 2 ^ (1 + m) is the visible bit's value
+kept_from : (m value a b : ℕ) → 2 ^ (1 + m) ≡ value → a % 2 ≡ b % 2 → a / value % 2 ≡ b / value % 2 → a / 8 % 32 ≡ b / 8 % 32 → KeptAt m a b
+kept_from m value a b is low own high = record {
+  occupied = ap (λ r. r == 1) low;
+  seen = ap (λ k. a / k % 2 == 1) is ∙ ap (λ r. r == 1) own ∙ sym (ap (λ k. b / k % 2 == 1) is);
+  code = high;
+}
+
+-- what holds of either head holds of the one that is chosen
+by_test : (P : ℕ → Type 0) (b : Bool) (x y : ℕ) → (b ≡ true → P x) → (b ≡ false → P y) → P (cond b x y)
+by_test P true x y on off = on refl
+by_test P false x y on off = off refl
+
 set_one : (h : ℕ) → KeptAt 0 h (cond (bit 1 h) h (h + 4))
-set_one h = by (bit 1 h) refl
-  where
-    by : (b : Bool) → bit 1 h ≡ b → KeptAt 0 h (cond b h (h + 4))
-    by true e = kept_same 0 h
-    by false e =
-        let no = eqb-false (h / 4 % 2) 1 e in
-        let low : h % 2 ≡ (h + 4) % 2 = omega arith in
-        let own : h / 2 % 2 ≡ (h + 4) / 2 % 2 = omega arith in
-        let high : h / 8 % 32 ≡ (h + 4) / 8 % 32 = omega (arith, no) in
-        record { occupied = ap (λ r. r == 1) low; seen = ap (λ r. r == 1) own; code = high }
+set_one h = by_test (KeptAt 0 h) (bit 1 h) h (h + 4) (λ e. kept_same 0 h)
+    (λ e. (let no = eqb-false (h / 4 % 2) 1 e in kept_from 0 2 h (h + 4) refl (omega arith) (omega arith) (omega (arith, no))))
 
 set_zero : (h : ℕ) → KeptAt 1 h (cond (bit 0 h) h (h + 2))
-set_zero h = by (bit 0 h) refl
-  where
-    by : (b : Bool) → bit 0 h ≡ b → KeptAt 1 h (cond b h (h + 2))
-    by true e = kept_same 1 h
-    by false e =
-        let no = eqb-false (h / 2 % 2) 1 e in
-        let low : h % 2 ≡ (h + 2) % 2 = omega arith in
-        let own : h / 4 % 2 ≡ (h + 2) / 4 % 2 = omega (arith, no) in
-        let high : h / 8 % 32 ≡ (h + 2) / 8 % 32 = omega (arith, no) in
-        record { occupied = ap (λ r. r == 1) low; seen = ap (λ r. r == 1) own; code = high }
+set_zero h = by_test (KeptAt 1 h) (bit 0 h) h (h + 2) (λ e. kept_same 1 h)
+    (λ e. (let no = eqb-false (h / 2 % 2) 1 e in kept_from 1 4 h (h + 2) refl (omega arith) (omega (arith, no)) (omega (arith, no))))
 
 clear_one : (h : ℕ) → KeptAt 0 h (cond (bit 1 h) (h - 4) h)
-clear_one h = by (bit 1 h) refl
-  where
-    by : (b : Bool) → bit 1 h ≡ b → KeptAt 0 h (cond b (h - 4) h)
-    by false e = kept_same 0 h
-    by true e =
-        let yes = eqb-true (h / 4 % 2) 1 e in
-        let low : h % 2 ≡ (h - 4) % 2 = omega (arith, yes) in
-        let own : h / 2 % 2 ≡ (h - 4) / 2 % 2 = omega (arith, yes) in
-        let high : h / 8 % 32 ≡ (h - 4) / 8 % 32 = omega (arith, yes) in
-        record { occupied = ap (λ r. r == 1) low; seen = ap (λ r. r == 1) own; code = high }
+clear_one h = by_test (KeptAt 0 h) (bit 1 h) (h - 4) h
+    (λ e. (let yes = eqb-true (h / 4 % 2) 1 e in kept_from 0 2 h (h - 4) refl (omega (arith, yes)) (omega (arith, yes)) (omega (arith, yes)))) (λ e. kept_same 0 h)
 
 clear_zero : (h : ℕ) → KeptAt 1 h (cond (bit 0 h) (h - 2) h)
-clear_zero h = by (bit 0 h) refl
-  where
-    by : (b : Bool) → bit 0 h ≡ b → KeptAt 1 h (cond b (h - 2) h)
-    by false e = kept_same 1 h
-    by true e =
-        let yes = eqb-true (h / 2 % 2) 1 e in
-        let low : h % 2 ≡ (h - 2) % 2 = omega (arith, yes) in
-        let own : h / 4 % 2 ≡ (h - 2) / 4 % 2 = omega (arith, yes) in
-        let high : h / 8 % 32 ≡ (h - 2) / 8 % 32 = omega (arith, yes) in
-        record { occupied = ap (λ r. r == 1) low; seen = ap (λ r. r == 1) own; code = high }
+clear_zero h = by_test (KeptAt 1 h) (bit 0 h) (h - 2) h
+    (λ e. (let yes = eqb-true (h / 2 % 2) 1 e in kept_from 1 4 h (h - 2) refl (omega (arith, yes)) (omega (arith, yes)) (omega (arith, yes)))) (λ e. kept_same 1 h)
 
 -- a packet of a version sees two heads alike
 abbrev pub AreSeenAlike : ℕ → ℕ → ℕ → Type 0
@@ -92,32 +73,22 @@ pub clear-alike : (v h : ℕ) → AreSeenAlike v h (without_bit (v + 1) h)
 clear-alike v h = at_parities (λ m n. KeptAt m h (cond (bit n h) (h - 2 ^ (1 + n)) h)) v (clear_one h) (clear_zero h)
 
 kept_zero : (h : ℕ) → visible_bits (cond (bit 1 h) (h - 4) h) ≢ 0 → bit 0 h ≡ true
-kept_zero h some = by (bit 1 h) refl some
-  where
-    by : (b : Bool) → bit 1 h ≡ b → visible_bits (cond b (h - 4) h) ≢ 0 → bit 0 h ≡ true
-    by true e g = let yes = eqb-true (h / 4 % 2) 1 e in eq-eqb (h / 2 % 2) 1 (omega (arith, yes, g))
-    by false e g = let no = eqb-false (h / 4 % 2) 1 e in eq-eqb (h / 2 % 2) 1 (omega (arith, no, g))
+kept_zero h = by_test (λ g. visible_bits g ≢ 0 → bit 0 h ≡ true) (bit 1 h) (h - 4) h (λ e g. (let yes = eqb-true (h / 4 % 2) 1 e in eq-eqb (h / 2 % 2) 1 (omega (arith, yes, g))))
+    (λ e g. (let no = eqb-false (h / 4 % 2) 1 e in eq-eqb (h / 2 % 2) 1 (omega (arith, no, g))))
 
 kept_one : (h : ℕ) → visible_bits (cond (bit 0 h) (h - 2) h) ≢ 0 → bit 1 h ≡ true
-kept_one h some = by (bit 0 h) refl some
-  where
-    by : (b : Bool) → bit 0 h ≡ b → visible_bits (cond b (h - 2) h) ≢ 0 → bit 1 h ≡ true
-    by true e g = let yes = eqb-true (h / 2 % 2) 1 e in eq-eqb (h / 4 % 2) 1 (omega (arith, yes, g))
-    by false e g = let no = eqb-false (h / 2 % 2) 1 e in eq-eqb (h / 4 % 2) 1 (omega (arith, no, g))
+kept_one h = by_test (λ g. visible_bits g ≢ 0 → bit 1 h ≡ true) (bit 0 h) (h - 2) h (λ e g. (let yes = eqb-true (h / 2 % 2) 1 e in eq-eqb (h / 4 % 2) 1 (omega (arith, yes, g))))
+    (λ e g. (let no = eqb-false (h / 2 % 2) 1 e in eq-eqb (h / 4 % 2) 1 (omega (arith, no, g))))
 
 set_both_one : (h : ℕ) → bit 0 h ≡ true → visible_bits (cond (bit 1 h) h (h + 4)) ≡ 3
-set_both_one h low = by (bit 1 h) refl
-  where
-    by : (b : Bool) → bit 1 h ≡ b → visible_bits (cond b h (h + 4)) ≡ 3
-    by true e = let yes = eqb-true (h / 4 % 2) 1 e in let own = eqb-true (h / 2 % 2) 1 low in omega (arith, yes, own)
-    by false e = let no = eqb-false (h / 4 % 2) 1 e in let own = eqb-true (h / 2 % 2) 1 low in omega (arith, no, own)
+set_both_one h low =
+    let own = eqb-true (h / 2 % 2) 1 low in
+    by_test (λ g. visible_bits g ≡ 3) (bit 1 h) h (h + 4) (λ e. (let yes = eqb-true (h / 4 % 2) 1 e in omega (arith, yes, own))) (λ e. (let no = eqb-false (h / 4 % 2) 1 e in omega (arith, no, own)))
 
 set_both_zero : (h : ℕ) → bit 1 h ≡ true → visible_bits (cond (bit 0 h) h (h + 2)) ≡ 3
-set_both_zero h high = by (bit 0 h) refl
-  where
-    by : (b : Bool) → bit 0 h ≡ b → visible_bits (cond b h (h + 2)) ≡ 3
-    by true e = let yes = eqb-true (h / 2 % 2) 1 e in let own = eqb-true (h / 4 % 2) 1 high in omega (arith, yes, own)
-    by false e = let no = eqb-false (h / 2 % 2) 1 e in let own = eqb-true (h / 4 % 2) 1 high in omega (arith, no, own)
+set_both_zero h high =
+    let own = eqb-true (h / 4 % 2) 1 high in
+    by_test (λ g. visible_bits g ≡ 3) (bit 0 h) h (h + 2) (λ e. (let yes = eqb-true (h / 2 % 2) 1 e in omega (arith, yes, own))) (λ e. (let no = eqb-false (h / 2 % 2) 1 e in omega (arith, no, own)))
 
 -- without a visible bit a head shows none
 pub unseen_without : (v h : ℕ) → visible_bits h ≡ 0 → has_bit v h ≡ false
@@ -136,32 +107,18 @@ unseen_coming v i =
 -- ---- what the next version sees
 
 bit_set_zero : (h : ℕ) → bit 0 (cond (bit 0 h) h (h + 2)) ≡ true
-bit_set_zero h = by (bit 0 h) refl
-  where
-    by : (b : Bool) → bit 0 h ≡ b → bit 0 (cond b h (h + 2)) ≡ true
-    by true e = e
-    by false e = let none = eqb-false (h / 2 % 2) 1 e in eq-eqb ((h + 2) / 2 % 2) 1 (omega (arith, none))
+bit_set_zero h = by_test (λ g. bit 0 g ≡ true) (bit 0 h) h (h + 2) (λ e. e) (λ e. (let none = eqb-false (h / 2 % 2) 1 e in eq-eqb ((h + 2) / 2 % 2) 1 (omega (arith, none))))
 
 bit_set_one : (h : ℕ) → bit 1 (cond (bit 1 h) h (h + 4)) ≡ true
-bit_set_one h = by (bit 1 h) refl
-  where
-    by : (b : Bool) → bit 1 h ≡ b → bit 1 (cond b h (h + 4)) ≡ true
-    by true e = e
-    by false e = let none = eqb-false (h / 4 % 2) 1 e in eq-eqb ((h + 4) / 4 % 2) 1 (omega (arith, none))
+bit_set_one h = by_test (λ g. bit 1 g ≡ true) (bit 1 h) h (h + 4) (λ e. e) (λ e. (let none = eqb-false (h / 4 % 2) 1 e in eq-eqb ((h + 4) / 4 % 2) 1 (omega (arith, none))))
 
 bit_clear_zero : (h : ℕ) → bit 0 (cond (bit 0 h) (h - 2) h) ≡ false
-bit_clear_zero h = by (bit 0 h) refl
-  where
-    by : (b : Bool) → bit 0 h ≡ b → bit 0 (cond b (h - 2) h) ≡ false
-    by false e = e
-    by true e = let some = eqb-true (h / 2 % 2) 1 e in ne_eqb ((h - 2) / 2 % 2) 1 (λ f. omega (arith, some, f))
+bit_clear_zero h =
+    by_test (λ g. bit 0 g ≡ false) (bit 0 h) (h - 2) h (λ e. (let some = eqb-true (h / 2 % 2) 1 e in ne_eqb ((h - 2) / 2 % 2) 1 (λ f. omega (arith, some, f)))) (λ e. e)
 
 bit_clear_one : (h : ℕ) → bit 1 (cond (bit 1 h) (h - 4) h) ≡ false
-bit_clear_one h = by (bit 1 h) refl
-  where
-    by : (b : Bool) → bit 1 h ≡ b → bit 1 (cond b (h - 4) h) ≡ false
-    by false e = e
-    by true e = let some = eqb-true (h / 4 % 2) 1 e in ne_eqb ((h - 4) / 4 % 2) 1 (λ f. omega (arith, some, f))
+bit_clear_one h =
+    by_test (λ g. bit 1 g ≡ false) (bit 1 h) (h - 4) h (λ e. (let some = eqb-true (h / 4 % 2) 1 e in ne_eqb ((h - 4) / 4 % 2) 1 (λ f. omega (arith, some, f)))) (λ e. e)
 
 -- a cell that keeps its entry is seen by the next version too
 pub seen_next : (v h : ℕ) → sees true v h ≡ true → sees true (v + 1) (with_bit (v + 1) h) ≡ true

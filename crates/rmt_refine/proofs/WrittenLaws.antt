@@ -2,7 +2,7 @@
 use Rattle.std.proofs.Common.{◌≡◌, ℕ, zero, suc, ◌+◌, ◌-◌, ◌<◌, ◌≤◌, cond, List, [], ◌∷◌, Option, Some, None, length, refl, sym, ap, ◌∙◌, subst, ◌⊎◌, inl, inr, arith}
 use Rattle.std.specs.Prelude.{All, Contains, nat_le, option_map, slice_index, unwrap_or}
 use Rattle.std.proofs.lemmas.Bool.{cases_eq, cases_lt, le-leb, lt-leb}
-use Rattle.std.proofs.lemmas.List.Elements.{All-contains_itself, All-weaker, All-contains}
+use Rattle.std.proofs.lemmas.List.Elements.{All-contains}
 use Rattle.rmt_bits.proofs.AllLaws.{All-flat_map}
 use Rattle.rmt_bits.specs.Bits.{slice}
 use Rattle.rmt_bits.specs.declared.lane.Lane.{Lane}
@@ -34,6 +34,7 @@ use Rattle.rmt_refine.proofs.ReadLaws.{state_of_words, words_hold, words_state}
 use Rattle.rmt_refine.proofs.RunningLaws.{Adds, RanBefore}
 use Rattle.rmt_refine.proofs.SeenLaws.{HoldAtCuts, IsCut, IsWriter, cut_before, none_between, operand_cut, own_before, own_cut, stage_of, stands, start, table_of_writer, table_within, writer_within}
 use Rattle.rmt_bits.proofs.MemberLaws.{Contains-first, Contains-later, Contains-split}
+use Rattle.rmt_pack.proofs.FindLaws.{all_at}
 
 -- ---- lists and options
 
@@ -51,9 +52,6 @@ contains_or (y ∷ ys) x = elim (cases_eq y x) [
 or_none : {X : Type 0} (o : Option X) → or_else o None ≡ o
 or_none None = refl
 or_none (Some x) = refl
-
-pub all_at : {X : Type 0} (P : X → Type 0) (xs : List X) → ((x : X) → Contains xs x → P x) → All P xs
-all_at P xs h = All-weaker (Contains xs) P h xs (All-contains_itself xs)
 
 module _ (p : Program) (lists : List (List Entry)) (m : Map) (c : Config) (v : View) (s : List ℕ) (program : IsProgram p) (entries : AreEntries p lists) (state : IsState p s)
     (carries : CarriesIn p lists m c v) where

@@ -1,14 +1,9 @@
 -- The types of a program and of a configuration, passed on by one name.
-pub use Rattle.rmt_ast.specs.declared.program.Program.{Program}
-pub use Rattle.rmt_ast.specs.declared.program.Field.{Field}
+pub use Rattle.rmt_vliw.specs.Types.{Program, Field, Action, Assign, Expr, Leaf, Operation, Source}
 pub use Rattle.rmt_ast.specs.declared.program.Header.{Header}
 pub use Rattle.rmt_ast.specs.declared.program.Tail.{Tail}
 pub use Rattle.rmt_ast.specs.declared.program.Test.{Test}
 pub use Rattle.rmt_ast.specs.declared.program.Target.{Target}
-pub use Rattle.rmt_ast.specs.declared.program.Action.{Action}
-pub use Rattle.rmt_ast.specs.declared.program.Assign.{Assign}
-pub use Rattle.rmt_ast.specs.declared.program.Expr.{Expr}
-pub use Rattle.rmt_ast.specs.declared.program.Leaf.{Leaf}
 pub use Rattle.rmt_ast.specs.declared.program.Table.{Table}
 pub use Rattle.rmt_ast.specs.declared.program.Kind.{Kind}
 pub use Rattle.rmt_ast.specs.declared.program.Node.{Node}
@@ -30,5 +25,3 @@ pub use Rattle.rmt_config.specs.declared.config.UnitGuard.{UnitGuard}
 pub use Rattle.rmt_config.specs.declared.config.SlotUnit.{SlotUnit}
 pub use Rattle.rmt_config.specs.declared.config.CellNumber.{CellNumber}
 pub use Rattle.rmt_config.specs.declared.config.Memory.{Memory}
-pub use Rattle.rmt_config.specs.declared.config.Operation.{Operation}
-pub use Rattle.rmt_config.specs.declared.config.Source.{Source}

@@ -1,28 +1,16 @@
 -- The cells that the look-ups of a packet see. A configuration has cells of its own; where entries change in flight, packets see others.
-use Rattle.std.specs.Prelude.{ℕ, Option, Some, None, find, option_map, option_and_then, slice_get, unwrap_or}
-use Rattle.rmt_refine.specs.Types.{Config, Stage, Unit, SlotUnit}
-use Rattle.rmt_config.specs.declared.config.Unit.TheVariants.{Gate, Slot}
+use Rattle.std.specs.Prelude.{ℕ, Option, find, option_map, option_and_then, slice_get, unwrap_or}
+use Rattle.rmt_refine.specs.Types.{Config, Stage, SlotUnit}
 use Rattle.rmt_config.specs.LaneForm.{bits_of_lanes}
 use Rattle.rmt_config.specs.Cells.{Content, Found, candidates, code_of, content_of, has_key, number_of_cell}
 use Rattle.rmt_config.specs.Life.{Look}
+pub use Rattle.rmt_pack.specs.Slots.{as_slot, slot_at, slot_of}
 
 -- a seed, and of each cell, by stage, place of the slot in the stage and number in the slot, what it holds and the number of its entry
 pub record View : Type 0 where
   pub seed : ℕ
   pub content : ℕ → ℕ → ℕ → Content
   pub number : ℕ → ℕ → ℕ → ℕ
-
--- a unit as a slot
-abbrev pub as_slot : Unit → Option SlotUnit
-as_slot (Gate g) = None
-as_slot (Slot s) = Some s
-
--- the slot at a place of a stage
-abbrev pub slot_of : Stage → ℕ → Option SlotUnit
-slot_of stage place = option_and_then as_slot (slice_get stage.units place)
-
-abbrev pub slot_at : Config → ℕ → ℕ → Option SlotUnit
-slot_at c k place = option_and_then (λ (stage : Stage). slot_of stage place) (slice_get c.stages k)
 
 -- a cell without an entry
 abbrev pub no_content : Content

@@ -28,7 +28,7 @@ use Rattle.rmt_update.proofs.ListedNumbers.{entries-have}
 use Rattle.rmt_update.proofs.OwnNumbers.{own-numbers}
 use Rattle.rmt_update.proofs.PartHoldLaws.{part-holds}
 use Rattle.rmt_update.proofs.ToldEntryLaws.{PartFacts, all-facts, parts-told}
-use Rattle.rmt_refine.proofs.LayoutLaws.{memory_formed}
+use Rattle.rmt_pack.proofs.LayoutLaws.{memory_formed}
 
 -- ---- what the rules say of tables
 

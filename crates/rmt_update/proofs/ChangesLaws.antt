@@ -9,7 +9,7 @@ use Rattle.std.specs.Ordering.{eq_by_cmp, is_eq, nat_cmp, ordering_then}
 use Rattle.std.specs.declared.cmp.Ordering.{Ordering}
 use Rattle.std.specs.declared.cmp.Ordering.TheVariants.{Less, Equal, Greater}
 use Rattle.std.proofs.lemmas.List.Sums.{fold_push}
-use Rattle.rmt_refine.proofs.FindLaws.{same_number}
+use Rattle.rmt_pack.proofs.FindLaws.{same_number}
 use Rattle.rmt_update.specs.declared.book.changing.CellChange.{CellChange}
 use Rattle.rmt_update.specs.Changing.{ChangeKey, key_cmp}
 use Rattle.rmt_update.specs.Differences.{Changes, changes_in}

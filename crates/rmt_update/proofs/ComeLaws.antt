@@ -28,7 +28,7 @@ use Rattle.rmt_update.proofs.ByNumberLaws.{by_number-filter, by_number-rising, t
 use Rattle.rmt_update.proofs.NodeLists.{filter-flat, flat-map, flat-numbered, over-nodes}
 use Rattle.rmt_update.proofs.StayLaws.{come-unnumbered, count-after, node-low}
 use Rattle.rmt_update.proofs.TableRules.{entries-at, terms-found}
-use Rattle.rmt_refine.proofs.EntryLaws.{is_numbered}
+use Rattle.rmt_pack.proofs.EntryLaws.{is_numbered}
 
 -- a list with nothing in it
 none-in : {X : Type 0} (xs : List X) → ((x : X) → Contains xs x → ⊥) → xs ≡ []

@@ -1,5 +1,5 @@
 -- What a commit that moves no cell knows of the cells that entries come to.
-use Rattle.std.proofs.Common.{◌≡◌, ◌≢◌, ℕ, ◌+◌, ◌%◌, ◌/◌, ◌*◌, ◌<◌, Bool, true, false, not, eqb, List, Some, get_or, sym, ap, ◌∙◌, arith}
+use Rattle.std.proofs.Common.{◌≡◌, ◌≢◌, ◌+◌, ◌%◌, ◌/◌, Bool, true, false, not, eqb, List, Some, get_or, sym, ap, ◌∙◌}
 use Rattle.std.specs.Prelude.{All}
 use Rattle.std.specs.List.{AllZip}
 use Rattle.std.proofs.lemmas.Bool.{false≢true}
@@ -21,6 +21,7 @@ use Rattle.rmt_update.specs.Placing.{TakesCell}
 use Rattle.rmt_update.specs.Seen.{is_seen}
 use Rattle.rmt_update.proofs.CellsFound.{kept-is, spot-part}
 use Rattle.rmt_update.proofs.NextTables.{beside}
+use Rattle.rmt_update.proofs.TurnedLaws.{bit-low, head-visible}
 
 module _ (c : Config) (cells : RunCells) (lists : List (List Entry)) (b : Book) (stands : BookStands c cells lists b) where
   -- the cell has the visible bit of the next version alone
@@ -28,14 +29,7 @@ module _ (c : Config) (cells : RunCells) (lists : List (List Entry)) (b : Book) 
   comes-visible q x takes =
       let g = spot-part c cells lists b stands x.spot takes.at in
       let kept = takes.keeps.kept g.part (sym g.holds.first) g.facts.bits g.facts.kind in
-      kept.visible ∙ head-visible (bit_of (not b.odd)) (g.part.first + q.entry.action) (low (not b.odd))
-    where
-      low : (o : Bool) → bit_of o < 4
-      low true = omega arith
-      low false = omega arith
-
-      head-visible : (a d : ℕ) → a < 4 → (1 + 2 * a + 8 * d) / 2 % 4 ≡ a
-      head-visible a d lt = omega (arith, lt)
+      kept.visible ∙ head-visible (bit_of (not b.odd)) (g.part.first + q.entry.action) (bit-low (not b.odd))
 
   -- so that the next version sees it
   pub comes-seen : (q : Placed) (x : Coming) → TakesCell c cells.seed b.odd b.tables.items q x → is_seen (not b.odd) x.kept ≡ true

@@ -27,8 +27,8 @@ use Rattle.rmt_update.specs.Coming.{KeepsEntry, key_bytes}
 use Rattle.rmt_config.specs.Rooms.{mask_or_value}
 use Rattle.rmt_update.specs.Told.{is_whole, told_entry}
 use Rattle.rmt_update.proofs.NamedLaws.{params-at}
-use Rattle.rmt_refine.proofs.LayoutLaws.{bytes_hold}
-use Rattle.rmt_refine.proofs.SpelledFieldLaws.{tests_spelled}
+use Rattle.rmt_pack.proofs.LayoutLaws.{bytes_hold}
+use Rattle.rmt_pack.proofs.SpelledFieldLaws.{tests_spelled}
 use Rattle.rmt_update.proofs.SpelledLaws.{args-spelled, tests-lt, whole-mask}
 
 abbrev widths : ActionName → List ℕ

@@ -158,20 +158,35 @@ module _ (c : Config) (cells : RunCells) (lists : List (List Entry)) (b : Book) 
         by (Some k) o2 e e2 h = All-contains (λ m. m < cells_in part.slot.memory) (keys x.cells) n was.within ((btree_map_contains_key_iff nat_cmp_total exact_unsigned x.cells n).0 (ap is_some e))
         by None (Some k) e e2 h = All-contains (λ m. m < cells_in part.slot.memory) (keys y.cells) n is.within ((btree_map_contains_key_iff nat_cmp_total exact_unsigned y.cells n).0 (ap is_some e2))
 
-    cell-of : (w : CellWrite) → goal (change_key w) ≡ Some w → IsCell c w.stage w.unit w.cell
+    -- a pair whose cell changes so
+    record ChangesSo (w : CellWrite) : Type 0 where
+      p : PartCells × PartCells
+      at : PairAt p
+      within : w.cell < cells_in at.part.slot.memory
+      slot : slot_at c w.stage w.unit ≡ Some at.part.slot
+      change : change_in p.0 p.1 w.cell ≡ Some w
+
+    changes-so : (w : CellWrite) → goal (change_key w) ≡ Some w → ChangesSo w
     unfolding goal goal_of
-    cell-of w is = by (find (is_place w.stage w.unit) (all_pairs b.tables.items moved)) refl is
+    changes-so w is = by (find (is_place w.stage w.unit) (all_pairs b.tables.items moved)) refl is
       where
-        by : (o : Option (PartCells × PartCells)) → find (is_place w.stage w.unit) (all_pairs b.tables.items moved) ≡ o → goal_of o w.cell ≡ Some w → IsCell c w.stage w.unit w.cell
+        by : (o : Option (PartCells × PartCells)) → find (is_place w.stage w.unit) (all_pairs b.tables.items moved) ≡ o → goal_of o w.cell ≡ Some w → ChangesSo w
         by None e h = absurd (none-some w h)
         by (Some p) e h =
             let at = pair-of p (found-in (is_place w.stage w.unit) (all_pairs b.tables.items moved) p e) in
             let own = and_parts (p.1.stage == w.stage) (p.1.place == w.unit) (find-passes (is_place w.stage w.unit) (all_pairs b.tables.items moved) p e) in
-            let lt = some-kept p.0 p.1 w.cell at.part w at.was at.is h in
             let stage : at.part.stage ≡ w.stage = sym at.is.stage ∙ eqb-true p.1.stage w.stage own.0 in
             let place : at.part.place ≡ w.unit = sym at.is.place ∙ eqb-true p.1.place w.unit own.1 in
-            subst (λ k. IsCell c k w.unit w.cell) stage
-            (subst (λ k. IsCell c at.part.stage k w.cell) place (subst (λ (o : Option SlotUnit). IsSomeAnd o (λ slot. w.cell < cells_in slot.memory)) (sym at.own.slot) lt))
+            record {
+              p = p;
+              at = at;
+              within = some-kept p.0 p.1 w.cell at.part w at.was at.is h;
+              slot = ap (λ k. slot_at c k w.unit) (sym stage) ∙ ap (slot_at c at.part.stage) (sym place) ∙ at.own.slot;
+              change = h;
+            }
+
+    cell-of : (w : CellWrite) → goal (change_key w) ≡ Some w → IsCell c w.stage w.unit w.cell
+    cell-of w is = let h = changes-so w is in subst (λ (o : Option SlotUnit). IsSomeAnd o (λ slot. w.cell < cells_in slot.memory)) (sym h.slot) h.within
 
     -- ---- each has the bytes of its slot
 
@@ -209,18 +224,7 @@ module _ (c : Config) (cells : RunCells) (lists : List (List Entry)) (b : Book) 
         by (Some j) (Some k) e h = changed (is_same_kept (is_exact y.shape.grid) j k) k e h
 
     lengths-of : (w : CellWrite) → goal (change_key w) ≡ Some w → HasLengths c w
-    unfolding goal goal_of
-    lengths-of w is = by (find (is_place w.stage w.unit) (all_pairs b.tables.items moved)) refl is
-      where
-        by : (o : Option (PartCells × PartCells)) → find (is_place w.stage w.unit) (all_pairs b.tables.items moved) ≡ o → goal_of o w.cell ≡ Some w → HasLengths c w
-        by None e h = absurd (none-some w h)
-        by (Some p) e h =
-            let at = pair-of p (found-in (is_place w.stage w.unit) (all_pairs b.tables.items moved) p e) in
-            let own = and_parts (p.1.stage == w.stage) (p.1.place == w.unit) (find-passes (is_place w.stage w.unit) (all_pairs b.tables.items moved) p e) in
-            let lt = some-kept p.0 p.1 w.cell at.part w at.was at.is h in
-            let stage : at.part.stage ≡ w.stage = sym at.is.stage ∙ eqb-true p.1.stage w.stage own.0 in
-            let place : at.part.place ≡ w.unit = sym at.is.place ∙ eqb-true p.1.place w.unit own.1 in
-            bytes-by p.0 p.1 w.cell at.part w at.is lt (ap (λ k. slot_at c k w.unit) (sym stage) ∙ ap (slot_at c at.part.stage) (sym place) ∙ at.own.slot) h
+    lengths-of w is = let h = changes-so w is in bytes-by h.p.0 h.p.1 w.cell h.at.part w h.at.is h.within h.slot h.change
 
     pub writes-sized : All (HasLengths c) writes
     writes-sized = All-weaker (λ (w : CellWrite). goal (change_key w) ≡ Some w) (HasLengths c) lengths-of writes are.each

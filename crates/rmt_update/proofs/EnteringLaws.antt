@@ -272,32 +272,8 @@ part-written p m cell make k w is makes writes = record {
 
 -- of its visible bits alone
 pub same-shown : (k : Kept) (v : ℕ) (key : length k.key.items ≤ 8192) (mask : length k.mask.items ≤ 8192) (held : length k.held.items ≤ 8192)
-    → record k { visible = v } ≡ record {
-      cell = k.cell;
-      visible = v;
-      code = k.code;
-      key = k.key;
-      mask = k.mask;
-      held = k.held;
-      number = k.number;
-      rank = k.rank;
-      key_short = key;
-      mask_short = mask;
-      held_short = held;
-    }
-same-shown k v key mask held i = record {
-  cell = k.cell;
-  visible = v;
-  code = k.code;
-  key = k.key;
-  mask = k.mask;
-  held = k.held;
-  number = k.number;
-  rank = k.rank;
-  key_short = le_prop k.key_short key i;
-  mask_short = le_prop k.mask_short mask i;
-  held_short = le_prop k.held_short held i;
-}
+    → record k { visible = v } ≡ record k { visible = v; key_short = key; mask_short = mask; held_short = held }
+same-shown k v key mask held i = record k { visible = v; key_short = le_prop k.key_short key i; mask_short = le_prop k.mask_short mask i; held_short = le_prop k.held_short held i }
 
 pub no-items : {X : Type 0} (xs : List X) → length xs ≡ 0 → xs ≡ []
 no-items [] e = refl

@@ -24,8 +24,8 @@ use Rattle.rmt_ast.specs.NameRules.{AreEntriesOf, has_fields, names_are_formed, 
 use Rattle.rmt_ast.specs.WellFormed.{AreDistinct}
 use Rattle.rmt_ast.proofs.EntryLaws.{all_without}
 use Rattle.rmt_entries.specs.Entries.{has_keys_once}
-use Rattle.rmt_refine.proofs.FitLaws.{distinct_at, entries_without, numbered, one_rank, same_rank}
-use Rattle.rmt_refine.proofs.PartLaws.{and_from as some_from}
+use Rattle.rmt_pack.proofs.EntryLaws.{distinct_at, entries_without, numbered, one_rank, same_rank}
+use Rattle.rmt_pack.proofs.PartLaws.{and_from as some_from}
 use Rattle.rmt_update.specs.Following.{IsNextAbove}
 use Rattle.rmt_update.specs.Running.{holds, key_of_entry}
 use Rattle.rmt_update.proofs.FilterLaws.{numbers_of}

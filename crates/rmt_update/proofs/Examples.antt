@@ -12,7 +12,11 @@ use Rattle.rmt_ast.specs.declared.names.TableName.{TableName}
 use Rattle.rmt_ast.specs.declared.program.Kind.TheVariants as kind
 use Rattle.rmt_config.specs.Cells.{Content}
 use Rattle.rmt_config.specs.declared.config.Memory.TheVariants.{Exact}
+use Rattle.rmt_update.specs.declared.book.changing.CellChange.{CellChange}
 use Rattle.rmt_update.specs.declared.book.kept.Kept.{Kept}
+use Rattle.rmt_update.specs.Changing.{ChangeKey}
+use Rattle.rmt_update.specs.Coming.{empty_write, key_bytes}
+use Rattle.rmt_update.specs.Differences.{changes_in}
 use Rattle.rmt_update.specs.Kept.{IsKept}
 use Rattle.rmt_update.specs.Running.{Running, fresh, line_change}
 use Rattle.rmt_update.specs.Seen.{is_seen}
@@ -134,3 +138,23 @@ one_bit_more k one h = let three : k.visible ≡ 3 = h.visible in absurd (omega 
 -- by odd versions a cell with the higher visible bit is seen, and by even ones it isn't
 seen_by : (k : Kept) → k.visible ≡ 2 → (is_seen true k ≡ true) × (is_seen false k ≡ false)
 seen_by k two = (ap (λ v. v / 2 % 2 == 1) two, ap (λ v. v / 1 % 2 == 1) two)
+
+-- ---- what changes
+
+-- the change of a cell of a table's first part
+abbrev shown : ℕ → ℕ → ℕ → ℕ → ChangeKey × CellChange
+shown stage place cell visible = (((stage, place), cell), record { spot = record { table = 0; at = record { part = 0; cell = cell } }; write = record (empty_write stage place cell) { visible = visible } })
+
+-- by stage, unit and cell, and of one cell the last change
+last_counts : changes_in (shown 1 0 5 3 ∷ shown 0 2 7 3 ∷ shown 0 2 6 2 ∷ shown 1 0 5 1 ∷ []) ≡ shown 0 2 6 2 ∷ shown 0 2 7 3 ∷ shown 1 0 5 1 ∷ []
+last_counts = refl
+
+-- the first field of a key is highest, and 9 bits have two bytes
+abbrev fields_1_2 : Entry
+fields_1_2 = record { table = 2; number = 3; tests = record { value = 1; mask = 15 } ∷ record { value = 2; mask = 3 } ∷ []; rank = 20; action = 0; args = 5 ∷ [] }
+
+abbrev field_257 : Entry
+field_257 = record { table = 1; number = 0; tests = record { value = 257; mask = 511 } ∷ []; rank = 0; action = 0; args = 5 ∷ [] }
+
+keys_as_bytes : (key_bytes ternary_t fields_1_2 ≡ 18 ∷ []) × (key_bytes (record exact_b { keys = 9 ∷ [] }) field_257 ≡ 1 ∷ 1 ∷ [])
+keys_as_bytes = (refl, refl)

@@ -41,7 +41,7 @@ use Rattle.rmt_update.proofs.NextNumbers.{new, entry-comes, old-used, same-cell}
 use Rattle.rmt_update.proofs.PairsTold.{there-cell}
 use Rattle.rmt_update.proofs.SettledKept.{kept-next, left-stays, next_at, old-kept}
 use Rattle.rmt_update.proofs.SettledPlaces.{come-or-not, none-come}
-use Rattle.rmt_refine.proofs.WrittenLaws.{all_at}
+use Rattle.rmt_pack.proofs.FindLaws.{all_at}
 
 before-differs : (a b : CellWrite) → writes_before a b ≡ true → a.stage ≡ b.stage → a.unit ≡ b.unit → a.cell ≡ b.cell → ⊥
 before-differs a b h stage unit cell = by (nat_lt a.stage b.stage) refl (a.stage == b.stage) (nat_lt a.unit b.unit) refl (a.unit == b.unit) (nat_lt a.cell b.cell) refl h

@@ -13,7 +13,7 @@ use Rattle.rmt_ast.specs.declared.entry.Entry.{Entry}
 use Rattle.rmt_ast.specs.declared.program.Kind.{Kind}
 use Rattle.rmt_ast.specs.declared.program.Kind.TheVariants as kind
 use Rattle.rmt_ast.specs.RowOrder.{goes_first}
-use Rattle.rmt_refine.proofs.RoomOrderLaws.{count_one_less, fewer_first}
+use Rattle.rmt_pack.proofs.RoomOrderLaws.{count_one_less, fewer_first}
 use Rattle.rmt_update.specs.Spots.{order_by}
 
 -- prefix and ternary tables have rows
@@ -62,27 +62,18 @@ never kind.Ternary a (inl lt) = omega (arith, lt)
 never kind.Ternary a (inr both) = let lt = both.1 in omega (arith, lt)
 
 -- of two entries with different numbers one goes first
-lexical : (p q n m : ℕ) → n < m → Less p q p q n m ⊎ Less q p q p m n
-lexical p q n m lt = elim (cases_lt p q) [
+one-goes : (p q x y n m : ℕ) → (p ≡ q → x ≡ y) → n < m → Less p q x y n m ⊎ Less q p y x m n
+one-goes p q x y n m same lt = elim (cases_lt p q) [
   | inl less ↦ inl (inl less)
   | inr ge ↦ elim (cases_lt q p) [
     | inl more ↦ inr (inl more)
-    | inr le ↦ inl (inr (omega (arith, ge, le), lt))
-  ]
-]
-
-longest : (p q n m : ℕ) → n < m → Less q p p q n m ⊎ Less p q q p m n
-longest p q n m lt = elim (cases_lt q p) [
-  | inl less ↦ inl (inl less)
-  | inr ge ↦ elim (cases_lt p q) [
-    | inl more ↦ inr (inl more)
-    | inr le ↦ inl (inr (omega (arith, ge, le), lt))
+    | inr le ↦ inl (inr (same (omega (arith, ge, le)), lt))
   ]
 ]
 
 either : (k : Kind) (a b : Entry) → IsRowKind k → a.number < b.number → IsFirst k a b ⊎ IsFirst k b a
-either k a b (inl is) lt = subst (λ j. IsFirst j a b ⊎ IsFirst j b a) (sym is) (longest a.rank b.rank a.number b.number lt)
-either k a b (inr is) lt = subst (λ j. IsFirst j a b ⊎ IsFirst j b a) (sym is) (lexical a.rank b.rank a.number b.number lt)
+either k a b (inl is) lt = subst (λ j. IsFirst j a b ⊎ IsFirst j b a) (sym is) (one-goes b.rank a.rank a.rank b.rank a.number b.number (λ e. sym e) lt)
+either k a b (inr is) lt = subst (λ j. IsFirst j a b ⊎ IsFirst j b a) (sym is) (one-goes a.rank b.rank a.rank b.rank a.number b.number (λ e. e) lt)
 
 -- ---- how many go first
 

@@ -38,13 +38,12 @@ use Rattle.rmt_config.specs.RunCells.{RunCells, as_slot, emptied, has_bit, no_co
 use Rattle.rmt_config.proofs.LimitLaws.{limits_kept}
 use Rattle.rmt_config.proofs.SpelledParts.{parts-stand}
 use Rattle.rmt_config.proofs.SpelledWays.{parts-follow}
-use Rattle.rmt_refine.proofs.BesideLaws.{args-lt}
-use Rattle.rmt_refine.proofs.PartLaws.{slot_is_unit, then_some}
-use Rattle.rmt_refine.proofs.PlacedLaws.{Comes, HasItsRoom, Stays, each_has_its_room}
-use Rattle.rmt_refine.proofs.RoomLaws.{PartIs, stages_there}
-use Rattle.rmt_refine.proofs.LayoutLaws.{memory_formed}
-use Rattle.rmt_refine.proofs.FilledLaws.{room_there}
-use Rattle.rmt_refine.proofs.StandLaws.{at_is, code_at}
+use Rattle.rmt_pack.proofs.BesideLaws.{args-lt}
+use Rattle.rmt_pack.proofs.PartLaws.{slot_is_unit, then_some, code_at}
+use Rattle.rmt_pack.proofs.PlacedLaws.{Comes, HasItsRoom, Stays, each_has_its_room}
+use Rattle.rmt_pack.proofs.RoomLaws.{PartIs, stages_there, at_is}
+use Rattle.rmt_pack.proofs.LayoutLaws.{memory_formed}
+use Rattle.rmt_pack.proofs.RoomOrderLaws.{room_there}
 use Rattle.rmt_config.specs.Rooms.{mask_or_value}
 use Rattle.rmt_update.specs.Fitting.{AreFit, HasEntry, IsFitting, MaskFits}
 use Rattle.rmt_update.proofs.BookLaws.{TableFacts, names-fit, table-facts}

@@ -24,9 +24,9 @@ use Rattle.rmt_config.specs.RunCells.{emptied, own_cells, own_content}
 use Rattle.rmt_config.proofs.PrefixRowLaws.{key-small, mask-small}
 use Rattle.rmt_config.proofs.SpelledCandidates.{above-byte}
 use Rattle.rmt_config.proofs.SpelledParts.{held-is, parts-stand}
-use Rattle.rmt_refine.proofs.PartLaws.{part_of_slot}
-use Rattle.rmt_refine.proofs.RoomLaws.{part_at_place}
-use Rattle.rmt_refine.proofs.LayoutLaws.{memory_formed}
+use Rattle.rmt_pack.proofs.PartLaws.{part_of_slot}
+use Rattle.rmt_pack.proofs.RoomLaws.{part_at_place}
+use Rattle.rmt_pack.proofs.LayoutLaws.{memory_formed}
 use Rattle.rmt_update.specs.Fitting.{AreFit, HasEntry, IsFitting, MaskFits}
 use Rattle.rmt_update.proofs.PartHoldLaws.{clear-emptied, part-slot}
 use Rattle.rmt_update.proofs.ToldEntryLaws.{IsHead, head-occupied, head-visible, listed-heads}

@@ -24,9 +24,9 @@ use Rattle.rmt_entries.specs.declared.named.EntryName.{EntryName}
 use Rattle.rmt_entries.specs.Entries.{has_keys_once}
 use Rattle.rmt_entries.specs.NamedLines.{IsNamedEntry, named_entry, named_key}
 use Rattle.rmt_entries.proofs.NamedLaws.{named_entry_law}
-use Rattle.rmt_refine.proofs.FindLaws.{Contains-range}
-use Rattle.rmt_refine.proofs.PartLaws.{and_at}
-use Rattle.rmt_refine.proofs.LayoutLaws.{memory_formed}
+use Rattle.rmt_pack.proofs.FindLaws.{Contains-range}
+use Rattle.rmt_pack.proofs.PartLaws.{and_at}
+use Rattle.rmt_pack.proofs.LayoutLaws.{memory_formed}
 use Rattle.rmt_config.specs.declared.config.Config.{Config}
 use Rattle.rmt_config.specs.declared.config.SlotUnit.{SlotUnit}
 use Rattle.rmt_config.specs.declared.config.Stage.{Stage}

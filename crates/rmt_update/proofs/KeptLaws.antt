@@ -1,5 +1,5 @@
 -- What is read of a cell is what it holds.
-use Rattle.std.proofs.Common.{◌≡◌, ℕ, ◌+◌, ◌/◌, ◌%◌, ◌^◌, ◌<◌, ◌≤◌, List, length, map, ◌&&◌, ◌==◌, sym, ap, ◌∙◌, subst, arith}
+use Rattle.std.proofs.Common.{◌≡◌, ℕ, ◌+◌, ◌*◌, ◌/◌, ◌%◌, ◌^◌, ◌<◌, ◌≤◌, List, length, map, ◌&&◌, ◌==◌, sym, ap, ◌∙◌, subst, arith}
 use Rattle.std.specs.Prelude.{All}
 use Rattle.std.proofs.Math.Nat.{div-one}
 use Rattle.rmt_bits.specs.Bits.{bytes_of, number_of, slice}
@@ -15,7 +15,7 @@ use Rattle.rmt_update.specs.Words.{joined}
 use Rattle.rmt_update.specs.Kept.{Tells}
 use Rattle.rmt_update.proofs.WordLaws.{joined-unit}
 use Rattle.rmt_bits.proofs.FindLaws.{found-lt}
-use Rattle.rmt_refine.proofs.LayoutLaws.{bytes_hold}
+use Rattle.rmt_pack.proofs.LayoutLaws.{bytes_hold}
 
 -- ---- bytes of a number
 
@@ -26,6 +26,19 @@ bytes-few bits y bytes is few =
     omega (arith, e, least, few)
 
 -- ---- parts of an entry
+
+-- so many bits from one on can be read of words
+pub record CanRead (words : List ℕ) (low len : ℕ) : Type 0 where
+  pub small : All (λ w. w < 2 ^ 112) words
+  pub within : low + len ≤ 112 * length words
+  pub few : low + len < 2 ^ 32
+
+pub can-read : (words seen : List ℕ) (low len size v : ℕ) → seen ≡ words → size ≡ len → Tells words low size v → CanRead seen low len
+can-read words seen low len size v same long t = record {
+  small = subst (All (λ w. w < 2 ^ 112)) (sym same) t.small;
+  within = let within = t.within in let count = ap (λ (ws : List ℕ). length ws) same in omega (arith, within, long, count);
+  few = let few = t.few in omega (arith, few, long);
+}
 
 -- the lowest byte of what words tell
 pub tells-low : (words : List ℕ) (low len value : ℕ) → 8 ≤ len → Tells words low len value → slice (joined 112 words) low 8 ≡ value % 256

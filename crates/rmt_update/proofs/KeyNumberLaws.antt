@@ -22,21 +22,27 @@ without_first key q numbers = cond (bytes_eq key q) (drop 1 numbers) numbers
 alike : (key q : List ℕ) → bytes_eq key q ≡ true → key ≡ q
 alike key q = (bytes_eq-Decides key q).0
 
--- a slot that was looked up is that of its key
-pub slot_at : (slots key numbers : List ℕ) (count place slot : ℕ) → count ≡ length slots → numbers ≡ key → place ≡ place_of count numbers → place < count → slot ≡ get_or slots place slot → slot ≡ slot_of slots key
-slot_at slots key numbers count place slot all same own within at =
+-- a key's place that was looked up, and its slot
+pub record Looked (slots key : List ℕ) (place slot : ℕ) : Type 0 where
+  pub slot_is : slot ≡ slot_of slots key
+  pub place_is : place ≡ place_of (length slots) key
+  pub within : place < length slots
+
+pub looked : (slots key numbers : List ℕ) (count place slot : ℕ) → count ≡ length slots → numbers ≡ key → place ≡ place_of count numbers → place < count → slot ≡ get_or slots place slot → Looked slots key place slot
+looked slots key numbers count place slot all same own within at =
     let inside : place < length slots = rw (← all) within in
-    at ∙ get_or_default slots place slot 0 inside ∙ ap (λ (p : ℕ). get_or slots p 0) (own ∙ ap (λ (n : ℕ). place_of n numbers) all ∙ ap (place_of (length slots)) same)
+    let of : place ≡ place_of (length slots) key = own ∙ ap (λ (n : ℕ). place_of n numbers) all ∙ ap (place_of (length slots)) same in
+    record {
+      slot_is = at ∙ get_or_default slots place slot 0 inside ∙ ap (λ (p : ℕ). get_or slots p 0) of;
+      place_is = of;
+      within = inside;
+    }
 
 -- no two keys are at one place
 one_key : (keys : List ℕ) (slot : ℕ) (a b : List ℕ) → is_at keys slot a ≡ true → is_at keys slot b ≡ true → a ≡ b
 one_key keys slot a b s t =
     let l = list_at keys (slot - 1) in
     alike a l ((and_parts (not (slot == 0)) (bytes_eq a l) s).1) ∙ sym (alike b l ((and_parts (not (slot == 0)) (bytes_eq b l) t).1))
-
--- the place that was looked up is that of the key
-pub place_at : (slots key numbers : List ℕ) (count place : ℕ) → count ≡ length slots → numbers ≡ key → place ≡ place_of count numbers → place ≡ place_of (length slots) key
-place_at slots key numbers count place all same own = own ∙ ap (λ (n : ℕ). place_of n numbers) all ∙ ap (place_of (length slots)) same
 
 -- a key that was found at its place is there
 pub there_seen : (slots keys key ks : List ℕ) (slot : ℕ) → ks ≡ keys → slot ≡ slot_of slots key → is_at ks slot key ≡ true → is_at keys (slot_of slots key) key ≡ true

@@ -1,8 +1,9 @@
 -- What holds of what is kept holds where the same is kept.
-use Rattle.std.proofs.Common.{◌≡◌, ℕ, ◌/◌, ◌%◌, ◌-◌, ◌^◌, Bool, cond, eqb, Option, Some, None, refl, sym, ap, ◌∙◌, subst}
+use Rattle.std.proofs.Common.{◌≡◌, ℕ, ◌/◌, ◌%◌, ◌-◌, ◌^◌, Bool, cond, eqb, List, Option, Some, None, refl, sym, ap, ◌∙◌, subst}
 use Rattle.std.specs.Prelude.{IsSome, sum}
 use Rattle.std.proofs.lemmas.Bool.{false≢true}
 use Rattle.rmt_bits.specs.Bits.{number_of}
+use Rattle.rmt_ast.specs.declared.entry.Entry.{Entry}
 use Rattle.rmt_ast.specs.declared.names.TableName.{TableName}
 use Rattle.rmt_config.specs.declared.config.CellNumber.{CellNumber}
 use Rattle.rmt_config.specs.Cells.{Content}
@@ -40,56 +41,22 @@ like-from (Some j) b k h is = (j, refl, subst (λ o. AreLike (Some j) o) is h)
 pub like-seen : (odd : Bool) (a b : Kept) → IsLike a b → is_seen odd a ≡ is_seen odd b
 like-seen odd a b h = ap (λ v. eqb (v / cond odd 2 1 % 2) 1) h.visible
 
+-- the entry that a cell with these tells
+abbrev entry_with : TableName → ℕ → (number : ℕ) (key mask : List ℕ) (rank code : ℕ) (held : List ℕ) → Entry
+entry_with t first number key mask rank code held = record {
+  table = t.node;
+  number = number;
+  tests = tests_of_key t.keys (number_of key) (cond (is_whole t.kind) (2 ^ sum t.keys - 1) (number_of mask));
+  rank = rank;
+  action = code - first;
+  args = args_of_data (params_in t (code - first)) (number_of held);
+}
+
 pub like-told : (t : TableName) (first : ℕ) (a b : Kept) → IsLike a b → told_entry t first a ≡ told_entry t first b
 like-told t first a b h =
-    ap (λ n. record {
-      table = t.node;
-      number = n;
-      tests = tests_of_key t.keys (number_of a.key.items) (cond (is_whole t.kind) (2 ^ sum t.keys - 1) (number_of a.mask.items));
-      rank = a.rank;
-      action = a.code - first;
-      args = args_of_data (params_in t (a.code - first)) (number_of a.held.items);
-    }) h.number
-    ∙ ap (λ ks. record {
-      table = t.node;
-      number = b.number;
-      tests = tests_of_key t.keys (number_of ks) (cond (is_whole t.kind) (2 ^ sum t.keys - 1) (number_of a.mask.items));
-      rank = a.rank;
-      action = a.code - first;
-      args = args_of_data (params_in t (a.code - first)) (number_of a.held.items);
-    }) h.key
-    ∙ ap (λ ms. record {
-      table = t.node;
-      number = b.number;
-      tests = tests_of_key t.keys (number_of b.key.items) (cond (is_whole t.kind) (2 ^ sum t.keys - 1) (number_of ms));
-      rank = a.rank;
-      action = a.code - first;
-      args = args_of_data (params_in t (a.code - first)) (number_of a.held.items);
-    }) h.mask
-    ∙ ap (λ r. record {
-      table = t.node;
-      number = b.number;
-      tests = tests_of_key t.keys (number_of b.key.items) (cond (is_whole t.kind) (2 ^ sum t.keys - 1) (number_of b.mask.items));
-      rank = r;
-      action = a.code - first;
-      args = args_of_data (params_in t (a.code - first)) (number_of a.held.items);
-    }) h.rank
-    ∙ ap (λ c. record {
-      table = t.node;
-      number = b.number;
-      tests = tests_of_key t.keys (number_of b.key.items) (cond (is_whole t.kind) (2 ^ sum t.keys - 1) (number_of b.mask.items));
-      rank = b.rank;
-      action = c - first;
-      args = args_of_data (params_in t (c - first)) (number_of a.held.items);
-    }) h.code
-    ∙ ap (λ ds. record {
-      table = t.node;
-      number = b.number;
-      tests = tests_of_key t.keys (number_of b.key.items) (cond (is_whole t.kind) (2 ^ sum t.keys - 1) (number_of b.mask.items));
-      rank = b.rank;
-      action = b.code - first;
-      args = args_of_data (params_in t (b.code - first)) (number_of ds);
-    }) h.held
+    ap (λ n. entry_with t first n a.key.items a.mask.items a.rank a.code a.held.items) h.number ∙ ap (λ ks. entry_with t first b.number ks a.mask.items a.rank a.code a.held.items) h.key
+    ∙ ap (λ ms. entry_with t first b.number b.key.items ms a.rank a.code a.held.items) h.mask ∙ ap (λ r. entry_with t first b.number b.key.items b.mask.items r a.code a.held.items) h.rank
+    ∙ ap (λ c. entry_with t first b.number b.key.items b.mask.items b.rank c a.held.items) h.code ∙ ap (entry_with t first b.number b.key.items b.mask.items b.rank b.code) h.held
 
 -- a cell holds what is like what is kept of it
 pub like-kept : (seed : ℕ) (p : PartAt) (x : Content) (n : CellNumber) (a b : Option Kept) → AreLike a b → IsKeptOf seed p x n b → IsKeptOf seed p x n a

@@ -22,9 +22,9 @@ use Rattle.rmt_config.specs.Commits.{AreWrites, IsCell, writes_before}
 use Rattle.rmt_config.specs.LaneForm.{bits_of_lanes}
 use Rattle.rmt_config.specs.RunCells.{RunCells, emptied, is_changed, no_content, slot_at, written_content, written_mask}
 use Rattle.rmt_config.specs.BlockCounts.{divided_up}
-use Rattle.rmt_refine.proofs.FindLaws.{Contains-range}
-use Rattle.rmt_refine.proofs.RoomOrderLaws.{pairs_flat}
-use Rattle.rmt_refine.proofs.LayoutLaws.{bytes_hold}
+use Rattle.rmt_pack.proofs.FindLaws.{Contains-range}
+use Rattle.rmt_pack.proofs.RoomOrderLaws.{pairs_flat}
+use Rattle.rmt_pack.proofs.LayoutLaws.{bytes_hold}
 use Rattle.rmt_update.specs.Fitting.{AreFit, IsFitting, MaskFits}
 use Rattle.rmt_update.proofs.OwnNumbers.{standing}
 use Rattle.rmt_update.proofs.WritesLaws.{said_content, said_number, writes-are}

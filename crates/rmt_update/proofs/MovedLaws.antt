@@ -53,9 +53,9 @@ use Rattle.rmt_update.proofs.OncePlaced.{all-numbers, at-own, at-place, found-in
 use Rattle.rmt_update.proofs.PartOrder.{IsPartOf, parts-own}
 use Rattle.rmt_update.proofs.PartPairs.{IsBefore, IsCellOf, in-told, parts-pairs, told-in}
 use Rattle.rmt_update.proofs.RowsInOrder.{rows-in-order}
-use Rattle.rmt_refine.proofs.SortedLaws.{by_number_is}
-use Rattle.rmt_refine.proofs.LayoutLaws.{memory_formed}
-use Rattle.rmt_refine.proofs.FilledLaws.{room_there}
+use Rattle.rmt_pack.proofs.SortedLaws.{by_number_is}
+use Rattle.rmt_pack.proofs.LayoutLaws.{memory_formed}
+use Rattle.rmt_pack.proofs.RoomOrderLaws.{room_there}
 use Rattle.rmt_update.proofs.SpotsFit.{from-placed, node-within, own, own-filled, own-placed, own-stands, spots-many, stands-in}
 use Rattle.rmt_update.proofs.TableRules.{Own, entries-at}
 use Rattle.rmt_update.proofs.ToldEntryLaws.{PartFacts}

@@ -43,7 +43,7 @@ use Rattle.rmt_update.proofs.PutChanges.{zip-at}
 use Rattle.rmt_update.proofs.SettledPlaces.{same-spot, spot-itself}
 use Rattle.rmt_update.proofs.TurnWriteLaws.{kept-nowhere, kept-part, one-key, same-bits}
 use Rattle.rmt_update.proofs.ZipLaws.{zip-left}
-use Rattle.rmt_refine.proofs.WrittenLaws.{all_at}
+use Rattle.rmt_pack.proofs.FindLaws.{all_at}
 
 -- what is kept of a cell has its number
 abbrev pub HaveOwnCells : List TableCells → Type 0

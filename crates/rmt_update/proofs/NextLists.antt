@@ -52,7 +52,7 @@ use Rattle.rmt_update.proofs.PairsTold.{table-pairs, told-from, told-there}
 use Rattle.rmt_update.proofs.RoomNumbers.{slice_get-map_range}
 use Rattle.rmt_update.proofs.SettledKept.{left-stays, next_at, same-names}
 use Rattle.rmt_update.proofs.SettledPlaces.{none-come, spot-itself}
-use Rattle.rmt_refine.proofs.SortedLaws.{by_number_is}
+use Rattle.rmt_pack.proofs.SortedLaws.{by_number_is}
 use Rattle.rmt_update.proofs.TableRules.{entries-at, terms-found}
 use Rattle.rmt_update.proofs.ZipLaws.{zip-left}
 

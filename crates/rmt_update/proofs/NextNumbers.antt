@@ -33,7 +33,7 @@ use Rattle.rmt_update.proofs.PartOrder.{pair-at}
 use Rattle.rmt_update.proofs.SettledKept.{kept-next, next_at, old-kept}
 use Rattle.rmt_update.proofs.SettledPlaces.{come-or-not, none-come}
 use Rattle.rmt_update.proofs.ByNumberLaws.{from-by_number}
-use Rattle.rmt_refine.proofs.EntryLaws.{all_numbers, AllPairs-unmap}
+use Rattle.rmt_pack.proofs.EntryLaws.{all_numbers, AllPairs-unmap}
 
 -- ---- numbers of which none stands twice
 

@@ -45,7 +45,7 @@ use Rattle.rmt_update.proofs.PartOrder.{pair-at}
 use Rattle.rmt_update.proofs.PartStages.{parts-apart}
 use Rattle.rmt_update.proofs.SettledKept.{next_at, table-terms}
 use Rattle.rmt_update.proofs.ZipLaws.{zip-left}
-use Rattle.rmt_refine.proofs.LayoutLaws.{memory_formed}
+use Rattle.rmt_pack.proofs.LayoutLaws.{memory_formed}
 
 -- kinds whose rows have an order
 abbrev IsRows : Kind → Type 0

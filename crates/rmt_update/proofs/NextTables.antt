@@ -1,6 +1,6 @@
 -- The tables of a book behind a commit that moves no cell hold what the commit leaves in the cells.
 use Rattle.std.proofs.Common.{◌≡◌, ◌≢◌, ◌⊎◌, ℕ, zero, suc, ◌<◌, Bool, true, false, cond, List, [], ◌∷◌, ◌++◌, get_or, Option, Some, None, refl, sym, ap, ◌∙◌, subst, inl, inr, arith}
-use Rattle.std.specs.Prelude.{All, Contains, IsSome, option_and_then, slice_get}
+use Rattle.std.specs.Prelude.{All, Contains, IsSome, slice_get}
 use Rattle.std.specs.List.{AllZip}
 use Rattle.std.specs.BTreeMap.{get, keys}
 use Rattle.std.specs.Cmp.{eq_by_cmp_equiv, nat_cmp_total}
@@ -26,7 +26,7 @@ use Rattle.rmt_update.specs.declared.book.spot.BookSpot.{BookSpot}
 use Rattle.rmt_update.specs.declared.book.table.PartCells.{PartCells}
 use Rattle.rmt_update.specs.declared.book.table.TableCells.{TableCells}
 use Rattle.rmt_update.specs.declared.lists.Changes.{Changes}
-use Rattle.rmt_update.specs.BookSpots.{kept_at, kept_in}
+use Rattle.rmt_update.specs.BookSpots.{kept_at}
 use Rattle.rmt_update.specs.BookStands.{BookStands, HoldsPart, HoldsTable, IsKeptOf}
 use Rattle.rmt_update.specs.NextKept.{bit_of}
 use Rattle.rmt_update.specs.PartShape.{IsShape}
@@ -38,6 +38,7 @@ use Rattle.rmt_update.specs.Coming.{HasSizes}
 use Rattle.rmt_update.specs.Kept.{HasBytes}
 use Rattle.rmt_update.proofs.CellsFound.{spot-part, table-holds}
 use Rattle.rmt_update.proofs.LikeLaws.{like-kept, like-some}
+use Rattle.rmt_update.proofs.SameTables.{part-kept}
 use Rattle.rmt_update.proofs.SettledKept.{kept-next, next_at}
 use Rattle.rmt_update.proofs.SettledPlaces.{none-come, same-spot, spot-itself}
 use Rattle.rmt_update.proofs.ShapeLaws.{cells-are}
@@ -111,15 +112,9 @@ module _ (c : Config) (names : Names) (cells : RunCells) (lists : List (List Ent
         p = h.0;
         there = h.1;
         holds = h.2;
-        each = λ n. subst (λ o. AreLike o (next_kept_at (record { table = i; at = record { part = j; cell = n } }))) (kept-there us i j u y n at_u at_y) (next.each (record { table = i; at = record { part = j; cell = n } }));
-        old = λ n. sym (kept-there b.tables.items i j a.0 d.0 n a.1 d.1);
+        each = λ n. subst (λ o. AreLike o (next_kept_at (record { table = i; at = record { part = j; cell = n } }))) (part-kept us i j u y n at_u at_y) (next.each (record { table = i; at = record { part = j; cell = n } }));
+        old = λ n. sym (part-kept b.tables.items i j a.0 d.0 n a.1 d.1);
       }
-    where
-      kept-there : (ts : List TableCells) (i j : ℕ) (t : TableCells) (x : PartCells) (n : ℕ) → slice_get ts i ≡ Some t → slice_get t.parts.items j ≡ Some x
-          → kept_at ts (record { table = i; at = record { part = j; cell = n } }) ≡ get nat_cmp x.cells n
-      kept-there ts i j t x n at_t at_x =
-          ap (λ (o : Option TableCells). option_and_then (λ (v : TableCells). kept_in v (record { part = j; cell = n })) o) at_t
-          ∙ ap (λ (o : Option PartCells). option_and_then (λ (v : PartCells). get nat_cmp v.cells n) o) at_x
 
   -- a cell of such a part
   pub spot-of : (i j n : ℕ) (u : TableCells) (y : PartCells) (h : IsTwoParts i j u y) → n < cells_in h.p.slot.memory → IsBookSpot b.tables.items (record { table = i; at = record { part = j; cell = n } })

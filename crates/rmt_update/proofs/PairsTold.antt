@@ -24,7 +24,7 @@ use Rattle.rmt_update.specs.declared.book.kept.Kept.{Kept}
 use Rattle.rmt_update.specs.declared.book.table.PartCells.{PartCells}
 use Rattle.rmt_update.specs.Seen.{entries_in, is_seen}
 use Rattle.rmt_update.specs.Told.{told_entry}
-use Rattle.rmt_refine.proofs.WrittenLaws.{all_at}
+use Rattle.rmt_pack.proofs.FindLaws.{all_at}
 
 -- ---- pairs
 

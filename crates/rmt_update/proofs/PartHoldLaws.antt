@@ -28,7 +28,7 @@ use Rattle.rmt_config.specs.Rooms.{PartAt}
 use Rattle.rmt_config.specs.RunCells.{as_slot, emptied, own_cells, own_content, slot_at, written_mask}
 use Rattle.rmt_config.proofs.PrefixRowLaws.{cells-within}
 use Rattle.rmt_config.proofs.SpelledParts.{held-is}
-use Rattle.rmt_refine.proofs.FindLaws.{same_number}
+use Rattle.rmt_pack.proofs.FindLaws.{same_number}
 use Rattle.rmt_update.specs.declared.book.kept.Kept.{Kept}
 use Rattle.rmt_update.specs.declared.book.table.PartCells.{PartCells}
 use Rattle.rmt_update.specs.BookStands.{HoldsPart, IsKeptOf, is_candidate}

@@ -16,8 +16,8 @@ use Rattle.rmt_config.specs.MemoryRules.{MemoryIsFormed}
 use Rattle.rmt_config.specs.Rooms.{PartAt, Room, is_same, parts_among, parts_of}
 use Rattle.rmt_config.specs.RunCells.{slot_at}
 use Rattle.rmt_config.proofs.SpelledParts.{parts-stand}
-use Rattle.rmt_refine.proofs.RoomOrderLaws.{among_rise}
-pub use Rattle.rmt_refine.proofs.RoomOrderLaws.{Rises, pair_at as pair-at}
+use Rattle.rmt_pack.proofs.RoomOrderLaws.{among_rise}
+pub use Rattle.rmt_pack.proofs.RoomOrderLaws.{Rises, pair_at as pair-at}
 use Rattle.rmt_update.proofs.PartHoldLaws.{part-slot}
 use Rattle.rmt_update.proofs.RoomNumbers.{IsNumber, offset}
 

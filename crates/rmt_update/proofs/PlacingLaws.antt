@@ -70,7 +70,7 @@ use Rattle.rmt_update.proofs.RowsStand.{IsLow, RowsStand, no-row, row-more}
 use Rattle.rmt_update.proofs.ShapeLaws.{cells-are}
 use Rattle.rmt_update.proofs.TableRules.{Own, all-bits, all-rows, row-parts}
 use Rattle.rmt_update.proofs.ZipLaws.{zip-left}
-use Rattle.rmt_refine.proofs.LayoutLaws.{memory_formed}
+use Rattle.rmt_pack.proofs.LayoutLaws.{memory_formed}
 
 -- ---- kinds
 

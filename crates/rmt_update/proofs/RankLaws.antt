@@ -19,7 +19,7 @@ use Rattle.rmt_config.specs.PartStands.{PartStands}
 use Rattle.rmt_config.specs.Rooms.{PartAt}
 use Rattle.rmt_config.specs.RunCells.{own_content, written_mask}
 use Rattle.rmt_config.proofs.PrefixRowLaws.{mask-small}
-pub use Rattle.rmt_refine.proofs.FindLaws.{same_number as same-number}
+pub use Rattle.rmt_pack.proofs.FindLaws.{same_number as same-number}
 use Rattle.rmt_ast.specs.declared.names.RankOf.{RankOf}
 
 -- one rank more, in front of the others

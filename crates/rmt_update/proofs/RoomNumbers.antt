@@ -24,7 +24,7 @@ use Rattle.rmt_config.specs.NamesForm.{is_of_kind}
 use Rattle.rmt_config.specs.Rooms.{PartAt, Room}
 use Rattle.rmt_config.specs.BlockCounts.{divided_up}
 use Rattle.rmt_config.specs.TableForm.{ways_follow}
-use Rattle.rmt_refine.proofs.FindLaws.{range_bounds}
+use Rattle.rmt_pack.proofs.FindLaws.{range_bounds}
 use Rattle.rmt_cuckoo.specs.declared.layout.Ways.{Ways}
 use Rattle.rmt_cuckoo.specs.declared.way.Way.{Way}
 use Rattle.rmt_cuckoo.specs.Loading.{candidates as loaded_in, cells_in as cells_of_part, row_start, way_of, ways_from}

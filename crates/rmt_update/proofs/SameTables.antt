@@ -72,15 +72,15 @@ same-tables (t ∷ ts) (u ∷ us) zip all each = (
   same-tables ts us zip.1 (All-tail AreOrdered t ts all) (λ i. each (suc i)),
 )
 
+-- what is kept of a cell of a part
+pub part-kept : (ts : List TableCells) (i j : ℕ) (t : TableCells) (x : PartCells) (n : ℕ) → slice_get ts i ≡ Some t → slice_get t.parts.items j ≡ Some x
+    → kept_at ts (record { table = i; at = record { part = j; cell = n } }) ≡ get nat_cmp x.cells n
+part-kept ts i j t x n at_t at_x =
+    ap (λ (o : Option TableCells). option_and_then (λ (v : TableCells). kept_in v (record { part = j; cell = n })) o) at_t ∙ ap (λ (o : Option PartCells). option_and_then (λ (v : PartCells). get nat_cmp v.cells n) o) at_x
+
 all-same : (ts us : List TableCells) → All AreOrdered ts → HaveCells ts us (kept_at ts) → AllZip SameTable ts us
 all-same ts us all have = same-tables ts us have.same all (λ i j n t u x y at_t at_u at_x at_y.
-    sym (kept-there us i j u y n at_u at_y) ∙ have.each (record { table = i; at = record { part = j; cell = n } }) ∙ kept-there ts i j t x n at_t at_x)
-  where
-    kept-there : (ts : List TableCells) (i j : ℕ) (t : TableCells) (x : PartCells) (n : ℕ) → slice_get ts i ≡ Some t → slice_get t.parts.items j ≡ Some x
-        → kept_at ts (record { table = i; at = record { part = j; cell = n } }) ≡ get nat_cmp x.cells n
-    kept-there ts i j t x n at_t at_x =
-        ap (λ (o : Option TableCells). option_and_then (λ (v : TableCells). kept_in v (record { part = j; cell = n })) o) at_t
-        ∙ ap (λ (o : Option PartCells). option_and_then (λ (v : PartCells). get nat_cmp v.cells n) o) at_x
+    sym (part-kept us i j u y n at_u at_y) ∙ have.each (record { table = i; at = record { part = j; cell = n } }) ∙ part-kept ts i j t x n at_t at_x)
 
 -- ---- what they hold
 

@@ -18,7 +18,7 @@ use Rattle.rmt_update.specs.declared.book.kept.Kept.{Kept}
 use Rattle.rmt_update.specs.Numbered.{IsNew}
 use Rattle.rmt_update.specs.Seen.{HaveNumbers}
 use Rattle.rmt_config.specs.NamesForm.{by_number}
-use Rattle.rmt_refine.proofs.SortedLaws.{by_number_is}
+use Rattle.rmt_pack.proofs.SortedLaws.{by_number_is}
 
 -- of entries that have numbers, those in front do
 pub numbers-front : (xs ys : List Entry) → HaveNumbers (xs ++ ys) → HaveNumbers xs

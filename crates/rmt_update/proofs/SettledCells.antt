@@ -1,5 +1,5 @@
 -- What is kept of each cell behind a commit that moves none.
-use Rattle.std.proofs.Common.{◌≡◌, ◌≢◌, ℕ, zero, suc, ◌+◌, ◌-◌, ◌*◌, ◌/◌, ◌%◌, ◌^◌, ◌<◌, Bool, true, false, not, cond, eqb, List, Option, Some, None, option_map, unwrap_or, refl, sym, ap, subst, ◌∙◌, arith}
+use Rattle.std.proofs.Common.{◌≡◌, ◌≢◌, ℕ, zero, suc, ◌+◌, ◌-◌, ◌*◌, ◌%◌, ◌^◌, ◌<◌, Bool, true, false, not, cond, eqb, List, Option, Some, None, option_map, unwrap_or, refl, sym, ap, subst, ◌∙◌, arith}
 use Rattle.std.specs.Prelude.{IsTrue, sum}
 use Rattle.rmt_ast.specs.declared.entry.Entry.{Entry}
 use Rattle.rmt_ast.specs.declared.names.Names.{Names}
@@ -20,7 +20,7 @@ use Rattle.rmt_update.specs.BookStands.{IsKeptOf, is_candidate}
 use Rattle.rmt_update.specs.Coming.{KeepsEntry}
 use Rattle.rmt_update.specs.NextKept.{bit_of, next_kept}
 use Rattle.rmt_update.specs.Seen.{is_seen}
-use Rattle.rmt_update.proofs.TurnedLaws.{goes-kept, stays-kept, went-kept}
+use Rattle.rmt_update.proofs.TurnedLaws.{bit-low, goes-kept, head-visible, stays-kept, went-kept}
 
 module _ (c : Config) (names : Names) (cells : RunCells) (before : List (List Entry)) (p : PartAt) (slot : slot_at c p.stage p.place ≡ Some p.slot)
     (odd : Bool) (is : odd ≡ eqb (cells.version % 2) 1) (n : ℕ) where
@@ -122,12 +122,5 @@ module _ (c : Config) (names : Names) (cells : RunCells) (before : List (List En
 
       seen : k.visible ≢ 0
       seen e =
-          let visible : k.visible ≡ bit_of (not odd) = (keeps.kept p refl bits of_kind).visible ∙ head-visible (bit_of (not odd)) (p.first + pl.entry.action) (low (not odd)) in
+          let visible : k.visible ≡ bit_of (not odd) = (keeps.kept p refl bits of_kind).visible ∙ head-visible (bit_of (not odd)) (p.first + pl.entry.action) (bit-low (not odd)) in
           some-bit (not odd) (sym visible ∙ e)
-        where
-          low : (b : Bool) → bit_of b < 4
-          low true = omega arith
-          low false = omega arith
-
-          head-visible : (a b : ℕ) → a < 4 → (1 + 2 * a + 8 * b) / 2 % 4 ≡ a
-          head-visible a b lt = omega (arith, lt)

@@ -43,10 +43,9 @@ use Rattle.rmt_config.proofs.PrefixRowLaws.{cells-within}
 use Rattle.rmt_config.proofs.RiseLaws.{rise-below}
 use Rattle.rmt_config.proofs.SpelledParts.{parts-stand}
 use Rattle.rmt_config.proofs.SpelledWays.{parts-follow}
-use Rattle.rmt_refine.proofs.FindLaws.{found_passes}
-use Rattle.rmt_refine.proofs.LayoutLaws.{memory_formed}
-use Rattle.rmt_refine.proofs.SpelledLaws.{placed_has}
-use Rattle.rmt_refine.proofs.WrittenLaws.{all_at}
+use Rattle.rmt_pack.proofs.FindLaws.{found_passes, all_at}
+use Rattle.rmt_pack.proofs.LayoutLaws.{memory_formed}
+use Rattle.rmt_pack.proofs.PartLaws.{placed_has}
 use Rattle.rmt_update.specs.BookStands.{IsUsed}
 use Rattle.rmt_update.proofs.BookLaws.{TableFacts, names-fit, table-facts}
 use Rattle.rmt_update.proofs.ByNumberLaws.{from-by_number}

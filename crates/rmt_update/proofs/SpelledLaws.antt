@@ -10,8 +10,8 @@ use Rattle.rmt_ast.specs.WellFormed.{Fits, IsTest}
 use Rattle.rmt_config.specs.NamesForm.{args_of_data}
 use Rattle.rmt_config.specs.Rooms.{args_as_one, tests_as_one}
 use Rattle.rmt_pack.proofs.TcamLaws.{masks-fit, side_by_side-lt, values-fit}
-use Rattle.rmt_refine.proofs.ContentLaws.{has_arguments}
-use Rattle.rmt_refine.proofs.SpelledFieldLaws.{args_spelled}
+use Rattle.rmt_pack.proofs.ContentLaws.{has_arguments}
+use Rattle.rmt_pack.proofs.SpelledFieldLaws.{args_spelled}
 use Rattle.rmt_config.specs.Rooms.{mask_or_value}
 
 -- numbers side by side are below the power of their widths

@@ -32,7 +32,7 @@ use Rattle.rmt_update.proofs.BookLaws.{names-fit}
 use Rattle.rmt_update.proofs.LoadLaws.{table-entries}
 use Rattle.rmt_update.proofs.TableRules.{Own, few-bits, own-table}
 use Rattle.rmt_update.proofs.ZipLaws.{zip-left, zip-made}
-use Rattle.rmt_refine.proofs.FilledLaws.{room_there}
+use Rattle.rmt_pack.proofs.RoomOrderLaws.{room_there}
 
 -- ---- entries with rooms, one by one
 

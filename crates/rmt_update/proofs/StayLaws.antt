@@ -39,7 +39,7 @@ use Rattle.rmt_update.proofs.ByNumberLaws.{from-by_number, to-by_number}
 use Rattle.rmt_update.proofs.NodeLists.{found-at}
 use Rattle.rmt_update.proofs.ShapeLaws.{cells-are}
 use Rattle.rmt_update.proofs.ZipLaws.{zip-right}
-use Rattle.rmt_refine.proofs.EntryLaws.{is_numbered}
+use Rattle.rmt_pack.proofs.EntryLaws.{is_numbered}
 
 -- ---- lists
 

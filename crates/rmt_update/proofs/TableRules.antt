@@ -35,7 +35,7 @@ use Rattle.rmt_update.proofs.PartNumbers.{SlotsFrom, parts-numbered}
 use Rattle.rmt_update.proofs.PartOrder.{IsPartOf, parts-own}
 use Rattle.rmt_update.proofs.RoomNumbers.{HasRows, IsRows, slice_get-map_range, total}
 use Rattle.rmt_update.proofs.ToldEntryLaws.{PartFacts, all-facts}
-use Rattle.rmt_refine.proofs.LayoutLaws.{memory_formed}
+use Rattle.rmt_pack.proofs.LayoutLaws.{memory_formed}
 
 -- ---- the table of a node
 

@@ -1,8 +1,9 @@
 -- What the bytes of a cell tell.
-use Rattle.std.proofs.Common.{◌≡◌, ℕ, ◌+◌, ◌-◌, ◌*◌, ◌/◌, ◌%◌, ◌^◌, ◌<◌, ◌≤◌, List, [], ◌∷◌, ◌++◌, length, min, sum, inl, inr, append_assoc, subst, sym, ap, ◌∙◌, arith}
+use Rattle.std.proofs.Common.{◌≡◌, ℕ, ◌+◌, ◌-◌, ◌*◌, ◌/◌, ◌%◌, ◌^◌, ◌<◌, ◌≤◌, List, [], ◌∷◌, ◌++◌, length, get_or, drop, min, sum, add-one, inl, inr, append_assoc, subst, sym, ap, ◌∙◌, arith}
 use Rattle.std.proofs.lemmas.Bool.{cases_lt}
 use Rattle.std.proofs.lemmas.List.Sums.{sum_by-cons}
 use Rattle.std.proofs.lemmas.Nat.{shr-shr}
+use Rattle.std.proofs.Math.Seq.{drop-cons}
 use Rattle.std.proofs.Math.Nat.{mod-eq_of_lt}
 use Rattle.std.proofs.Math.Pow.{high_ones, ones_lt, pow_mono}
 use Rattle.rmt_bits.specs.Bits.{slice, number_of, bits_of_bytes}
@@ -10,6 +11,10 @@ use Rattle.rmt_bits.proofs.BitLaws.{high_part-lt, three-middle}
 use Rattle.rmt_bits.proofs.ByteLaws.{AreBytes, number_of-lt}
 use Rattle.rmt_ast.specs.declared.program.Test.{Test}
 use Rattle.rmt_config.specs.NamesForm.{args_of_data, tests_of_key}
+
+-- the widths from one on
+pub width-first : (ws : List ℕ) (i : ℕ) → i < length ws → drop i ws ≡ get_or ws i 0 ∷ drop (i + 1) ws
+width-first ws i lt = drop-cons ws i 0 lt ∙ ap (λ n. get_or ws i 0 ∷ drop n ws) (sym (add-one i))
 
 -- the bits of a run that reaches above the bytes
 pub bits-there : (bytes : List ℕ) (low len count : ℕ) → AreBytes bytes → low < 8 * length bytes → count ≡ min (8 * length bytes - low) len

@@ -1,5 +1,5 @@
 -- What a commit that moves no cell leaves of one.
-use Rattle.std.proofs.Common.{◌≡◌, ◌≢◌, ℕ, zero, suc, ◌+◌, ◌-◌, ◌/◌, ◌%◌, ◌^◌, ◌<◌, Bool, true, false, cond, eqb, Some, refl, sym, ap, ◌∙◌, arith}
+use Rattle.std.proofs.Common.{◌≡◌, ◌≢◌, ℕ, zero, suc, ◌+◌, ◌-◌, ◌*◌, ◌/◌, ◌%◌, ◌^◌, ◌<◌, Bool, true, false, cond, eqb, Some, refl, sym, ap, ◌∙◌, arith}
 use Rattle.std.proofs.lemmas.Bool.{eq-eqb, eqb-true, false≢true}
 use Rattle.rmt_config.specs.declared.config.CellNumber.{CellNumber}
 use Rattle.rmt_config.specs.Cells.{Content, visible_bits}
@@ -16,6 +16,14 @@ not-one : (n : ℕ) → eqb n 1 ≡ false → n ≢ 1
 not-one n f e = false≢true (sym f ∙ eq-eqb n 1 e)
 
 -- ---- heads: s is the parity of the next version
+
+-- what a head of visible bits shows
+pub bit-low : (o : Bool) → bit_of o < 4
+bit-low true = omega arith
+bit-low false = omega arith
+
+pub head-visible : (a d : ℕ) → a < 4 → (1 + 2 * a + 8 * d) / 2 % 4 ≡ a
+head-visible a d lt = omega (arith, lt)
 
 -- a head with both visible bits
 with-both : (s head : ℕ) → s < 2 → head / 2 ^ (2 - s) % 2 ≡ 1 → head % 2 ≡ 1

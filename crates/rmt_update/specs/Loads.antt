@@ -1,10 +1,11 @@
 -- How the entries of a run are loaded into the cells of a book's tables, where cells must move, and why they can't be.
-use Rattle.std.specs.Prelude.{◌≡◌, ◌<◌, ℕ, List, [], ◌∷◌, Option, Some, None, All, count_by, find, length, map, slice_get, ◌==◌}
+use Rattle.std.specs.Prelude.{◌≡◌, ◌<◌, ◌≤◌, ◌^◌, IsTrue, sum, ℕ, List, [], ◌∷◌, Option, Some, None, All, count_by, find, length, map, slice_get, ◌==◌}
 use Rattle.std.specs.List.{AllZip, flat_map}
 use Rattle.rmt_ast.specs.Changes.{list_of}
 use Rattle.rmt_ast.specs.EntryLists.{Terms}
-use Rattle.rmt_ast.specs.NameRules.{terms_of_name}
+use Rattle.rmt_ast.specs.NameRules.{table_is_formed, terms_of_name}
 use Rattle.rmt_ast.specs.RowOrder.{goes_first}
+use Rattle.rmt_ast.specs.WellFormed.{IsTest}
 use Rattle.rmt_ast.specs.declared.entry.Entry.{Entry}
 use Rattle.rmt_ast.specs.declared.names.Names.{Names}
 use Rattle.rmt_ast.specs.declared.program.Kind.{Kind}
@@ -60,6 +61,13 @@ abbrev pub layout_in : List PartCells → List Ways
 layout_in parts = flat_map (λ (x : PartCells). ways_for x.shape.grid) parts
 
 -- ---- what comes of one table under a seed
+
+-- the entries of a table can be put into its cells
+pub record CanFill (table : TableCells) (entries : List Entry) : Type 0 where
+  pub formed : IsTrue (table_is_formed table.name)
+  pub bits : sum table.name.keys ≤ 640
+  pub tests : All (λ (e : Entry). AllZip IsTest table.name.keys e.tests) entries
+  pub few : length entries < 2 ^ 32
 
 -- entries of a kind stand in these spots: those of an exact table each in a candidate cell of its own, and the others in rows in order, without a gap
 abbrev pub StandBy : List PartCells → ℕ → Terms → List Entry → Kind → List Spot → Type 0

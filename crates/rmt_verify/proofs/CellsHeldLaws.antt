@@ -1,15 +1,14 @@
 -- Cells hold the entries of a program exactly where each listed cell holds one of them, and they are as many.
-use Rattle.std.proofs.Common.{◌≡◌, ◌≢◌, ◌⊎◌, ◌↔◌, ℕ, ◌+◌, ◌<◌, ◌≤◌, leb, Bool, true, false, List, [], ◌∷◌, length, map, get_or, Some, All, Contains, refl, sym, ap, subst, ◌∙◌, inl, inr, arith}
+use Rattle.std.proofs.Common.{◌≡◌, ◌≢◌, ◌⊎◌, ◌↔◌, ℕ, ◌<◌, ◌≤◌, Bool, true, false, List, length, map, get_or, Some, All, Contains, refl, sym, ap, subst, ◌∙◌, inl, inr, arith}
 use Rattle.std.specs.Prelude.{AllPairs, IsSomeAnd, slice_get}
-use Rattle.std.proofs.lemmas.Bool.{and_parts, false≢true}
+use Rattle.std.proofs.lemmas.Bool.{false≢true}
 use Rattle.std.proofs.lemmas.Bool.Decides.{Decides-eqb}
 use Rattle.std.proofs.lemmas.List.{length-map}
 use Rattle.std.proofs.lemmas.List.Elements.{All-contains, All-contains_itself, All-map, All-weaker, Contains-get_or}
-use Rattle.std.proofs.lemmas.List.Kept.{AllPairs-cons}
 use Rattle.std.proofs.lemmas.Map.Made.{AllPairs-from_IsDistinct}
 use Rattle.std.proofs.lemmas.Option.{same_Some}
 use Rattle.rmt_bits.proofs.MemberLaws.{Contains-flat_map, Contains-map, Contains-unmap, from_flat_map}
-use Rattle.rmt_bits.proofs.PairLaws.{AllPairs-map, AllPairs-none, AllPairs-weaker}
+use Rattle.rmt_bits.proofs.PairLaws.{AllPairs-map, AllPairs-weaker}
 use Rattle.rmt_ast.specs.declared.entry.Entry.{Entry}
 use Rattle.rmt_ast.specs.EntryLists.{AreEntries}
 use Rattle.rmt_ast.specs.RowOrder.{goes_first}
@@ -19,10 +18,8 @@ use Rattle.rmt_config.specs.Cells.{Content, candidates, cells_in, content_of, is
 use Rattle.rmt_config.specs.Commits.{all_entries}
 use Rattle.rmt_config.specs.Form.{Formed, visible_with}
 use Rattle.rmt_config.specs.LaneForm.{bits_of_lanes}
-use Rattle.rmt_config.specs.Order.{rises_from}
 use Rattle.rmt_config.specs.PartsTold.{listed_numbers}
 use Rattle.rmt_config.specs.Rooms.{PartAt, parts_of}
-use Rattle.rmt_config.proofs.RiseLaws.{all_above}
 use Rattle.rmt_config.proofs.SpelledRanks.{listed-distinct}
 use Rattle.rmt_refine.specs.declared.map.Map.{Map}
 use Rattle.rmt_refine.specs.Types.{CellNumber, Config, Program, SlotUnit, Stage, Table}
@@ -34,10 +31,13 @@ use Rattle.rmt_refine.proofs.CellNumberLaws.{all_listed, listed_number}
 use Rattle.rmt_refine.proofs.EntryLaws.{IsListed, entry_listed, listed_in, numbers_apart, one_entry, two_items}
 use Rattle.rmt_refine.proofs.NodeLaws.{one_place}
 use Rattle.rmt_refine.proofs.NumberLaws.{one_list}
-use Rattle.rmt_refine.proofs.PartLaws.{and_at, and_from, part_of_spot, some_and, spot_of_part, unit_of_part}
-use Rattle.rmt_refine.proofs.RankLaws.{goes_never}
-use Rattle.rmt_refine.proofs.RoomLaws.{PartIs, part_at_place, stages_there}
-use Rattle.rmt_refine.proofs.RoomOrderLaws.{Rises, pairs_flat, pairs_with, parts_in_order}
+use Rattle.rmt_pack.proofs.PartLaws.{and_at, and_from}
+use Rattle.rmt_refine.proofs.PartLaws.{part_of_spot, some_and, spot_of_part, unit_of_part}
+use Rattle.rmt_pack.proofs.RankLaws.{goes_never}
+use Rattle.rmt_pack.proofs.RoomLaws.{PartIs, part_at_place, stages_there}
+use Rattle.rmt_pack.proofs.RoomOrderLaws.{Rises, pairs_flat}
+use Rattle.rmt_refine.proofs.RoomOrderLaws.{pairs_with, parts_in_order}
+use Rattle.rmt_refine.proofs.SpelledLaws.{cells_rise}
 use Rattle.rmt_refine.proofs.TheLaw.{table_entries}
 use Rattle.rmt_refine.proofs.ViewLaws.{content_is, number_is}
 use Rattle.rmt_refine.proofs.ShortLaws.{at_most}
@@ -48,14 +48,6 @@ use Rattle.rmt_verify.proofs.ShortLists.{distinct_all}
 -- what is told of one cell comes before what is told of another
 abbrev IsSooner : CellOf → CellOf → Type 0
 IsSooner k l = (k.stage < l.stage) ⊎ ((k.stage ≡ l.stage) × (k.cell < l.cell))
-
-cells_rise : (numbers : List CellNumber) (least : ℕ) → rises_from least (map (λ (x : CellNumber). x.cell) numbers) ≡ true → AllPairs (λ (x y : CellNumber). x.cell < y.cell) numbers
-cells_rise [] least rises = AllPairs-none (λ (x y : CellNumber). x.cell < y.cell)
-cells_rise (x ∷ xs) least rises =
-    let parts = and_parts (leb least x.cell) (rises_from (x.cell + 1) (map (λ (y : CellNumber). y.cell) xs)) rises in
-    AllPairs-cons (λ (y z : CellNumber). y.cell < z.cell) x xs
-    (λ j d lt. let above = all_above (λ (y : CellNumber). y.cell) (x.cell + 1) xs parts.1 j d lt in omega (arith, above))
-    (cells_rise xs (x.cell + 1) parts.1)
 
 module _ (p : Program) (lists : List (List Entry)) (m : Map) (c : Config) (entries : AreEntries p lists) (formed : Formed c)
     (units : UnitsCarried p m.places m.placement.parts m.starts c) where

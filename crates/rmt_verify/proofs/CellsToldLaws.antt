@@ -13,7 +13,7 @@ use Rattle.rmt_refine.specs.Types.{Config, Node, Program, Table}
 use Rattle.rmt_refine.specs.Cells.{CellsCarried}
 use Rattle.rmt_refine.specs.Units.{UnitsCarried, applied, table_at}
 use Rattle.rmt_refine.specs.View.{own_view}
-use Rattle.rmt_refine.proofs.PartLaws.{then_some}
+use Rattle.rmt_pack.proofs.PartLaws.{then_some}
 use Rattle.rmt_verify.specs.Types.{CellOf}
 use Rattle.rmt_verify.specs.CellsHeld.{CellsHeld, TableHeld, TablesHeld}
 use Rattle.rmt_verify.specs.Told.{AreTold, TellApart}

@@ -95,6 +95,11 @@ module _ (starts : List ℕ) (rise : Rise starts) (kind : EdgeKind) where
   abbrev test_of : Bool → Span → Span → Bool
   test_of strict a b = cond strict (nat_lt a.last b.first && nat_le (slice_index starts a.last + distance kind) (slice_index starts b.first)) (nat_le a.last b.first)
 
+  -- a stage of the first span is not behind its last one, nor a stage of the second before its first
+  ends : (from to : List ℕ) (a b : Span) → Between from a → Between to b → (j k : ℕ) → Contains from j → Contains to k → (j ≤ a.last) × (b.first ≤ k)
+  ends from to a b between_a between_b j k at_j at_k =
+      ((All-contains (λ k. (a.first ≤ k) × (k ≤ a.last)) from j between_a.within at_j).1, (All-contains (λ k. (b.first ≤ k) × (k ≤ b.last)) to k between_b.within at_k).0)
+
   spans_apart : (from to : List ℕ) (a b : Span) → Between from a → Between to b → All (λ k. k < length starts) from → All (λ k. k < length starts) to
       → (strict : Bool) → is_strict kind ≡ strict → test_of strict a b ≡ true → Apart from to
   spans_apart from to a b between_a between_b stages_a stages_b true is passed =
@@ -102,24 +107,17 @@ module _ (starts : List ℕ) (rise : Rise starts) (kind : EdgeKind) where
       let before : a.last < b.first = ltb-true _ _ p.0 in
       let far : slice_index starts a.last + distance kind ≤ slice_index starts b.first = leb-true _ _ p.1 in
       record {
-        order = λ j k at_j at_k.
-            let low = All-contains (λ k. (a.first ≤ k) × (k ≤ a.last)) from j between_a.within at_j in
-            let high = All-contains (λ k. (b.first ≤ k) × (k ≤ b.last)) to k between_b.within at_k in
-            subst (λ strict. StageOrder strict j k) (sym is) (omega (arith, before, low.1, high.0));
+        order = λ j k at_j at_k. let e = ends from to a b between_a between_b j k at_j at_k in subst (λ strict. StageOrder strict j k) (sym is) (omega (arith, before, e.0, e.1));
         distant = λ j k at_j at_k lt.
-            let low = All-contains (λ k. (a.first ≤ k) × (k ≤ a.last)) from j between_a.within at_j in
-            let high = All-contains (λ k. (b.first ≤ k) × (k ≤ b.last)) to k between_b.within at_k in
-            let up_a : slice_index starts j ≤ slice_index starts a.last = up_to starts rise j a.last low.1 (All-contains (λ k. k < length starts) from a.last stages_a between_a.last) in
-            let up_b : slice_index starts b.first ≤ slice_index starts k = up_to starts rise b.first k high.0 (All-contains (λ k. k < length starts) to k stages_b at_k) in
+            let e = ends from to a b between_a between_b j k at_j at_k in
+            let up_a : slice_index starts j ≤ slice_index starts a.last = up_to starts rise j a.last e.0 (All-contains (λ k. k < length starts) from a.last stages_a between_a.last) in
+            let up_b : slice_index starts b.first ≤ slice_index starts k = up_to starts rise b.first k e.1 (All-contains (λ k. k < length starts) to k stages_b at_k) in
             omega (arith, up_a, up_b, far);
       }
   spans_apart from to a b between_a between_b stages_a stages_b false is passed =
       let before : a.last ≤ b.first = leb-true _ _ passed in
       record {
-        order = λ j k at_j at_k.
-            let low = All-contains (λ k. (a.first ≤ k) × (k ≤ a.last)) from j between_a.within at_j in
-            let high = All-contains (λ k. (b.first ≤ k) × (k ≤ b.last)) to k between_b.within at_k in
-            subst (λ strict. StageOrder strict j k) (sym is) (omega (arith, before, low.1, high.0));
+        order = λ j k at_j at_k. let e = ends from to a b between_a between_b j k at_j at_k in subst (λ strict. StageOrder strict j k) (sym is) (omega (arith, before, e.0, e.1));
         distant = λ j k at_j at_k lt.
             let up : slice_index starts j < slice_index starts k = rise.rise j k lt (All-contains (λ k. k < length starts) to k stages_b at_k) in
             omega (arith, up, weak_distance kind is);

@@ -17,7 +17,7 @@ use Rattle.rmt_config.specs.Effects.{begin_of}
 use Rattle.rmt_config.specs.Rooms.{tests_as_one}
 use Rattle.rmt_refine.proofs.KeyLaws.{block_eq}
 use Rattle.rmt_config.specs.Rooms.{mask_or_value}
-use Rattle.rmt_refine.proofs.BesideLaws.{part_fits}
+use Rattle.rmt_pack.proofs.BesideLaws.{part_fits}
 use Rattle.rmt_config.proofs.RiseLaws.{one_off}
 
 -- ---- tests

@@ -27,10 +27,11 @@ use Rattle.rmt_phv.specs.Places.{KeepsApart}
 use Rattle.rmt_ptcam.proofs.PlainLaws.{lanes_bits}
 use Rattle.rmt_refine.specs.Types.{Config, Field, Kind, Node, Program, SlotUnit, Table, What}
 use Rattle.rmt_refine.specs.Units.{DoesAs, TableCarried, UnitsCarried, applied, table_at}
-use Rattle.rmt_refine.proofs.PartLaws.{and_at, then_some, unit_of_part}
-use Rattle.rmt_refine.proofs.RoomLaws.{PartIs, stages_there}
+use Rattle.rmt_pack.proofs.PartLaws.{and_at, then_some}
+use Rattle.rmt_refine.proofs.PartLaws.{unit_of_part}
+use Rattle.rmt_pack.proofs.RoomLaws.{PartIs, stages_there}
 use Rattle.rmt_refine.proofs.TheLaw.{key_fields, table_entries}
-use Rattle.rmt_refine.proofs.LayoutLaws.{memory_formed}
+use Rattle.rmt_pack.proofs.LayoutLaws.{memory_formed}
 use Rattle.rmt_verify.specs.TableKnown.{NodeKnown, PartKnown, TableKnown}
 use Rattle.rmt_verify.proofs.StageCodeLaws.{applied_table}
 

@@ -1,5 +1,5 @@
 -- Instructions whose operations stand by rising word: there is one for given operations.
-use Rattle.std.proofs.Common.{◌≡◌, ◌↔◌, ◌∙◌, Bool, subst, ℕ, zero, suc, ◌+◌, ◌<◌, ◌&&◌, true, List, [], ◌∷◌, length, get_or, map, ◌^◌, ltb, leb, refl, sym, ap, arith}
+use Rattle.std.proofs.Common.{◌≡◌, ◌↔◌, ◌∙◌, Bool, subst, ℕ, zero, suc, ◌+◌, ◌<◌, ◌&&◌, true, List, [], ◌∷◌, length, get_or, map, ltb, leb, refl, sym, ap, arith}
 use Rattle.std.specs.Prelude.{All, Contains, IsTrue}
 use Rattle.std.specs.List.{list_all}
 use Rattle.std.specs.List.Sorted.{IsPermutation}
@@ -8,8 +8,7 @@ use Rattle.std.proofs.lemmas.List.Elements.{All-cons, All-contains_itself, All-n
 use Rattle.std.proofs.lemmas.List.Sorted.{All-permutation, Contains-permutation}
 use Rattle.rmt_config.specs.CodeForm.{code_is_formed, operation_is_formed, places_of, vliw_is_formed}
 use Rattle.rmt_config.specs.Order.{rises_from}
-use Rattle.rmt_config.specs.StageForm.{srow_fits, stage_is_formed, trow_fits}
-use Rattle.rmt_config.specs.UnitForm.{unit_is_formed}
+use Rattle.rmt_config.specs.StageForm.{stage_is_formed}
 use Rattle.rmt_config.specs.declared.config.Vliw.{Vliw}
 use Rattle.rmt_config.specs.declared.form.code.InstructionRole.{InstructionRole}
 use Rattle.rmt_config.proofs.RiseLaws.{all_above, rise-upto}
@@ -92,18 +91,10 @@ code_rises (place ∷ places) (v ∷ code) e =
 module _ (s : Stage) (formed : stage_is_formed s ≡ true) where
   stage_parts : (length s.units < 256) × (code_is_formed (places_of s.units) s.code ≡ true)
   stage_parts =
-      let front = ltb s.start 65536 && ltb (length s.units) 256 in
-      let each = list_all unit_is_formed s.units in
-      let code = code_is_formed (places_of s.units) s.code in
-      let few_srows = ltb (length s.srows) (2 ^ 32) in
-      let srows = list_all srow_fits s.srows in
-      let few_trows = ltb (length s.trows) (2 ^ 32) in
-      let p = and_parts (front && each && code && few_srows && srows && few_trows) (list_all trow_fits s.trows) formed in
-      let q = and_parts (front && each && code && few_srows && srows) few_trows p.0 in
-      let r = and_parts (front && each && code && few_srows) srows q.0 in
-      let t = and_parts (front && each && code) few_srows r.0 in
-      let u = and_parts (front && each) code t.0 in
-      (ltb-true (length s.units) 256 (and_parts (ltb s.start 65536) (ltb (length s.units) 256) (and_parts front each u.0).0).1, u.1)
+      let rows = and_parts _ _ (and_parts _ _ (and_parts _ _ formed).0).0 in
+      let code = and_parts _ _ (and_parts _ _ rows.0).0 in
+      let front = and_parts _ _ (and_parts _ _ code.0).0 in
+      (ltb-true (length s.units) 256 front.1, code.1)
 
   pub stage_rises : CodeRises s
   stage_rises = code_rises (places_of s.units) s.code stage_parts.1

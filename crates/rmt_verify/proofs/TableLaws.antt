@@ -30,9 +30,9 @@ use Rattle.rmt_refine.specs.Units.{HasKind}
 use Rattle.rmt_refine.specs.View.{as_slot, own_content}
 use Rattle.rmt_refine.proofs.CellNumberLaws.{cells_listed}
 use Rattle.rmt_refine.proofs.EntryLaws.{ActionIs, action_is}
-use Rattle.rmt_refine.proofs.FindLaws.{Contains-range}
+use Rattle.rmt_pack.proofs.FindLaws.{Contains-range}
 use Rattle.rmt_refine.proofs.ViewLaws.{content_is}
-use Rattle.rmt_refine.proofs.BesideLaws.{whole_mask}
+use Rattle.rmt_pack.proofs.BesideLaws.{whole_mask}
 use Rattle.rmt_vliw.proofs.FormedLaws.{params_few}
 use Rattle.rmt_verify.specs.CellsHeld.{CellHeld, HeldThere, told_at}
 use Rattle.rmt_verify.specs.TableKnown.{TableKnown}

@@ -37,7 +37,7 @@ use table::{TableAt, table_holds};
 use told::told_of;
 
 /// The table that a node applies, by the node's number.
-fn table_at(program: &Program, node: usize) -> Option<&Table>
+pub fn table_at(program: &Program, node: usize) -> Option<&Table>
     ensures { option_copied result ≡ table_at_of program.now node }
 {
     match program.nodes.get(node) {

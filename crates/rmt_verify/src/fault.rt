@@ -4,7 +4,7 @@ ghost use Rattle.std.specs.Prelude.{◌≡◌};
 ghost use Rattle.rmt_verify.specs.declared.fault.MapFault.TheVariants.{NoMemory};
 
 use rmt_bits::fault::OutOfMemory;
-use std::alloc::{AllocError, AllocFailed};
+use std::alloc::AllocError;
 use thiserror::Error;
 
 /// Why a map was not written or looked at: for want of memory alone.
@@ -27,10 +27,5 @@ impl From<AllocError> for MapFault {
     }
 }
 
-impl<T: Drop> From<AllocFailed<T>> for MapFault {
-    ghost from_gives = { λ _ e. e ≡ NoMemory };
-
-    fn from(_e: AllocFailed<T>) -> MapFault {
-        MapFault::NoMemory
-    }
-}
+/// An item from the front of bytes and the bytes behind it, or why there is none.
+pub type Read<'a, T> = Result<(T, &'a [u8]), MapFault>;

@@ -9,7 +9,7 @@ ghost use Rattle.rmt_config.specs.StageForm.{stage_is_formed};
 ghost use Rattle.rmt_phv.specs.Places.{KeepsApart};
 ghost use Rattle.rmt_refine.specs.Code.{CodeCarried};
 ghost use Rattle.rmt_verify.specs.Instructions.{IsCoded};
-ghost use Rattle.rmt_verify.specs.StageCode.{AreFoldings, StageCoded};
+ghost use Rattle.rmt_verify.specs.StageCode.{CodingKnown, StageCoded};
 
 mod foldings;
 mod one;
@@ -20,26 +20,17 @@ use foldings::foldings_of;
 use rmt_ast::program::Program;
 use rmt_config::config::{Config, Stage};
 use rmt_phv::places::Places;
-use rmt_vliw::folded::Folded;
 use std::alloc::Global;
-use tables::stage_code_holds;
+use tables::{Coding, stage_code_holds};
 
 /// Whether each stage has the instructions of its tables.
-fn all_code_holds(
-    alloc: Global,
-    program: &Program,
-    folded: &[Folded],
-    places: &Places,
-    stages: &[Stage],
-) -> Result<bool, VerifyFault>
-    requires program { IsProgram program.now }
-    requires folded { AreFoldings program.now folded.now }
-    requires places { KeepsApart program.now places.now }
+fn all_code_holds(alloc: Global, coding: &Coding, stages: &[Stage]) -> Result<bool, VerifyFault>
+    requires coding { CodingKnown coding.now.program.now coding.now.folded.now coding.now.places.now }
     requires formed { IsTrue (list_all stage_is_formed stages.now) }
-    ensures { IfOk result (λ holds. IsTrue holds ↔ All (StageCoded program.now places.now) stages.now) }
+    ensures { IfOk result (λ holds. IsTrue holds ↔ All (StageCoded coding.now.program.now coding.now.places.now) stages.now) }
 {
     for stage in stages {
-        if !stage_code_holds(alloc, program, folded, places, stage)? {
+        if !stage_code_holds(alloc, coding, stage)? {
             return Ok(false);
         }
     }
@@ -72,9 +63,11 @@ pub fn code_holds(
     match foldings_of(alloc, program)? {
         Some(folded) => all_code_holds(
             alloc,
-            program,
-            folded.as_slice(),
-            places,
+            &Coding {
+                program,
+                folded: folded.as_slice(),
+                places,
+            },
             config.stages.as_slice(),
         ),
         None => Ok(false),

@@ -4,9 +4,7 @@
 use crate::call::call;
 use crate::end_without_words;
 use crate::messages::{KeepsFault, Lengths, message_after};
-use crate::tests::commands::{Outside, STEADY, shelf_of, words_of};
-use crate::tests::programs::{SMALLEST, TOO_DEEP};
-use rmt_explain::ending::Ending;
+use crate::tests::messages::{ended, words_of};
 use rmt_io::mem_shelf::MemShelf;
 use rmt_io::mem_sink::MemSink;
 use rmt_io::true_shelf::{MachineFault, TrueShelf};
@@ -33,8 +31,20 @@ const ROWS: [(&[&str], u8, &str); 12] = [
 const TOO_LONG: &str =
     "rmt: a file is longer than its limit\n  long: a program has at most 1,048,576 bytes\n";
 
-/// A program of which `compile` warns.
-const WARNED: &str = "header h { f : 8; } next accept; control { }\n";
+/// Files by their names: a program that compiles, one of which `compile` warns, one with an action that is too deep for the
+/// chip, and no entry.
+const FILES: [(&str, &[u8]); 4] = [
+    (
+        "p",
+        b"header h { f : 8; } next accept;\naction send() { out_port = 1; }\ntable t { default send(); }\ncontrol { apply t; }\n",
+    ),
+    ("w", b"header h { f : 8; } next accept; control { }\n"),
+    (
+        "d",
+        b"header h { a : 8; b : 8; c : 8; } next accept;\naction deep() { h.a = h.a + h.b; h.b = h.a + h.c; }\ntable t { default deep(); }\ncontrol { apply t; }\n",
+    ),
+    ("e", b""),
+];
 
 const COMPILE: [&str; 4] = ["compile", "p", "e", "i"];
 
@@ -58,30 +68,37 @@ impl KeepsFault for MemShelf {
     }
 }
 
+/// Which call of the shelf and of the sink fails, from 1 on; 0 for none.
+#[derive(Clone, Copy)]
+struct Fails {
+    shelf: u64,
+    sink: u64,
+}
+
+const STEADY: Fails = Fails { shelf: 0, sink: 0 };
+
 /// A shelf with the files of the rows.
-fn shelf(alloc: Global, outside: Outside) -> Result<MemShelf, Fail> {
+fn shelf(alloc: Global, fails: u64) -> Result<MemShelf, Fail> {
+    let mut shelf = MemShelf::new([fails].to_vec(alloc)?, 65_536);
+    for (name, bytes) in &FILES {
+        let name = String::from_str(alloc, *name)?;
+        shelf.put_file(&name, &Vec::from_slice(alloc, *bytes)?)?;
+    }
     let long = vec![in alloc; b' '; 1_048_577]?;
-    let files = [
-        ("p", SMALLEST.as_bytes()),
-        ("w", WARNED.as_bytes()),
-        ("d", TOO_DEEP.as_bytes()),
-        ("e", b"".as_slice()),
-        ("long", long.as_slice()),
-    ];
-    shelf_of(alloc, &files, outside)
+    shelf.put_file(&String::from_str(alloc, "long")?, &long)?;
+    Ok(shelf)
 }
 
 /// The exit status of a call over a shelf that names no fault, whose messages are said to a writer.
 fn status_of<E: Write>(
     alloc: Global,
     words: &[&str],
-    outside: Outside,
+    fails: Fails,
     err: &mut E,
 ) -> Result<u8, Fail> {
     let words = words_of(alloc, words)?;
-    let mut shelf = shelf(alloc, outside)?;
-    let fails = [outside.sink_fails].to_vec(alloc)?;
-    let out = MemSink::new(fails, outside.taken.max(1));
+    let mut shelf = shelf(alloc, fails.shelf)?;
+    let out = MemSink::new([fails.sink].to_vec(alloc)?, 65_536);
     Ok(call(alloc, &words, &mut shelf, out, &Told {}, err))
 }
 
@@ -108,14 +125,9 @@ fn each_kind_of_answer(rt: HostRuntime) -> Result<(), Fail> {
 #[test]
 fn faults_of_what_is_written(rt: HostRuntime) -> Result<(), Fail> {
     let alloc = rt.alloc();
-    for &(shelf_fails, sink_fails) in &[(3, 0), (0, 1)] {
-        let outside = Outside {
-            shelf_fails,
-            sink_fails,
-            ..STEADY
-        };
+    for &(shelf, sink) in &[(3, 0), (0, 1)] {
         let mut text = Vec::new(alloc);
-        let status = status_of(alloc, &COMPILE, outside, &mut text)?;
+        let status = status_of(alloc, &COMPILE, Fails { shelf, sink }, &mut text)?;
         let begins = "rmt: standard output can't be written, or i; ";
         assert!(rt; status == 3 && is_told(text.as_slice(), begins), "{text:?}");
     }
@@ -149,13 +161,7 @@ fn a_packet_text_that_is_too_long(rt: HostRuntime) -> Result<(), Fail> {
     let alloc = rt.alloc();
     let words = words_of(alloc, &["sim", "i", "long"])?;
     let mut shelf = MemShelf::new(Vec::new(alloc), 1);
-    let ending = Ending {
-        words: words.as_slice(),
-        status: 9,
-        last_line: b"",
-        fault: None,
-    };
-    let text = message_after(alloc, &ending, &mut shelf, &Told {})?;
+    let text = message_after(alloc, &ended(&words, 9, b""), &mut shelf, &Told {})?;
     let wanted =
         "rmt: a file is longer than its limit\n  long: a packet text has at most 1,099,511,627,776 bytes\n";
     assert!(rt; text.as_slice() == wanted.as_bytes(), "{text:?}");
@@ -169,13 +175,7 @@ fn each_status(rt: HostRuntime) -> Result<(), Fail> {
     let words = words_of(alloc, &COMPILE)?;
     let mut shelf = MemShelf::new(Vec::new(alloc), 1);
     for status in 0..11u8 {
-        let ending = Ending {
-            words: words.as_slice(),
-            status,
-            last_line: b"",
-            fault: None,
-        };
-        let text = message_after(alloc, &ending, &mut shelf, &Told {})?;
+        let text = message_after(alloc, &ended(&words, status, b""), &mut shelf, &Told {})?;
         assert!(rt; text.is_empty() == (status == 0), "{status}");
     }
     for &(kind, number) in &[(ErrorKind::InvalidInput, 11), (ErrorKind::OutOfMemory, 10)] {

@@ -2,12 +2,11 @@
 
 use crate::last_line::LastLine;
 use crate::messages::{Lengths, message_of};
-use crate::tests::commands::words_of;
 use rmt_explain::ending::Ending;
 use rmt_io::mem_shelf::MemShelf;
 use rmt_io::mem_sink::MemSink;
 use rmt_io::sink::Sink;
-use std::alloc::Global;
+use std::alloc::{AllocError, Global};
 use std::test::*;
 
 /// Files that are all regular, and of 20 bytes.
@@ -17,6 +16,29 @@ struct Short {}
 impl Lengths for Short {
     fn length(&self, _name: &String) -> Option<u64> {
         Some(20)
+    }
+}
+
+/// Words as the program is given them.
+pub fn words_of(alloc: Global, words: &[&str]) -> Result<Vec<String>, AllocError> {
+    let mut all = Vec::new(alloc);
+    for word in words {
+        all.push(String::from_str(alloc, *word)?)?;
+    }
+    Ok(all)
+}
+
+/// How a call ended in which no file was at fault.
+pub fn ended<'w, 'l>(
+    words: &'w Vec<String>,
+    status: u8,
+    last_line: &'l [u8],
+) -> Ending<'w, 'l, 'static> {
+    Ending {
+        words: words.as_slice(),
+        status,
+        last_line,
+        fault: None,
     }
 }
 
@@ -62,12 +84,7 @@ fn a_program_is_warned_of(rt: HostRuntime) -> Result<(), Fail> {
         (["plain", "p", "e", "k"].as_slice(), ""),
     ] {
         let words = words_of(alloc, words)?;
-        let ending = Ending {
-            words: words.as_slice(),
-            status: 0,
-            last_line: b"minimal yes\n",
-            fault: None,
-        };
+        let ending = ended(&words, 0, b"minimal yes\n");
         let told = message_of(alloc, &ending, &mut shelf, &Short {})?;
         assert_eq!(rt; told.as_slice(), wanted.as_bytes());
     }
@@ -81,12 +98,7 @@ fn a_packet_line_is_quoted(rt: HostRuntime) -> Result<(), Fail> {
     let packets = String::from_str(alloc, "k")?;
     shelf.put_file(&packets, &Vec::from_slice(alloc, b"0 00\n1 0g\n2 00\n")?)?;
     let words = words_of(alloc, &["sim", "i", "k"])?;
-    let ending = Ending {
-        words: words.as_slice(),
-        status: 8,
-        last_line: b"bad packets 1 line 2\n",
-        fault: None,
-    };
+    let ending = ended(&words, 8, b"bad packets 1 line 2\n");
     let told = message_of(alloc, &ending, &mut shelf, &Short {})?;
     let wanted =
         "k:2:4: `g` is no hexadecimal digit: the frame is digits up to the end of its line\n  2 | 1 0g\n    |    ^\n";

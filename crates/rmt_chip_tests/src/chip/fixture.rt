@@ -9,6 +9,7 @@ use rmt_chip::frame::Frame;
 use rmt_chip::out::Out;
 use rmt_config::cell_write::CellWrite;
 use rmt_image::read_image;
+use rmt_image_tests::fixtures::image_texts::push_texts;
 use std::alloc::{AllocError, Global};
 use std::process::Abort;
 use std::test::*;
@@ -34,50 +35,6 @@ pub const TWO_BYTES: &str = "
 0001 00 00000000 00000000 02 02 00 03       # an entry that takes 2 bytes and accepts
      01000001 000000020008 000008030008     # it makes the header valid, and fills the words
 ";
-
-/// No rows of SRAM and TCAM.
-pub const NO_ROWS: &str = "00000000 00000000";
-
-/// The value of a hexadecimal digit.
-fn digit_of(byte: u8) -> Option<u8> {
-    match byte {
-        b'0'..=b'9' => Some(byte - b'0'),
-        b'a'..=b'f' => Some(byte - b'a' + 10),
-        _ => None,
-    }
-}
-
-/// Adds the bytes of a text of hexadecimal digits; blanks are passed over, and what stands behind `#` on a line.
-fn push_text(image: &mut Vec<u8>, text: &str) -> Result<(), AllocError> {
-    let mut is_note = false;
-    let mut high = None;
-    for byte in text.as_bytes() {
-        if *byte == b'#' || *byte == b'\n' {
-            is_note = *byte == b'#';
-        }
-        if is_note {
-            continue;
-        }
-        if let Some(digit) = digit_of(*byte) {
-            match high {
-                None => high = Some(digit),
-                Some(first) => {
-                    image.push(digit.wrapping_add(16u8.wrapping_mul(first)))?;
-                    high = None;
-                }
-            }
-        }
-    }
-    Ok(())
-}
-
-/// Adds the bytes of texts.
-pub fn push_texts(image: &mut Vec<u8>, texts: &[&str]) -> Result<(), AllocError> {
-    for text in texts {
-        push_text(image, text)?;
-    }
-    Ok(())
-}
 
 /// A chip of an image that is in form and within the limits.
 pub fn open_image(rt: &(impl Abort + AllocGlobal), image: &[u8]) -> Result<Chip, Fail> {

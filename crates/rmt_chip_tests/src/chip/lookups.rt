@@ -1,10 +1,11 @@
 //! Look-ups and gates in small chips, worked out by hand. A key is the first byte of a frame, and an
 //! entry that is hit, or the default, changes the second.
 
-use crate::chip::fixture::{NO_ROWS, Row, SENT, TWO_BYTES, open, replay, step};
+use crate::chip::fixture::{Row, SENT, TWO_BYTES, open, replay, step};
 use rmt_bits::answer::Verdict;
 use rmt_chip::chip::Chip;
 use rmt_chip::out::Out;
+use rmt_image_tests::fixtures::image_texts::NO_ROWS;
 use std::process::Abort;
 use std::test::*;
 
@@ -25,25 +26,12 @@ const EXACT: &str = "
 
 /// The answers of the cycles behind the one in which a packet of three bytes enters, and the counter: at age 8 the packet is
 /// counted, and at age 12 it leaves.
-const AGES: [(Option<Verdict>, (u32, u64, u64)); 12] = [
-    (None, (7, 0, 0)),
-    (None, (7, 0, 0)),
-    (None, (7, 0, 0)),
-    (None, (7, 0, 0)),
-    (None, (7, 0, 0)),
-    (None, (7, 0, 0)),
-    (None, (7, 0, 0)),
-    (None, (7, 1, 3)),
-    (None, (7, 1, 3)),
-    (None, (7, 1, 3)),
-    (None, (7, 1, 3)),
-    (SENT, (7, 1, 3)),
-];
-
 fn passes_ages(rt: &impl Abort, chip: &mut Chip, out: &mut Out) {
-    for (verdict, count) in &AGES {
-        assert_eq!(rt; step(rt, chip, out, None), *verdict);
-        assert_eq!(rt; counted(chip, 0), Some(*count));
+    for age in 1..13u32 {
+        let verdict = if age == 12 { SENT } else { None };
+        let count = if age < 8 { (7, 0, 0) } else { (7, 1, 3) };
+        assert_eq!(rt; step(rt, chip, out, None), verdict, "age {age}");
+        assert_eq!(rt; counted(chip, 0), Some(count), "age {age}");
     }
 }
 

@@ -1,7 +1,8 @@
 //! Which changed cells a chip takes.
 
-use crate::chip::fixture::{NO_ROWS, TWO_BYTES, bytes_of, open, push_texts};
+use crate::chip::fixture::{TWO_BYTES, bytes_of, open};
 use rmt_config::cell_write::CellWrite;
+use rmt_image_tests::fixtures::image_texts::{NO_ROWS, push_texts};
 use std::process::Abort;
 use std::test::*;
 

@@ -19,7 +19,8 @@ use Rattle.rmt_refine.specs.Carries.{Carries}
 use Rattle.rmt_refine.specs.Outcomes.{entries_at}
 use Rattle.rmt_refine.proofs.CellNumberLaws.{cells_listed, coded_slot}
 use Rattle.rmt_refine.proofs.OutcomeLaws.{list_at}
-use Rattle.rmt_refine.proofs.PartLaws.{IsPart, slot_of_part, some_and, spot_of_part, unit_of_part}
+use Rattle.rmt_pack.proofs.PartLaws.{IsPart}
+use Rattle.rmt_refine.proofs.PartLaws.{slot_of_part, some_and, spot_of_part, unit_of_part}
 use Rattle.rmt_update.proofs.SpelledEntries.{number-listed}
 
 -- ---- the table of a slot

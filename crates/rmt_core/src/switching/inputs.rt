@@ -2,13 +2,13 @@
 
 ghost use Rattle.std.specs.Prelude.{◌≡◌, ◌≤◌, Err, length, IfOk, IfErr, string_bytes};
 ghost use Rattle.rmt_io.specs.Outside.{ReadingFailed, OnlyRead};
-ghost use Rattle.rmt_core.specs.Files.{capture_limit, groups_limit};
+ghost use Rattle.rmt_drive.specs.Files.{capture_limit, groups_limit};
 ghost use Rattle.rmt_core.specs.SwitchSetup.{AreFound, NoneRead};
 
 use crate::commands::SwitchNames;
 use crate::loading::{CAPTURE_LIMIT, GROUPS_LIMIT, IMAGE_LIMIT, read_file};
-use crate::status::Status;
 use crate::switching::setup::Inputs;
+use rmt_drive::status::Status;
 use rmt_io::shelf::Shelf;
 use std::alloc::Global;
 

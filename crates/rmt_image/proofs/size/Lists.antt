@@ -1,10 +1,11 @@
 -- How long lists are that are made of others: of bytes for each item, and of numbers that rise.
-use Rattle.std.proofs.Common.{◌≡◌, ℕ, ◌+◌, ◌*◌, ◌-◌, ◌<◌, ◌≤◌, true, leb, List, [], ◌∷◌, length, length-append, mul-le-mul_right, arith}
+use Rattle.std.proofs.Common.{◌≡◌, ℕ, ◌+◌, ◌*◌, ◌-◌, ◌<◌, ◌≤◌, true, leb, List, [], ◌∷◌, length, get_or, map, length-append, mul-le-mul_right, arith}
 use Rattle.std.specs.Prelude.{All}
 use Rattle.std.specs.List.{flat_map}
 use Rattle.std.proofs.lemmas.Bool.{and_parts, leb-true}
+use Rattle.std.proofs.lemmas.List.{length-map}
 use Rattle.std.proofs.lemmas.List.Concat.{length-flat_map}
-use Rattle.std.proofs.lemmas.List.Elements.{All-head, All-tail}
+use Rattle.std.proofs.lemmas.List.Elements.{All-head, All-map, All-tail}
 use Rattle.std.proofs.lemmas.List.Sums.{get_or-le-sum_by, sum_by-le}
 use Rattle.rmt_config.specs.Order.{rises_from}
 
@@ -46,3 +47,7 @@ rising_few least top (n ∷ ns) rises below =
     let high = All-head (λ m. m < top) n ns below in
     let rest = rising_few (n + 1) top ns parts.1 (All-tail (λ m. m < top) n ns below) in
     omega (arith, low, high, rest)
+
+-- so do rows that rise by a number of theirs
+pub rows_few : {A : Type 0} (number : A → ℕ) (top : ℕ) (rows : List A) → rises_from 0 (map number rows) ≡ true → ((k : ℕ) (d : A) → k < length rows → number (get_or rows k d) < top) → length rows ≤ top
+rows_few number top rows rises below = omega (arith, rising_few 0 top (map number rows) rises (All-map (λ n. n < top) number rows below), length-map rows number)

@@ -1,11 +1,11 @@
 -- The stages of a configuration are spelled with few bytes, but for the numbers of entries.
-use Rattle.std.proofs.Common.{◌≡◌, ◌+◌, ◌*◌, ◌^◌, ◌<◌, ◌≤◌, ◌&&◌, true, false, ltb, List, [], ◌∷◌, ◌++◌, length, get_or, map, replicate, length-append, arith}
+use Rattle.std.proofs.Common.{◌≡◌, ◌+◌, ◌*◌, ◌^◌, ◌<◌, ◌≤◌, ◌&&◌, true, false, ltb, List, [], ◌∷◌, ◌++◌, length, get_or, replicate, length-append, arith}
 use Rattle.std.specs.Prelude.{All}
 use Rattle.std.specs.List.{flat_map, list_all, sum_by}
 use Rattle.std.proofs.lemmas.Bool.{and_parts, ltb-true}
-use Rattle.std.proofs.lemmas.List.{length-map, length-replicate}
+use Rattle.std.proofs.lemmas.List.{length-replicate}
 use Rattle.std.proofs.lemmas.List.Concat.{length-flat_map}
-use Rattle.std.proofs.lemmas.List.Elements.{All-map, All-weaker}
+use Rattle.std.proofs.lemmas.List.Elements.{All-weaker}
 use Rattle.std.proofs.lemmas.List.Sums.{AllPass-from_list_all, sum_by-le-sum_by}
 use Rattle.rmt_image.specs.Types.{Stage, SramRow, TcamRow, Unit as ChipUnit, Vliw, Operation, Source}
 use Rattle.rmt_config.specs.Instructions.{unit_instructions}
@@ -20,7 +20,7 @@ use Rattle.rmt_config.specs.Spelling.{CountsFitStage, CountsFitVliw, spelled_lis
 use Rattle.rmt_config.specs.StageForm.{rows_are_formed, srow_fits, srow_number, stage_is_formed, trow_fits, trow_number}
 use Rattle.rmt_config.specs.UnitForm.{unit_is_formed}
 use Rattle.rmt_config.proofs.SlotLaws.{formed-rows, unit-formed}
-use Rattle.rmt_image.proofs.size.Lists.{each_within, flat_map_by, flat_map_short, rising_few}
+use Rattle.rmt_image.proofs.size.Lists.{each_within, flat_map_by, flat_map_short, rows_few}
 use Rattle.rmt_image.proofs.size.Units.{unit_short}
 
 -- ---- what the rules of form say of a stage by itself
@@ -85,8 +85,7 @@ srow_low r fits row =
 srows_few : (s : Stage) → stage_is_formed s ≡ true → FormedRows s → length s.srows ≤ 108544
 srows_few s formed rows =
     let fits = AllPass-from_list_all srow_fits s.srows (stage_parts s formed).srows in
-    let below = All-map (λ n. n < 108544) srow_number s.srows (λ k d lt. srow_low (get_or s.srows k d) (fits k d lt) (rows.slow k d lt)) in
-    omega (arith, rising_few 0 108544 (map srow_number s.srows) rows.srise below, length-map s.srows srow_number)
+    rows_few srow_number 108544 s.srows rows.srise (λ k d lt. srow_low (get_or s.srows k d) (fits k d lt) (rows.slow k d lt))
 
 trow_low : (r : TcamRow) → trow_fits r ≡ true → r.row < 2048 → trow_number r < 32768
 trow_low r fits row =
@@ -97,8 +96,7 @@ trow_low r fits row =
 trows_few : (s : Stage) → stage_is_formed s ≡ true → FormedRows s → length s.trows ≤ 32768
 trows_few s formed rows =
     let fits = AllPass-from_list_all trow_fits s.trows (stage_parts s formed).trows in
-    let below = All-map (λ n. n < 32768) trow_number s.trows (λ k d lt. trow_low (get_or s.trows k d) (fits k d lt) (rows.tlow k d lt)) in
-    omega (arith, rising_few 0 32768 (map trow_number s.trows) rows.trise below, length-map s.trows trow_number)
+    rows_few trow_number 32768 s.trows rows.trise (λ k d lt. trow_low (get_or s.trows k d) (fits k d lt) (rows.tlow k d lt))
 
 -- ---- stages
 

@@ -4,7 +4,7 @@ ghost use Rattle.std.specs.Prelude.{◌≡◌};
 ghost use Rattle.rmt_image.specs.Readers.{Gives};
 ghost use Rattle.rmt_image.specs.Reading.{ports_at, config_at, named_at, tailed_at, image_at};
 
-use crate::fault::ReadError;
+use crate::fault::Read;
 use crate::reading::header::headers_of;
 use crate::reading::lane::lane_of_bits;
 use crate::reading::names::names_of;
@@ -26,7 +26,7 @@ struct Ports {
 }
 
 #[tactic(auto, unfolding(crate::specs::Reading::ports_at))]
-fn ports_of(bytes: &[u8]) -> Result<(Ports, &[u8]), ReadError>
+fn ports_of(bytes: &[u8]) -> Read<Ports>
     ensures { Gives (λ x. (x.0, x.1.now)) result (ports_at bytes.now) }
 {
     let (seed, rest) = byte_of(bytes)?;
@@ -44,7 +44,7 @@ fn ports_of(bytes: &[u8]) -> Result<(Ports, &[u8]), ReadError>
 
 /// A configuration without names and tails.
 #[tactic(auto, unfolding(crate::specs::Reading::config_at))]
-fn config_of(alloc: Global, bytes: &[u8]) -> Result<(Config, &[u8]), ReadError>
+fn config_of(alloc: Global, bytes: &[u8]) -> Read<Config>
     ensures { Gives (λ x. (x.0, x.1.now)) result (config_at bytes.now) }
 {
     let (ports, rest) = ports_of(bytes)?;
@@ -66,7 +66,7 @@ fn config_of(alloc: Global, bytes: &[u8]) -> Result<(Config, &[u8]), ReadError>
 
 /// A configuration without tails, and its names behind it.
 #[tactic(auto, unfolding(crate::specs::Reading::named_at))]
-fn named_of(alloc: Global, bytes: &[u8]) -> Result<(Config, &[u8]), ReadError>
+fn named_of(alloc: Global, bytes: &[u8]) -> Read<Config>
     ensures { Gives (λ x. (x.0, x.1.now)) result (named_at bytes.now) }
 {
     let (mut config, rest) = config_of(alloc, bytes)?;
@@ -77,7 +77,7 @@ fn named_of(alloc: Global, bytes: &[u8]) -> Result<(Config, &[u8]), ReadError>
 
 /// A configuration, its names and its tails one behind the other.
 #[tactic(auto, unfolding(crate::specs::Reading::tailed_at))]
-fn tailed_of(alloc: Global, bytes: &[u8]) -> Result<(Config, &[u8]), ReadError>
+fn tailed_of(alloc: Global, bytes: &[u8]) -> Read<Config>
     ensures { Gives (λ x. (x.0, x.1.now)) result (tailed_at bytes.now) }
 {
     let (mut config, rest) = named_of(alloc, bytes)?;
@@ -89,7 +89,7 @@ fn tailed_of(alloc: Global, bytes: &[u8]) -> Result<(Config, &[u8]), ReadError>
 
 /// What stands behind this version, at the front of the bytes.
 #[tactic(auto, unfolding(crate::specs::Reading::image_at))]
-pub fn image_of(alloc: Global, version: u8, bytes: &[u8]) -> Result<(Config, &[u8]), ReadError>
+pub fn image_of(alloc: Global, version: u8, bytes: &[u8]) -> Read<Config>
     ensures { Gives (λ x. (x.0, x.1.now)) result (image_at version bytes.now) }
 {
     match version {

@@ -4,7 +4,7 @@ ghost use Rattle.std.specs.Prelude.{◌≡◌, ◌≤◌};
 ghost use Rattle.rmt_image.specs.Readers.{Gives, kept, listed, list_at, byte_at, number_at, at_least};
 ghost use Rattle.rmt_image.specs.Reading.{mask_is_even, guard_at, test_fits, test_at, gate_at};
 
-use crate::fault::{ReadError, ReadFault};
+use crate::fault::{Read, ReadError, ReadFault};
 use crate::reading::items::{Item, list_of};
 use crate::reading::lane::lane_of;
 use crate::reading::number::{byte_of, four_of, kept, two_of};
@@ -12,7 +12,7 @@ use rmt_bits::sequence::Sequence;
 use rmt_config::config::{GateTest, GateUnit, UnitGuard};
 use std::alloc::Global;
 
-fn outcomes_of(bytes: &[u8]) -> Result<(u16, &[u8]), ReadError>
+fn outcomes_of(bytes: &[u8]) -> Read<u16>
     ensures { Gives (λ x. (x.0, x.1.now)) result (kept mask_is_even (number_at 2) bytes.now) }
 {
     let (mask, rest) = two_of(bytes)?;
@@ -21,7 +21,7 @@ fn outcomes_of(bytes: &[u8]) -> Result<(u16, &[u8]), ReadError>
 
 /// The guard of a unit, or none.
 #[tactic(auto, unfolding(crate::specs::Reading::guard_at))]
-pub fn guard_of(bytes: &[u8]) -> Result<(Option<UnitGuard>, &[u8]), ReadError>
+pub fn guard_of(bytes: &[u8]) -> Read<Option<UnitGuard>>
     ensures { Gives (λ x. (x.0, x.1.now)) result (guard_at bytes.now) }
 {
     match bytes {
@@ -50,7 +50,7 @@ impl Item<()> for GateTest {
     ghost item_at = { λ _. test_at };
 
     #[tactic(auto, unfolding(crate::specs::Reading::test_at))]
-    fn read(_alloc: Global, _given: (), bytes: &[u8]) -> Result<(GateTest, &[u8]), ReadError> {
+    fn read(_alloc: Global, _given: (), bytes: &[u8]) -> Read<GateTest> {
         let (lane, rest) = lane_of(bytes)?;
         let (value, rest) = four_of(rest)?;
         let (mask, rest) = four_of(rest)?;
@@ -59,7 +59,7 @@ impl Item<()> for GateTest {
     }
 }
 
-fn tests_of(alloc: Global, bytes: &[u8]) -> Result<(Sequence<GateTest>, &[u8]), ReadError>
+fn tests_of(alloc: Global, bytes: &[u8]) -> Read<Sequence<GateTest>>
     ensures { Gives (λ x. (x.0, x.1.now)) result (listed (kept (at_least 1) byte_at) (list_at test_at) bytes.now) }
 {
     let (count, rest) = byte_of(bytes)?;
@@ -69,7 +69,7 @@ fn tests_of(alloc: Global, bytes: &[u8]) -> Result<(Sequence<GateTest>, &[u8]), 
 
 /// A gate.
 #[tactic(auto, unfolding(crate::specs::Reading::gate_at))]
-pub fn gate_of(alloc: Global, bytes: &[u8]) -> Result<(GateUnit, &[u8]), ReadError>
+pub fn gate_of(alloc: Global, bytes: &[u8]) -> Read<GateUnit>
     ensures { Gives (λ x. (x.0, x.1.now)) result (gate_at bytes.now) }
 {
     let (node, rest) = byte_of(bytes)?;

@@ -4,7 +4,7 @@ ghost use Rattle.std.specs.Prelude.{◌≡◌};
 ghost use Rattle.rmt_image.specs.Readers.{Gives, kept, listed, list_at, byte_at};
 ghost use Rattle.rmt_image.specs.Reading.{lanes_at, header_size_fits, header_at, headers_at};
 
-use crate::fault::ReadError;
+use crate::fault::Read;
 use crate::reading::items::{Item, list_of, list8_of};
 use crate::reading::lane::lane_of_bits;
 use crate::reading::number::{byte_of, kept};
@@ -13,7 +13,7 @@ use rmt_config::config::OutHeader;
 use rmt_config::form::lane::count_bits;
 use std::alloc::Global;
 
-fn size_of(bytes: &[u8]) -> Result<(u8, &[u8]), ReadError>
+fn size_of(bytes: &[u8]) -> Read<u8>
     ensures { Gives (λ x. (x.0, x.1.now)) result (kept header_size_fits byte_at bytes.now) }
 {
     let (size, rest) = byte_of(bytes)?;
@@ -26,7 +26,7 @@ impl Item<()> for OutHeader {
     ghost item_at = { λ _. header_at };
 
     #[tactic(auto, unfolding(crate::specs::Reading::header_at))]
-    fn read(alloc: Global, _given: (), bytes: &[u8]) -> Result<(OutHeader, &[u8]), ReadError> {
+    fn read(alloc: Global, _given: (), bytes: &[u8]) -> Read<OutHeader> {
         let (valid, rest) = lane_of_bits(1, bytes)?;
         let (bytes, rest) = size_of(rest)?;
         let (pieces, rest) = list8_of(alloc, (), rest)?;
@@ -42,7 +42,7 @@ impl Item<()> for OutHeader {
 
 /// The headers behind their count, at most 64.
 #[tactic(auto, unfolding(crate::specs::Reading::headers_at))]
-pub fn headers_of(alloc: Global, bytes: &[u8]) -> Result<(Sequence<OutHeader>, &[u8]), ReadError>
+pub fn headers_of(alloc: Global, bytes: &[u8]) -> Read<Sequence<OutHeader>>
     ensures { Gives (λ x. (x.0, x.1.now)) result (headers_at bytes.now) }
 {
     let (count, rest) = byte_of(bytes)?;

@@ -1,12 +1,12 @@
 //! Lists of items: some stand in an order, each read under a number that the one before it leaves, others in none.
 
-ghost use Rattle.std.specs.Prelude.{◌≡◌, ◌<◌, ◌≤◌, ℕ, length, IfOk};
+ghost use Rattle.std.specs.Prelude.{◌≡◌, ◌<◌, ◌≤◌, ◌++◌, ◌∷◌, [], ℕ, length, IfOk, OnOk};
 ghost use Rattle.rmt_image.specs.Readers.{Reader, Gives, items_at, list_at, listed, byte_at, number_at};
 
-use crate::fault::ReadError;
+use crate::fault::Read;
 use crate::reading::number::{byte_of, four_of, two_of};
 use rmt_bits::sequence::Sequence;
-use std::alloc::Global;
+use std::alloc::{AllocError, Global};
 use std::marker::PhantomData;
 
 // ---- items in an order
@@ -26,12 +26,7 @@ pub trait InOrder {
     ghost after: { Self → Self.Item → ℕ };
 
     /// The item at the front of the bytes, and the bytes behind it.
-    fn item<'a>(
-        &self,
-        alloc: Global,
-        least: u32,
-        bytes: &'a [u8],
-    ) -> Result<(Self::Item, &'a [u8]), ReadError>
+    fn item<'a>(&self, alloc: Global, least: u32, bytes: &'a [u8]) -> Read<'a, Self::Item>
         ensures { Gives (λ x. (x.0, x.1.now)) result (item_at self.now least bytes.now) };
 
     /// The least number for the item behind.
@@ -46,13 +41,21 @@ fn room_for(count: u64, size: usize, bytes: &[u8]) -> usize
     count.min((bytes.len() / size.max(1)) as u64) as usize
 }
 
+/// Puts an item behind others.
+pub fn put<T: Drop>(items: &mut Vec<T>, item: T) -> Result<(), AllocError>
+    ensures { OnOk result (items.new.items ≡ items.old.items ++ item ∷ []) }
+{
+    items.push(item)?;
+    Ok(())
+}
+
 /// That many items at the front of the bytes, and the bytes behind them.
 pub fn items_of<'a, L: InOrder>(
     alloc: Global,
     list: &L,
     count: u64,
     bytes: &'a [u8],
-) -> Result<(Sequence<L::Item>, &'a [u8]), ReadError>
+) -> Read<'a, Sequence<L::Item>>
     ensures read { Gives (λ x. (x.0, x.1.now)) result (items_at (L.item_at list.now) (L.after list.now) 0 count bytes.now) }
     ensures all { IfOk result (λ x. length x.0 ≡ count) }
 {
@@ -63,7 +66,7 @@ pub fn items_of<'a, L: InOrder>(
     for _ in 0..count {
         let (item, behind) = list.item(alloc, least, rest)?;
         least = list.least_after(&item);
-        items.push(item)?;
+        put(&mut items, item)?;
         rest = behind;
     }
     Ok((Sequence::from_vec(items), rest))
@@ -80,7 +83,7 @@ pub trait Item<G>: Drop {
     ghost item_at: { G → Reader Self };
 
     /// The item at the front of the bytes, and the bytes behind it.
-    fn read(alloc: Global, given: G, bytes: &[u8]) -> Result<(Self, &[u8]), ReadError>
+    fn read(alloc: Global, given: G, bytes: &[u8]) -> Read<Self>
         ensures { Gives (λ x. (x.0, x.1.now)) result (item_at given bytes.now) };
 }
 
@@ -100,12 +103,7 @@ impl<G: Copy, T: Item<G>> InOrder for InNoOrder<G, T> {
 
     ghost after = { λ _ _. 0 };
 
-    fn item<'a>(
-        &self,
-        alloc: Global,
-        _least: u32,
-        bytes: &'a [u8],
-    ) -> Result<(T, &'a [u8]), ReadError> {
+    fn item<'a>(&self, alloc: Global, _least: u32, bytes: &'a [u8]) -> Read<'a, T> {
         T::read(alloc, self.given, bytes)
     }
 
@@ -120,7 +118,7 @@ pub fn list_of<G: Copy, T: Item<G>>(
     given: G,
     count: u64,
     bytes: &[u8],
-) -> Result<(Sequence<T>, &[u8]), ReadError>
+) -> Read<Sequence<T>>
     ensures read { Gives (λ x. (x.0, x.1.now)) result (list_at (T.item_at given) count bytes.now) }
     ensures all { IfOk result (λ x. length x.0 ≡ count) }
 {
@@ -132,11 +130,7 @@ pub fn list_of<G: Copy, T: Item<G>>(
 }
 
 /// Items in no order behind their count, of one byte.
-pub fn list8_of<G: Copy, T: Item<G>>(
-    alloc: Global,
-    given: G,
-    bytes: &[u8],
-) -> Result<(Sequence<T>, &[u8]), ReadError>
+pub fn list8_of<G: Copy, T: Item<G>>(alloc: Global, given: G, bytes: &[u8]) -> Read<Sequence<T>>
     ensures read { Gives (λ x. (x.0, x.1.now)) result (listed byte_at (list_at (T.item_at given)) bytes.now) }
     ensures few { IfOk result (λ x. length x.0 < 256) }
 {
@@ -145,11 +139,7 @@ pub fn list8_of<G: Copy, T: Item<G>>(
 }
 
 /// The same behind a count of two bytes.
-pub fn list16_of<G: Copy, T: Item<G>>(
-    alloc: Global,
-    given: G,
-    bytes: &[u8],
-) -> Result<(Sequence<T>, &[u8]), ReadError>
+pub fn list16_of<G: Copy, T: Item<G>>(alloc: Global, given: G, bytes: &[u8]) -> Read<Sequence<T>>
     ensures read { Gives (λ x. (x.0, x.1.now)) result (listed (number_at 2) (list_at (T.item_at given)) bytes.now) }
     ensures few { IfOk result (λ x. length x.0 < 65536) }
 {
@@ -158,11 +148,7 @@ pub fn list16_of<G: Copy, T: Item<G>>(
 }
 
 /// The same behind a count of four bytes.
-pub fn list32_of<G: Copy, T: Item<G>>(
-    alloc: Global,
-    given: G,
-    bytes: &[u8],
-) -> Result<(Sequence<T>, &[u8]), ReadError>
+pub fn list32_of<G: Copy, T: Item<G>>(alloc: Global, given: G, bytes: &[u8]) -> Read<Sequence<T>>
     ensures { Gives (λ x. (x.0, x.1.now)) result (listed (number_at 4) (list_at (T.item_at given)) bytes.now) }
 {
     let (count, rest) = four_of(bytes)?;

@@ -4,7 +4,7 @@ ghost use Rattle.rmt_image.specs.Readers.{Gives};
 ghost use Rattle.rmt_image.specs.Reading.{word_at, lane_from_at, lane_at, lane_of_at};
 ghost use Rattle.std.specs.Prelude.{◌≡◌, ◌≤◌, ◌<◌, IfOk};
 
-use crate::fault::ReadError;
+use crate::fault::Read;
 use crate::reading::items::Item;
 use crate::reading::number::{byte_of, kept};
 use rmt_bits::lane::Lane;
@@ -13,7 +13,7 @@ use std::alloc::Global;
 
 /// A word of the vector, from that one on.
 #[tactic(auto, unfolding(crate::specs::Reading::word_at))]
-pub fn word_of(least: u32, bytes: &[u8]) -> Result<(u8, &[u8]), ReadError>
+pub fn word_of(least: u32, bytes: &[u8]) -> Read<u8>
     ensures there { IfOk result (λ x. x.0 < 224) }
     ensures read { Gives (λ x. (x.0, x.1.now)) result (word_at least bytes.now) }
 {
@@ -23,7 +23,7 @@ pub fn word_of(least: u32, bytes: &[u8]) -> Result<(u8, &[u8]), ReadError>
 
 /// A lane whose word is at least that one.
 #[tactic(auto, unfolding(crate::specs::Reading::lane_from_at))]
-pub fn lane_from(least: u32, bytes: &[u8]) -> Result<(Lane, &[u8]), ReadError>
+pub fn lane_from(least: u32, bytes: &[u8]) -> Read<Lane>
     ensures read { Gives (λ x. (x.0, x.1.now)) result (lane_from_at least bytes.now) }
     ensures narrow { IfOk result (λ x. x.0.len ≤ 32) }
 {
@@ -36,7 +36,7 @@ pub fn lane_from(least: u32, bytes: &[u8]) -> Result<(Lane, &[u8]), ReadError>
 
 /// A lane.
 #[tactic(auto, unfolding(crate::specs::Reading::lane_at))]
-pub fn lane_of(bytes: &[u8]) -> Result<(Lane, &[u8]), ReadError>
+pub fn lane_of(bytes: &[u8]) -> Read<Lane>
     ensures read { Gives (λ x. (x.0, x.1.now)) result (lane_at bytes.now) }
     ensures narrow { IfOk result (λ x. x.0.len ≤ 32) }
 {
@@ -45,7 +45,7 @@ pub fn lane_of(bytes: &[u8]) -> Result<(Lane, &[u8]), ReadError>
 
 /// A lane of that many bits.
 #[tactic(auto, unfolding(crate::specs::Reading::lane_of_at))]
-pub fn lane_of_bits(len: u8, bytes: &[u8]) -> Result<(Lane, &[u8]), ReadError>
+pub fn lane_of_bits(len: u8, bytes: &[u8]) -> Read<Lane>
     ensures { Gives (λ x. (x.0, x.1.now)) result (lane_of_at len bytes.now) }
 {
     let (lane, rest) = lane_of(bytes)?;
@@ -57,7 +57,7 @@ impl Item<()> for Lane {
 
     ghost item_at = { λ _. lane_at };
 
-    fn read(_alloc: Global, _given: (), bytes: &[u8]) -> Result<(Lane, &[u8]), ReadError> {
+    fn read(_alloc: Global, _given: (), bytes: &[u8]) -> Read<Lane> {
         lane_of(bytes)
     }
 }

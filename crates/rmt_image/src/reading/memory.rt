@@ -5,7 +5,7 @@ ghost use Rattle.rmt_config.specs.LaneForm.{bits_of_lanes};
 ghost use Rattle.rmt_image.specs.Readers.{Gives, where_, kept, list_at, byte_at, number_at, at_least};
 ghost use Rattle.rmt_image.specs.Reading.{block_at, blocks_at, quanta_fit, cells_fit, format_at, format_block_counts, exact_at, ternary_at, exact_of_parts, ternary_of_parts, memory_at};
 
-use crate::fault::{ReadError, ReadFault};
+use crate::fault::{Read, ReadError, ReadFault};
 use crate::reading::items::{Item, list_of};
 use crate::reading::number::{byte_of, kept, two_of};
 use rmt_bits::answer::Bytes;
@@ -19,7 +19,7 @@ use std::alloc::Global;
 
 /// A block below that number.
 #[tactic(auto, unfolding(crate::specs::Reading::block_at))]
-pub fn block_of(most: u8, bytes: &[u8]) -> Result<(u8, &[u8]), ReadError>
+pub fn block_of(most: u8, bytes: &[u8]) -> Read<u8>
     ensures { Gives (λ x. (x.0, x.1.now)) result (block_at most bytes.now) }
 {
     let (block, rest) = byte_of(bytes)?;
@@ -35,7 +35,7 @@ impl Item<Below> for u8 {
 
     ghost item_at = { λ most. block_at most.0 };
 
-    fn read(_alloc: Global, most: Below, bytes: &[u8]) -> Result<(u8, &[u8]), ReadError> {
+    fn read(_alloc: Global, most: Below, bytes: &[u8]) -> Read<u8> {
         block_of(most.0, bytes)
     }
 }
@@ -49,12 +49,7 @@ struct Blocks {
 }
 
 #[tactic(auto, unfolding(crate::specs::Reading::blocks_at))]
-fn blocks_of(
-    alloc: Global,
-    most: u8,
-    counts: BlockCounts,
-    bytes: &[u8],
-) -> Result<(Blocks, &[u8]), ReadError>
+fn blocks_of(alloc: Global, most: u8, counts: BlockCounts, bytes: &[u8]) -> Read<Blocks>
     ensures { Gives (λ x. (x.0, x.1.now)) result (blocks_at most counts bytes.now) }
 {
     let (keys, rest) = list_of(alloc, Below(most), counts.keys, bytes)?;
@@ -70,21 +65,21 @@ fn blocks_of(
 
 // ---- the numbers before them
 
-fn quanta_of(bytes: &[u8]) -> Result<(u8, &[u8]), ReadError>
+fn quanta_of(bytes: &[u8]) -> Read<u8>
     ensures { Gives (λ x. (x.0, x.1.now)) result (kept quanta_fit byte_at bytes.now) }
 {
     let (quanta, rest) = byte_of(bytes)?;
     kept(1 <= quanta && quanta <= 106, quanta, rest)
 }
 
-fn width_of(bytes: &[u8]) -> Result<(u8, &[u8]), ReadError>
+fn width_of(bytes: &[u8]) -> Read<u8>
     ensures { Gives (λ x. (x.0, x.1.now)) result (kept (at_least 1) byte_at bytes.now) }
 {
     let (width, rest) = byte_of(bytes)?;
     kept(1 <= width, width, rest)
 }
 
-fn per_of<'a>(slot: &SlotUnit, width: u8, bytes: &'a [u8]) -> Result<(u16, &'a [u8]), ReadError>
+fn per_of<'a>(slot: &SlotUnit, width: u8, bytes: &'a [u8]) -> Read<'a, u16>
     requires { length slot.now.keys < 65536 }
     ensures { Gives (λ x. (x.0, x.1.now)) result (kept (cells_fit (bits_of_lanes slot.now.keys) width) (number_at 2) bytes.now) }
 {
@@ -104,7 +99,7 @@ struct ExactFormat {
 }
 
 #[tactic(auto, unfolding(crate::specs::Reading::format_at))]
-fn format_of<'a>(slot: &SlotUnit, bytes: &'a [u8]) -> Result<(ExactFormat, &'a [u8]), ReadError>
+fn format_of<'a>(slot: &SlotUnit, bytes: &'a [u8]) -> Read<'a, ExactFormat>
     requires { length slot.now.keys < 65536 }
     ensures { Gives (λ x. (x.0, x.1.now)) result (format_at slot.now bytes.now) }
 {
@@ -124,18 +119,12 @@ fn format_of<'a>(slot: &SlotUnit, bytes: &'a [u8]) -> Result<(ExactFormat, &'a [
 // ---- memories
 
 #[tactic(auto, unfolding(crate::specs::Reading::exact_at))]
-fn exact_of<'a>(
-    alloc: Global,
-    slot: &SlotUnit,
-    bytes: &'a [u8],
-) -> Result<((ExactFormat, Blocks), &'a [u8]), ReadError>
+fn exact_of<'a>(alloc: Global, slot: &SlotUnit, bytes: &'a [u8]) -> Read<'a, (ExactFormat, Blocks)>
     requires { length slot.now.keys < 65536 }
     ensures { Gives (λ x. (x.0, x.1.now)) result (exact_at slot.now bytes.now) }
 {
-    if !can_take_memory(slot) {
-        return Err(ReadError::Fault(ReadFault::Form));
-    }
-    let (format, rest) = format_of(slot, bytes)?;
+    let (_, rest) = kept(can_take_memory(slot), (), bytes)?;
+    let (format, rest) = format_of(slot, rest)?;
     let counts = exact_block_counts(
         format.width,
         format.per,
@@ -148,18 +137,12 @@ fn exact_of<'a>(
 }
 
 #[tactic(auto, unfolding(crate::specs::Reading::ternary_at))]
-fn ternary_of<'a>(
-    alloc: Global,
-    slot: &SlotUnit,
-    bytes: &'a [u8],
-) -> Result<((u8, Blocks), &'a [u8]), ReadError>
+fn ternary_of<'a>(alloc: Global, slot: &SlotUnit, bytes: &'a [u8]) -> Read<'a, (u8, Blocks)>
     requires { length slot.now.keys < 65536 }
     ensures { Gives (λ x. (x.0, x.1.now)) result (ternary_at slot.now bytes.now) }
 {
-    if !can_take_memory(slot) {
-        return Err(ReadError::Fault(ReadFault::Form));
-    }
-    let (quanta, rest) = quanta_of(bytes)?;
+    let (_, rest) = kept(can_take_memory(slot), (), bytes)?;
+    let (quanta, rest) = quanta_of(rest)?;
     let counts = ternary_block_counts(
         count_bits(slot.keys.as_slice()),
         quanta,
@@ -173,56 +156,37 @@ fn ternary_of<'a>(
 fn exact_memory(format: ExactFormat, blocks: Blocks) -> Memory
     ensures { result ≡ exact_of_parts (format, blocks) }
 {
-    let Blocks {
-        keys,
-        records,
-        counters,
-    } = blocks;
     Memory::Exact {
         width: format.width,
         per: format.per,
         quanta: format.quanta,
         first_way: format.first_way,
-        keys,
-        records,
-        counters,
+        keys: blocks.keys,
+        records: blocks.records,
+        counters: blocks.counters,
     }
 }
 
 fn ternary_memory(quanta: u8, blocks: Blocks) -> Memory
     ensures { result ≡ ternary_of_parts (quanta, blocks) }
 {
-    let Blocks {
-        keys,
-        records,
-        counters,
-    } = blocks;
     Memory::Ternary {
         quanta,
-        keys,
-        records,
-        counters,
+        keys: blocks.keys,
+        records: blocks.records,
+        counters: blocks.counters,
     }
 }
 
 /// The memory of a slot of which all that stands before it was read, with fewer than 65,536 key lanes.
 #[tactic(auto, unfolding(crate::specs::Reading::memory_at))]
-pub fn memory_of<'a>(
-    alloc: Global,
-    slot: &SlotUnit,
-    bytes: &'a [u8],
-) -> Result<(Memory, &'a [u8]), ReadError>
+pub fn memory_of<'a>(alloc: Global, slot: &SlotUnit, bytes: &'a [u8]) -> Read<'a, Memory>
     requires { length slot.now.keys < 65536 }
     ensures { Gives (λ x. (x.0, x.1.now)) result (memory_at slot.now bytes.now) }
 {
     match bytes {
         [] => Err(ReadError::Fault(ReadFault::Short)),
-        [0, rest @ ..] => {
-            if !needs_no_memory(slot) {
-                return Err(ReadError::Fault(ReadFault::Form));
-            }
-            Ok((Memory::Without, rest))
-        }
+        [0, rest @ ..] => kept(needs_no_memory(slot), Memory::Without, rest),
         [1, rest @ ..] => {
             let ((format, blocks), rest) = exact_of(alloc, slot, rest)?;
             Ok((exact_memory(format, blocks), rest))

@@ -4,7 +4,7 @@ ghost use Rattle.std.specs.Prelude.{◌≡◌};
 ghost use Rattle.rmt_image.specs.Readers.{Gives, listed, byte_at, number_at};
 ghost use Rattle.rmt_image.specs.ReadingNames.{bytes_at, name_at, action_at, rank_at, table_kind_at, ranks_at, table_at, names_at};
 
-use crate::fault::{ReadError, ReadFault};
+use crate::fault::{Read, ReadError, ReadFault};
 use crate::reading::items::{Item, list8_of, list32_of};
 use crate::reading::number::{byte_of, four_of, two_of};
 use rmt_ast::name::Name;
@@ -17,7 +17,7 @@ use std::alloc::Global;
 
 /// That many bytes as they stand. Memory is taken only where they are all there.
 #[tactic(auto, unfolding(crate::specs::ReadingNames::bytes_at))]
-fn bytes_of(alloc: Global, count: usize, bytes: &[u8]) -> Result<(Vec<u8>, &[u8]), ReadError>
+fn bytes_of(alloc: Global, count: usize, bytes: &[u8]) -> Read<Vec<u8>>
     ensures { Gives (λ x. (x.0.items, x.1.now)) result (bytes_at count bytes.now) }
 {
     if bytes.len() < count {
@@ -30,7 +30,7 @@ fn bytes_of(alloc: Global, count: usize, bytes: &[u8]) -> Result<(Vec<u8>, &[u8]
 
 /// A name behind its length.
 #[tactic(auto, unfolding(crate::specs::ReadingNames::name_at))]
-fn name_of(alloc: Global, bytes: &[u8]) -> Result<(Name, &[u8]), ReadError>
+fn name_of(alloc: Global, bytes: &[u8]) -> Read<Name>
     ensures { Gives (λ x. (x.0, x.1.now)) result (name_at bytes.now) }
 {
     let (count, rest) = four_of(bytes)?;
@@ -39,7 +39,7 @@ fn name_of(alloc: Global, bytes: &[u8]) -> Result<(Name, &[u8]), ReadError>
 }
 
 /// The widths of an action's parameters, a byte each, behind their count.
-fn params_of(alloc: Global, bytes: &[u8]) -> Result<(Bytes, &[u8]), ReadError>
+fn params_of(alloc: Global, bytes: &[u8]) -> Read<Bytes>
     ensures { Gives (λ x. (x.0, x.1.now)) result (listed byte_at bytes_at bytes.now) }
 {
     let (count, rest) = byte_of(bytes)?;
@@ -48,7 +48,7 @@ fn params_of(alloc: Global, bytes: &[u8]) -> Result<(Bytes, &[u8]), ReadError>
 }
 
 /// The widths of a key's fields, a byte each, behind their count.
-fn keys_of(alloc: Global, bytes: &[u8]) -> Result<(Bytes, &[u8]), ReadError>
+fn keys_of(alloc: Global, bytes: &[u8]) -> Read<Bytes>
     ensures { Gives (λ x. (x.0, x.1.now)) result (listed (number_at 2) bytes_at bytes.now) }
 {
     let (count, rest) = two_of(bytes)?;
@@ -64,7 +64,7 @@ impl Item<()> for ActionName {
     ghost item_at = { λ _. action_at };
 
     #[tactic(auto, unfolding(crate::specs::ReadingNames::action_at))]
-    fn read(alloc: Global, _given: (), bytes: &[u8]) -> Result<(ActionName, &[u8]), ReadError> {
+    fn read(alloc: Global, _given: (), bytes: &[u8]) -> Read<ActionName> {
         let (name, rest) = name_of(alloc, bytes)?;
         let (params, rest) = params_of(alloc, rest)?;
         Ok((ActionName { name, params }, rest))
@@ -77,7 +77,7 @@ impl Item<()> for RankOf {
     ghost item_at = { λ _. rank_at };
 
     #[tactic(auto, unfolding(crate::specs::ReadingNames::rank_at))]
-    fn read(_alloc: Global, _given: (), bytes: &[u8]) -> Result<(RankOf, &[u8]), ReadError> {
+    fn read(_alloc: Global, _given: (), bytes: &[u8]) -> Read<RankOf> {
         let (number, rest) = four_of(bytes)?;
         let (rank, rest) = four_of(rest)?;
         Ok((RankOf { number, rank }, rest))
@@ -85,7 +85,7 @@ impl Item<()> for RankOf {
 }
 
 #[tactic(auto, unfolding(crate::specs::ReadingNames::table_kind_at))]
-fn kind_of(bytes: &[u8]) -> Result<(Kind, &[u8]), ReadError>
+fn kind_of(bytes: &[u8]) -> Read<Kind>
     ensures { Gives (λ x. (x.0, x.1.now)) result (table_kind_at bytes.now) }
 {
     let (byte, rest) = byte_of(bytes)?;
@@ -99,7 +99,7 @@ fn kind_of(bytes: &[u8]) -> Result<(Kind, &[u8]), ReadError>
 }
 
 /// The ranks of a ternary table; a table of another kind has none.
-fn ranks_of(alloc: Global, kind: Kind, bytes: &[u8]) -> Result<(Ranks, &[u8]), ReadError>
+fn ranks_of(alloc: Global, kind: Kind, bytes: &[u8]) -> Read<Ranks>
     ensures { Gives (λ x. (x.0, x.1.now)) result (ranks_at kind bytes.now) }
 {
     match kind {
@@ -116,7 +116,7 @@ impl Item<()> for TableName {
     ghost item_at = { λ _. table_at };
 
     #[tactic(auto, unfolding(crate::specs::ReadingNames::table_at))]
-    fn read(alloc: Global, _given: (), bytes: &[u8]) -> Result<(TableName, &[u8]), ReadError> {
+    fn read(alloc: Global, _given: (), bytes: &[u8]) -> Read<TableName> {
         let (node, rest) = byte_of(bytes)?;
         let (name, rest) = name_of(alloc, rest)?;
         let (kind, rest) = kind_of(rest)?;
@@ -139,7 +139,7 @@ impl Item<()> for TableName {
 
 /// The names of tables behind their count.
 #[tactic(auto, unfolding(crate::specs::ReadingNames::names_at))]
-pub fn names_of(alloc: Global, bytes: &[u8]) -> Result<(Names, &[u8]), ReadError>
+pub fn names_of(alloc: Global, bytes: &[u8]) -> Read<Names>
     ensures { Gives (λ x. (x.0, x.1.now)) result (names_at bytes.now) }
 {
     let (tables, rest) = list8_of(alloc, (), bytes)?;

@@ -4,10 +4,10 @@ ghost use Rattle.std.specs.Prelude.{◌≡◌, ◌≤◌, ◌<◌, ◌*◌, ◌^
 ghost use Rattle.rmt_bits.specs.Bits.{number_of};
 ghost use Rattle.rmt_image.specs.Readers.{Gives, give, where_, byte_at, number_at, flag_at};
 
-use crate::fault::{ReadError, ReadFault};
+use crate::fault::{Read, ReadError, ReadFault};
 
 /// What was read, where it passes a test; else the form is broken.
-pub fn kept<T: Drop>(passes: bool, item: T, rest: &[u8]) -> Result<(T, &[u8]), ReadError>
+pub fn kept<T: Drop>(passes: bool, item: T, rest: &[u8]) -> Read<T>
     ensures { Gives (λ x. (x.0, x.1.now)) result (where_ passes (give item) rest.now) }
 {
     if passes {
@@ -19,7 +19,7 @@ pub fn kept<T: Drop>(passes: bool, item: T, rest: &[u8]) -> Result<(T, &[u8]), R
 
 /// A byte.
 #[tactic(auto, unfolding(crate::specs::Readers::byte_at))]
-pub fn byte_of(bytes: &[u8]) -> Result<(u8, &[u8]), ReadError>
+pub fn byte_of(bytes: &[u8]) -> Read<u8>
     ensures { Gives (λ x. (x.0, x.1.now)) result (byte_at bytes.now) }
 {
     match bytes {
@@ -43,7 +43,7 @@ fn number(bytes: &[u8]) -> u128
 
 /// The number that the first `count` bytes are, at most 14.
 #[tactic(auto, unfolding(crate::specs::Readers::number_at))]
-fn number_from(count: usize, bytes: &[u8]) -> Result<(u128, &[u8]), ReadError>
+pub fn number_from(count: usize, bytes: &[u8]) -> Read<u128>
     requires { count ≤ 14 }
     ensures read { Gives (λ x. (x.0, x.1.now)) result (number_at count bytes.now) }
     ensures small { IfOk result (λ x. x.0 < 2 ^ (8 * count)) }
@@ -56,7 +56,7 @@ fn number_from(count: usize, bytes: &[u8]) -> Result<(u128, &[u8]), ReadError>
 }
 
 /// A number of two bytes.
-pub fn two_of(bytes: &[u8]) -> Result<(u16, &[u8]), ReadError>
+pub fn two_of(bytes: &[u8]) -> Read<u16>
     ensures { Gives (λ x. (x.0, x.1.now)) result (number_at 2 bytes.now) }
 {
     let (number, rest) = number_from(2, bytes)?;
@@ -64,31 +64,16 @@ pub fn two_of(bytes: &[u8]) -> Result<(u16, &[u8]), ReadError>
 }
 
 /// A number of four bytes.
-pub fn four_of(bytes: &[u8]) -> Result<(u32, &[u8]), ReadError>
+pub fn four_of(bytes: &[u8]) -> Read<u32>
     ensures { Gives (λ x. (x.0, x.1.now)) result (number_at 4 bytes.now) }
 {
     let (number, rest) = number_from(4, bytes)?;
     Ok((number as u32, rest))
 }
 
-/// A number of five bytes.
-pub fn five_of(bytes: &[u8]) -> Result<(u64, &[u8]), ReadError>
-    ensures { Gives (λ x. (x.0, x.1.now)) result (number_at 5 bytes.now) }
-{
-    let (number, rest) = number_from(5, bytes)?;
-    Ok((number as u64, rest))
-}
-
-/// A number of fourteen bytes.
-pub fn fourteen_of(bytes: &[u8]) -> Result<(u128, &[u8]), ReadError>
-    ensures { Gives (λ x. (x.0, x.1.now)) result (number_at 14 bytes.now) }
-{
-    number_from(14, bytes)
-}
-
 /// A byte that is 0 or 1.
 #[tactic(auto, unfolding(crate::specs::Readers::flag_at))]
-pub fn flag_of(bytes: &[u8]) -> Result<(bool, &[u8]), ReadError>
+pub fn flag_of(bytes: &[u8]) -> Read<bool>
     ensures { Gives (λ x. (x.0, x.1.now)) result (flag_at bytes.now) }
 {
     let (byte, rest) = byte_of(bytes)?;

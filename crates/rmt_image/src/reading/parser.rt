@@ -5,7 +5,7 @@ ghost use Rattle.rmt_image.specs.Readers.{Gives, kept, listed, list_at, items_at
 ghost use Rattle.rmt_image.specs.Reading.{offset_at, one_more, state_at, states_at, entry_state_at, match_fits, match_at, need_at, later_state_at, next_at, bits_at, extract_at, entry_head_at, entry_at, state_of, parser_at};
 ghost use Rattle.rmt_config.specs.ParserForm.{lookups_of};
 
-use crate::fault::{ReadError, ReadFault};
+use crate::fault::{Read, ReadError, ReadFault};
 use crate::reading::items::{InOrder, Item, items_of, list_of, list8_of};
 use crate::reading::lane::{lane_of, lane_of_bits};
 use crate::reading::number::{byte_of, four_of, kept, two_of};
@@ -15,14 +15,6 @@ use rmt_config::config::{Extract, Next, ParserConfig, ParserEntry, ParserState};
 use std::alloc::Global;
 
 // ---- states
-
-#[tactic(auto, unfolding(crate::specs::Reading::offset_at))]
-fn offset_of(least: u32, bytes: &[u8]) -> Result<(u8, &[u8]), ReadError>
-    ensures { Gives (λ x. (x.0, x.1.now)) result (offset_at least bytes.now) }
-{
-    let (offset, rest) = byte_of(bytes)?;
-    kept(offset < 128 && least <= offset as u32, offset, rest)
-}
 
 #[derive(Drop)]
 struct Offsets;
@@ -36,13 +28,10 @@ impl InOrder for Offsets {
 
     ghost after = { λ _. one_more };
 
-    fn item<'a>(
-        &self,
-        _alloc: Global,
-        least: u32,
-        bytes: &'a [u8],
-    ) -> Result<(u8, &'a [u8]), ReadError> {
-        offset_of(least, bytes)
+    #[tactic(auto, unfolding(crate::specs::Reading::offset_at))]
+    fn item<'a>(&self, _alloc: Global, least: u32, bytes: &'a [u8]) -> Read<'a, u8> {
+        let (offset, rest) = byte_of(bytes)?;
+        kept(offset < 128 && least <= offset as u32, offset, rest)
     }
 
     fn least_after(&self, offset: &u8) -> u32 {
@@ -56,7 +45,7 @@ impl Item<()> for ParserState {
     ghost item_at = { λ _. state_at };
 
     #[tactic(auto, unfolding(crate::specs::Reading::state_at))]
-    fn read(alloc: Global, _given: (), bytes: &[u8]) -> Result<(ParserState, &[u8]), ReadError> {
+    fn read(alloc: Global, _given: (), bytes: &[u8]) -> Read<ParserState> {
         let (count, rest) = byte_of(bytes)?;
         let (lookups, rest) = items_of(alloc, &Offsets, count as u64, rest)?;
         Ok((ParserState { lookups }, rest))
@@ -64,7 +53,7 @@ impl Item<()> for ParserState {
 }
 
 #[tactic(auto, unfolding(crate::specs::Reading::states_at))]
-fn states_of(alloc: Global, bytes: &[u8]) -> Result<(Sequence<ParserState>, &[u8]), ReadError>
+fn states_of(alloc: Global, bytes: &[u8]) -> Read<Sequence<ParserState>>
     ensures { Gives (λ x. (x.0, x.1.now)) result (states_at bytes.now) }
 {
     let (count, rest) = two_of(bytes)?;
@@ -75,7 +64,7 @@ fn states_of(alloc: Global, bytes: &[u8]) -> Result<(Sequence<ParserState>, &[u8
 // ---- when an entry is taken
 
 #[tactic(auto, unfolding(crate::specs::Reading::entry_state_at))]
-fn entry_state_of(states: usize, least: u32, bytes: &[u8]) -> Result<(u8, &[u8]), ReadError>
+fn entry_state_of(states: usize, least: u32, bytes: &[u8]) -> Read<u8>
     ensures { Gives (λ x. (x.0, x.1.now)) result (entry_state_at states least bytes.now) }
 {
     let (state, rest) = byte_of(bytes)?;
@@ -118,7 +107,7 @@ fn is_match(lookups: usize, value: u32, mask: u32) -> bool
 }
 
 #[tactic(auto, unfolding(crate::specs::Reading::match_at))]
-fn match_of(lookups: usize, bytes: &[u8]) -> Result<((u32, u32), &[u8]), ReadError>
+fn match_of(lookups: usize, bytes: &[u8]) -> Read<(u32, u32)>
     ensures { Gives (λ x. (x.0, x.1.now)) result (match_at lookups bytes.now) }
 {
     let (value, rest) = four_of(bytes)?;
@@ -127,7 +116,7 @@ fn match_of(lookups: usize, bytes: &[u8]) -> Result<((u32, u32), &[u8]), ReadErr
 }
 
 #[tactic(auto, unfolding(crate::specs::Reading::need_at))]
-fn need_of(bytes: &[u8]) -> Result<((u8, u8), &[u8]), ReadError>
+fn need_of(bytes: &[u8]) -> Read<(u8, u8)>
     ensures { Gives (λ x. (x.0, x.1.now)) result (need_at bytes.now) }
 {
     let (need, rest) = byte_of(bytes)?;
@@ -146,11 +135,7 @@ struct EntryHead {
 }
 
 #[tactic(auto, unfolding(crate::specs::Reading::entry_head_at))]
-fn entry_head_of<'a>(
-    states: &[ParserState],
-    least: u32,
-    bytes: &'a [u8],
-) -> Result<(EntryHead, &'a [u8]), ReadError>
+fn entry_head_of<'a>(states: &[ParserState], least: u32, bytes: &'a [u8]) -> Read<'a, EntryHead>
     ensures { Gives (λ x. (x.0, x.1.now)) result (entry_head_at states.now least bytes.now) }
 {
     let (state, rest) = entry_state_of(states.len(), least, bytes)?;
@@ -169,7 +154,7 @@ fn entry_head_of<'a>(
 // ---- what an entry does
 
 #[tactic(auto, unfolding(crate::specs::Reading::later_state_at))]
-fn later_state_of(states: usize, state: u8, bytes: &[u8]) -> Result<(u8, &[u8]), ReadError>
+fn later_state_of(states: usize, state: u8, bytes: &[u8]) -> Read<u8>
     ensures { Gives (λ x. (x.0, x.1.now)) result (later_state_at states state bytes.now) }
 {
     let (to, rest) = byte_of(bytes)?;
@@ -177,7 +162,7 @@ fn later_state_of(states: usize, state: u8, bytes: &[u8]) -> Result<(u8, &[u8]),
 }
 
 #[tactic(auto, unfolding(crate::specs::Reading::next_at))]
-fn next_of(states: usize, state: u8, bytes: &[u8]) -> Result<(Next, &[u8]), ReadError>
+fn next_of(states: usize, state: u8, bytes: &[u8]) -> Read<Next>
     ensures { Gives (λ x. (x.0, x.1.now)) result (next_at states state bytes.now) }
 {
     match bytes {
@@ -193,7 +178,7 @@ fn next_of(states: usize, state: u8, bytes: &[u8]) -> Result<(Next, &[u8]), Read
 }
 
 #[tactic(auto, unfolding(crate::specs::Reading::bits_at))]
-fn bits_of(need: u8, bytes: &[u8]) -> Result<((u16, Lane), &[u8]), ReadError>
+fn bits_of(need: u8, bytes: &[u8]) -> Read<(u16, Lane)>
     ensures { Gives (λ x. (x.0, x.1.now)) result (bits_at need bytes.now) }
 {
     let (from, rest) = two_of(bytes)?;
@@ -212,7 +197,7 @@ impl Item<u8> for Extract {
     ghost item_at = { extract_at };
 
     #[tactic(auto, unfolding(crate::specs::Reading::extract_at))]
-    fn read(_alloc: Global, need: u8, bytes: &[u8]) -> Result<(Extract, &[u8]), ReadError> {
+    fn read(_alloc: Global, need: u8, bytes: &[u8]) -> Read<Extract> {
         match bytes {
             [] => Err(ReadError::Fault(ReadFault::Short)),
             [0, rest @ ..] => {
@@ -230,30 +215,6 @@ impl Item<u8> for Extract {
 
 // ---- entries
 
-#[tactic(auto, unfolding(crate::specs::Reading::entry_at))]
-fn entry_of<'a>(
-    alloc: Global,
-    states: &[ParserState],
-    least: u32,
-    bytes: &'a [u8],
-) -> Result<(ParserEntry, &'a [u8]), ReadError>
-    ensures { Gives (λ x. (x.0, x.1.now)) result (entry_at states.now least bytes.now) }
-{
-    let (head, rest) = entry_head_of(states, least, bytes)?;
-    let (next, rest) = next_of(states.len(), head.state, rest)?;
-    let (extracts, rest) = list8_of(alloc, head.need, rest)?;
-    let entry = ParserEntry {
-        state: head.state,
-        value: head.value,
-        mask: head.mask,
-        need: head.need,
-        advance: head.advance,
-        next,
-        extracts,
-    };
-    Ok((entry, rest))
-}
-
 #[derive(Drop)]
 struct Entries<'s> {
     states: &'s [ParserState],
@@ -268,13 +229,21 @@ impl<'s> InOrder for Entries<'s> {
 
     ghost after = { λ _. state_of };
 
-    fn item<'a>(
-        &self,
-        alloc: Global,
-        least: u32,
-        bytes: &'a [u8],
-    ) -> Result<(ParserEntry, &'a [u8]), ReadError> {
-        entry_of(alloc, self.states, least, bytes)
+    #[tactic(auto, unfolding(crate::specs::Reading::entry_at))]
+    fn item<'a>(&self, alloc: Global, least: u32, bytes: &'a [u8]) -> Read<'a, ParserEntry> {
+        let (head, rest) = entry_head_of(self.states, least, bytes)?;
+        let (next, rest) = next_of(self.states.len(), head.state, rest)?;
+        let (extracts, rest) = list8_of(alloc, head.need, rest)?;
+        let entry = ParserEntry {
+            state: head.state,
+            value: head.value,
+            mask: head.mask,
+            need: head.need,
+            advance: head.advance,
+            next,
+            extracts,
+        };
+        Ok((entry, rest))
     }
 
     fn least_after(&self, entry: &ParserEntry) -> u32 {
@@ -286,7 +255,7 @@ fn entries_of<'a>(
     alloc: Global,
     states: &[ParserState],
     bytes: &'a [u8],
-) -> Result<(Sequence<ParserEntry>, &'a [u8]), ReadError>
+) -> Read<'a, Sequence<ParserEntry>>
     ensures { Gives (λ x. (x.0, x.1.now)) result (listed (number_at 2) (items_at (entry_at states.now) state_of 0) bytes.now) }
 {
     let (count, rest) = two_of(bytes)?;
@@ -295,7 +264,7 @@ fn entries_of<'a>(
 
 /// The states behind their count, and the entries behind theirs.
 #[tactic(auto, unfolding(crate::specs::Reading::parser_at))]
-pub fn parser_of(alloc: Global, bytes: &[u8]) -> Result<(ParserConfig, &[u8]), ReadError>
+pub fn parser_of(alloc: Global, bytes: &[u8]) -> Read<ParserConfig>
     ensures { Gives (λ x. (x.0, x.1.now)) result (parser_at bytes.now) }
 {
     let (states, rest) = states_of(alloc, bytes)?;

@@ -5,7 +5,7 @@ ghost use Rattle.rmt_config.specs.declared.config.Memory.{Memory};
 ghost use Rattle.rmt_image.specs.Readers.{Gives, kept, listed, list_at, byte_at, number_at, at_most};
 ghost use Rattle.rmt_image.specs.Reading.{marks_at, slot_head_at, may_have_numbers, cell_number_at, numbers_at, slot_at, unit_at};
 
-use crate::fault::{ReadError, ReadFault};
+use crate::fault::{Read, ReadError, ReadFault};
 use crate::reading::gate::{gate_of, guard_of};
 use crate::reading::items::{Item, list_of, list16_of};
 use crate::reading::memory::memory_of;
@@ -16,7 +16,7 @@ use std::alloc::Global;
 
 // ---- what stands before the memory
 
-fn actions_of(bytes: &[u8]) -> Result<(u8, &[u8]), ReadError>
+fn actions_of(bytes: &[u8]) -> Read<u8>
     ensures { Gives (λ x. (x.0, x.1.now)) result (kept (at_most 14) byte_at bytes.now) }
 {
     let (actions, rest) = byte_of(bytes)?;
@@ -32,7 +32,7 @@ struct Marks {
 }
 
 #[tactic(auto, unfolding(crate::specs::Reading::marks_at))]
-fn marks_of(bytes: &[u8]) -> Result<(Marks, &[u8]), ReadError>
+fn marks_of(bytes: &[u8]) -> Read<Marks>
     ensures { Gives (λ x. (x.0, x.1.now)) result (marks_at bytes.now) }
 {
     let (counted, rest) = flag_of(bytes)?;
@@ -47,7 +47,7 @@ fn marks_of(bytes: &[u8]) -> Result<(Marks, &[u8]), ReadError>
 }
 
 #[tactic(auto, unfolding(crate::specs::Reading::slot_head_at))]
-fn slot_head_of(alloc: Global, bytes: &[u8]) -> Result<(SlotUnit, &[u8]), ReadError>
+fn slot_head_of(alloc: Global, bytes: &[u8]) -> Read<SlotUnit>
     ensures read { Gives (λ x. (x.0, x.1.now)) result (slot_head_at bytes.now) }
     ensures few { IfOk result (λ x. length x.0.keys < 65536) }
 {
@@ -78,7 +78,7 @@ impl Item<()> for CellNumber {
     ghost item_at = { λ _. cell_number_at };
 
     #[tactic(auto, unfolding(crate::specs::Reading::cell_number_at))]
-    fn read(_alloc: Global, _given: (), bytes: &[u8]) -> Result<(CellNumber, &[u8]), ReadError> {
+    fn read(_alloc: Global, _given: (), bytes: &[u8]) -> Read<CellNumber> {
         let (cell, rest) = four_of(bytes)?;
         let (number, rest) = four_of(rest)?;
         Ok((CellNumber { cell, number }, rest))
@@ -96,11 +96,7 @@ fn is_count_allowed(memory: &Memory, count: u32) -> bool
 }
 
 #[tactic(auto, unfolding(crate::specs::Reading::numbers_at))]
-fn numbers_of<'a>(
-    alloc: Global,
-    memory: &Memory,
-    bytes: &'a [u8],
-) -> Result<(Sequence<CellNumber>, &'a [u8]), ReadError>
+fn numbers_of<'a>(alloc: Global, memory: &Memory, bytes: &'a [u8]) -> Read<'a, Sequence<CellNumber>>
     ensures { Gives (λ x. (x.0, x.1.now)) result (numbers_at memory.now bytes.now) }
 {
     let (count, rest) = four_of(bytes)?;
@@ -111,7 +107,7 @@ fn numbers_of<'a>(
 // ---- units
 
 #[tactic(auto, unfolding(crate::specs::Reading::slot_at))]
-fn slot_of(alloc: Global, bytes: &[u8]) -> Result<(SlotUnit, &[u8]), ReadError>
+fn slot_of(alloc: Global, bytes: &[u8]) -> Read<SlotUnit>
     ensures { Gives (λ x. (x.0, x.1.now)) result (slot_at bytes.now) }
 {
     let (mut slot, rest) = slot_head_of(alloc, bytes)?;
@@ -128,7 +124,7 @@ impl Item<()> for Unit {
     ghost item_at = { λ _. unit_at };
 
     #[tactic(auto, unfolding(crate::specs::Reading::unit_at))]
-    fn read(alloc: Global, _given: (), bytes: &[u8]) -> Result<(Unit, &[u8]), ReadError> {
+    fn read(alloc: Global, _given: (), bytes: &[u8]) -> Read<Unit> {
         match bytes {
             [] => Err(ReadError::Fault(ReadFault::Short)),
             [0, rest @ ..] => {

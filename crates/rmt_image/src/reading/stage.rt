@@ -5,10 +5,10 @@ ghost use Rattle.rmt_image.specs.Readers.{Gives, kept, listed, list_at, items_at
 ghost use Rattle.rmt_image.specs.Reading.{srow_at, trow_at, start_fits, stage_head_at, stage_tail_at, stage_at, next_start};
 ghost use Rattle.rmt_config.specs.CodeForm.{places_of};
 
-use crate::fault::ReadError;
+use crate::fault::Read;
 use crate::reading::items::{InOrder, Item, items_of, list8_of, list32_of};
 use crate::reading::memory::block_of;
-use crate::reading::number::{byte_of, five_of, fourteen_of, kept, two_of};
+use crate::reading::number::{byte_of, kept, number_from, two_of};
 use crate::reading::vliw::code_of;
 use rmt_bits::sequence::Sequence;
 use rmt_config::config::{SramRow, Stage, TcamRow, Unit};
@@ -22,10 +22,10 @@ impl Item<()> for SramRow {
     ghost item_at = { λ _. srow_at };
 
     #[tactic(auto, unfolding(crate::specs::Reading::srow_at))]
-    fn read(_alloc: Global, _given: (), bytes: &[u8]) -> Result<(SramRow, &[u8]), ReadError> {
+    fn read(_alloc: Global, _given: (), bytes: &[u8]) -> Read<SramRow> {
         let (block, rest) = block_of(106, bytes)?;
         let (row, rest) = two_of(rest)?;
-        let (bits, rest) = fourteen_of(rest)?;
+        let (bits, rest) = number_from(14, rest)?;
         Ok((SramRow { block, row, bits }, rest))
     }
 }
@@ -36,16 +36,16 @@ impl Item<()> for TcamRow {
     ghost item_at = { λ _. trow_at };
 
     #[tactic(auto, unfolding(crate::specs::Reading::trow_at))]
-    fn read(_alloc: Global, _given: (), bytes: &[u8]) -> Result<(TcamRow, &[u8]), ReadError> {
+    fn read(_alloc: Global, _given: (), bytes: &[u8]) -> Read<TcamRow> {
         let (block, rest) = block_of(16, bytes)?;
         let (row, rest) = two_of(rest)?;
-        let (value, rest) = five_of(rest)?;
-        let (mask, rest) = five_of(rest)?;
+        let (value, rest) = number_from(5, rest)?;
+        let (mask, rest) = number_from(5, rest)?;
         let row = TcamRow {
             block,
             row,
-            value,
-            mask,
+            value: value as u64,
+            mask: mask as u64,
         };
         Ok((row, rest))
     }
@@ -53,7 +53,7 @@ impl Item<()> for TcamRow {
 
 // ---- stages
 
-fn start_of(least: u32, bytes: &[u8]) -> Result<(u16, &[u8]), ReadError>
+fn start_of(least: u32, bytes: &[u8]) -> Read<u16>
     ensures { Gives (λ x. (x.0, x.1.now)) result (kept (start_fits least) (number_at 2) bytes.now) }
 {
     let (start, rest) = two_of(bytes)?;
@@ -66,36 +66,12 @@ fn start_of(least: u32, bytes: &[u8]) -> Result<(u16, &[u8]), ReadError>
 }
 
 #[tactic(auto, unfolding(crate::specs::Reading::stage_head_at))]
-fn stage_head_of(
-    alloc: Global,
-    least: u32,
-    bytes: &[u8],
-) -> Result<((u16, Sequence<Unit>), &[u8]), ReadError>
+fn stage_head_of(alloc: Global, least: u32, bytes: &[u8]) -> Read<(u16, Sequence<Unit>)>
     ensures { Gives (λ x. ((x.0.0, x.0.1), x.1.now)) result (stage_head_at least bytes.now) }
 {
     let (start, rest) = start_of(least, bytes)?;
     let (units, rest) = list8_of(alloc, (), rest)?;
     Ok(((start, units), rest))
-}
-
-#[tactic(auto, unfolding(crate::specs::Reading::stage_at, crate::specs::Reading::stage_tail_at))]
-fn stage_of(alloc: Global, least: u32, bytes: &[u8]) -> Result<(Stage, &[u8]), ReadError>
-    ensures { Gives (λ x. (x.0, x.1.now)) result (stage_at least bytes.now) }
-{
-    let ((start, units), rest) = stage_head_of(alloc, least, bytes)?;
-    let (code, rest) = code_of(alloc, units.as_slice(), rest)?;
-    let (srows, rest) = list32_of(alloc, (), rest)?;
-    let (trows, rest) = list32_of(alloc, (), rest)?;
-    Ok((
-        Stage {
-            start,
-            units,
-            code,
-            srows,
-            trows,
-        },
-        rest,
-    ))
 }
 
 #[derive(Drop)]
@@ -110,13 +86,20 @@ impl InOrder for Stages {
 
     ghost after = { λ _. next_start };
 
-    fn item<'a>(
-        &self,
-        alloc: Global,
-        least: u32,
-        bytes: &'a [u8],
-    ) -> Result<(Stage, &'a [u8]), ReadError> {
-        stage_of(alloc, least, bytes)
+    #[tactic(auto, unfolding(crate::specs::Reading::stage_at, crate::specs::Reading::stage_tail_at))]
+    fn item<'a>(&self, alloc: Global, least: u32, bytes: &'a [u8]) -> Read<'a, Stage> {
+        let ((start, units), rest) = stage_head_of(alloc, least, bytes)?;
+        let (code, rest) = code_of(alloc, units.as_slice(), rest)?;
+        let (srows, rest) = list32_of(alloc, (), rest)?;
+        let (trows, rest) = list32_of(alloc, (), rest)?;
+        let stage = Stage {
+            start,
+            units,
+            code,
+            srows,
+            trows,
+        };
+        Ok((stage, rest))
     }
 
     fn least_after(&self, stage: &Stage) -> u32 {
@@ -125,7 +108,7 @@ impl InOrder for Stages {
 }
 
 /// The stages behind their count.
-pub fn stages_of(alloc: Global, bytes: &[u8]) -> Result<(Sequence<Stage>, &[u8]), ReadError>
+pub fn stages_of(alloc: Global, bytes: &[u8]) -> Read<Sequence<Stage>>
     ensures { Gives (λ x. (x.0, x.1.now)) result (listed byte_at (items_at stage_at next_start 0) bytes.now) }
 {
     let (count, rest) = byte_of(bytes)?;

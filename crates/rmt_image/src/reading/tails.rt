@@ -4,7 +4,7 @@ ghost use Rattle.std.specs.Prelude.{◌≡◌, ◌≤◌, slice_get, IfOk};
 ghost use Rattle.rmt_image.specs.Readers.{Gives, kept, below, byte_at};
 ghost use Rattle.rmt_image.specs.ReadingTails.{may_have_tail, need_of, tail_entry_at, field_at, lengths_fit, lengths_at, tail_at, next_entry, tails_at};
 
-use crate::fault::ReadError;
+use crate::fault::Read;
 use crate::reading::items::{InOrder, items_of};
 use crate::reading::number::{byte_of, kept, two_of};
 use rmt_bits::sequence::Sequence;
@@ -32,11 +32,7 @@ fn need(entries: &[ParserEntry], entry: u16) -> u8
 }
 
 #[tactic(auto, unfolding(crate::specs::ReadingTails::tail_entry_at))]
-fn tail_entry_of<'a>(
-    entries: &[ParserEntry],
-    least: u32,
-    bytes: &'a [u8],
-) -> Result<(u16, &'a [u8]), ReadError>
+fn tail_entry_of<'a>(entries: &[ParserEntry], least: u32, bytes: &'a [u8]) -> Read<'a, u16>
     ensures { Gives (λ x. (x.0, x.1.now)) result (tail_entry_at entries.now least bytes.now) }
 {
     let (entry, rest) = two_of(bytes)?;
@@ -47,7 +43,7 @@ fn tail_entry_of<'a>(
     )
 }
 
-fn header_of(headers: usize, bytes: &[u8]) -> Result<(u8, &[u8]), ReadError>
+fn header_of(headers: usize, bytes: &[u8]) -> Read<u8>
     ensures { Gives (λ x. (x.0, x.1.now)) result (kept (below headers) byte_at bytes.now) }
 {
     let (header, rest) = byte_of(bytes)?;
@@ -56,7 +52,7 @@ fn header_of(headers: usize, bytes: &[u8]) -> Result<(u8, &[u8]), ReadError>
 
 /// The first bit and the bits of the field that tells a tail's length.
 #[tactic(auto, unfolding(crate::specs::ReadingTails::field_at))]
-fn field_of(need: u8, bytes: &[u8]) -> Result<((u16, u8), &[u8]), ReadError>
+fn field_of(need: u8, bytes: &[u8]) -> Read<(u16, u8)>
     ensures few { IfOk result (λ x. x.0.1 ≤ 8) }
     ensures read { Gives (λ x. (x.0, x.1.now)) result (field_at need bytes.now) }
 {
@@ -77,7 +73,7 @@ fn is_length(len: u8, unit: u8, base: u8) -> bool
 
 /// The unit and the base of lengths, which a field of `len` bits tells.
 #[tactic(auto, unfolding(crate::specs::ReadingTails::lengths_at))]
-fn lengths_of(len: u8, bytes: &[u8]) -> Result<((u8, u8), &[u8]), ReadError>
+fn lengths_of(len: u8, bytes: &[u8]) -> Read<(u8, u8)>
     requires { len ≤ 8 }
     ensures { Gives (λ x. (x.0, x.1.now)) result (lengths_at len bytes.now) }
 {
@@ -85,30 +81,6 @@ fn lengths_of(len: u8, bytes: &[u8]) -> Result<((u8, u8), &[u8]), ReadError>
     let (unit, rest) = kept(1 <= unit, unit, rest)?;
     let (base, rest) = byte_of(rest)?;
     kept(is_length(len, unit, base), (unit, base), rest)
-}
-
-#[tactic(auto, unfolding(crate::specs::ReadingTails::tail_at))]
-fn tail_of<'a>(
-    entries: &[ParserEntry],
-    headers: usize,
-    least: u32,
-    bytes: &'a [u8],
-) -> Result<(TailOf, &'a [u8]), ReadError>
-    ensures { Gives (λ x. (x.0, x.1.now)) result (tail_at entries.now headers least bytes.now) }
-{
-    let (entry, rest) = tail_entry_of(entries, least, bytes)?;
-    let (header, rest) = header_of(headers, rest)?;
-    let ((from, len), rest) = field_of(need(entries, entry), rest)?;
-    let ((unit, base), rest) = lengths_of(len, rest)?;
-    let tail = TailOf {
-        entry,
-        header,
-        from,
-        len,
-        unit,
-        base,
-    };
-    Ok((tail, rest))
 }
 
 /// Tails of some of these entries and of some of that many headers.
@@ -127,13 +99,21 @@ impl<'s> InOrder for TailsOf<'s> {
 
     ghost after = { λ _. next_entry };
 
-    fn item<'a>(
-        &self,
-        _alloc: Global,
-        least: u32,
-        bytes: &'a [u8],
-    ) -> Result<(TailOf, &'a [u8]), ReadError> {
-        tail_of(self.entries, self.headers, least, bytes)
+    #[tactic(auto, unfolding(crate::specs::ReadingTails::tail_at))]
+    fn item<'a>(&self, _alloc: Global, least: u32, bytes: &'a [u8]) -> Read<'a, TailOf> {
+        let (entry, rest) = tail_entry_of(self.entries, least, bytes)?;
+        let (header, rest) = header_of(self.headers, rest)?;
+        let ((from, len), rest) = field_of(need(self.entries, entry), rest)?;
+        let ((unit, base), rest) = lengths_of(len, rest)?;
+        let tail = TailOf {
+            entry,
+            header,
+            from,
+            len,
+            unit,
+            base,
+        };
+        Ok((tail, rest))
     }
 
     fn least_after(&self, tail: &TailOf) -> u32 {
@@ -148,7 +128,7 @@ pub fn tails_of<'a>(
     entries: &[ParserEntry],
     headers: usize,
     bytes: &'a [u8],
-) -> Result<(Sequence<TailOf>, &'a [u8]), ReadError>
+) -> Read<'a, Sequence<TailOf>>
     ensures { Gives (λ x. (x.0, x.1.now)) result (tails_at entries.now headers bytes.now) }
 {
     let (count, rest) = two_of(bytes)?;

@@ -5,8 +5,8 @@ ghost use Rattle.rmt_config.specs.CodeForm.{slot_places, places_of};
 ghost use Rattle.rmt_image.specs.Readers.{Gives, kept, where_, each, items_at, byte_at, number_at, below};
 ghost use Rattle.rmt_image.specs.Reading.{fits_word, fits_held, source_at, kind_at, operation_at, next_word, vliw_at};
 
-use crate::fault::{ReadError, ReadFault};
-use crate::reading::items::{InOrder, items_of};
+use crate::fault::{Read, ReadError, ReadFault};
+use crate::reading::items::{InOrder, items_of, put};
 use crate::reading::lane::{lane_from, word_of};
 use crate::reading::number::{byte_of, four_of, kept, two_of};
 use rmt_bits::lane::word_size;
@@ -17,7 +17,7 @@ use std::alloc::{AllocError, Global};
 
 // ---- operations
 
-fn low_of(len: u8, word: u8, bytes: &[u8]) -> Result<(u8, &[u8]), ReadError>
+fn low_of(len: u8, word: u8, bytes: &[u8]) -> Read<u8>
     requires { word < 224 }
     ensures { Gives (λ x. (x.0, x.1.now)) result (kept (fits_word len word) byte_at bytes.now) }
 {
@@ -25,14 +25,14 @@ fn low_of(len: u8, word: u8, bytes: &[u8]) -> Result<(u8, &[u8]), ReadError>
     kept(low as u16 + len as u16 <= word_size(word) as u16, low, rest)
 }
 
-fn held_of(place: InstructionRole, len: u8, bytes: &[u8]) -> Result<(u16, &[u8]), ReadError>
+fn held_of(place: InstructionRole, len: u8, bytes: &[u8]) -> Read<u16>
     ensures { Gives (λ x. (x.0, x.1.now)) result (kept (fits_held place len) (number_at 2) bytes.now) }
 {
     let (low, rest) = two_of(bytes)?;
     kept(low as u32 + len as u32 <= place.held as u32, low, rest)
 }
 
-fn constant_of(len: u8, bytes: &[u8]) -> Result<(u32, &[u8]), ReadError>
+fn constant_of(len: u8, bytes: &[u8]) -> Read<u32>
     requires { len ≤ 32 }
     ensures { Gives (λ x. (x.0, x.1.now)) result (kept (below (2 ^ len)) (number_at 4) bytes.now) }
 {
@@ -42,7 +42,7 @@ fn constant_of(len: u8, bytes: &[u8]) -> Result<(u32, &[u8]), ReadError>
 
 /// A source of `len` bits, at most 32, of an instruction at a place.
 #[tactic(auto, unfolding(crate::specs::Reading::source_at))]
-fn source_of(place: InstructionRole, len: u8, bytes: &[u8]) -> Result<(Source, &[u8]), ReadError>
+fn source_of(place: InstructionRole, len: u8, bytes: &[u8]) -> Read<Source>
     requires { len ≤ 32 }
     ensures { Gives (λ x. (x.0, x.1.now)) result (source_at place len bytes.now) }
 {
@@ -69,7 +69,7 @@ fn source_of(place: InstructionRole, len: u8, bytes: &[u8]) -> Result<(Source, &
 }
 
 #[tactic(auto, unfolding(crate::specs::Reading::kind_at))]
-fn kind_of(bytes: &[u8]) -> Result<(OpKind, &[u8]), ReadError>
+fn kind_of(bytes: &[u8]) -> Read<OpKind>
     ensures { Gives (λ x. (x.0, x.1.now)) result (kind_at bytes.now) }
 {
     let (byte, rest) = byte_of(bytes)?;
@@ -83,29 +83,6 @@ fn kind_of(bytes: &[u8]) -> Result<(OpKind, &[u8]), ReadError>
         _ => return Err(ReadError::Fault(ReadFault::Form)),
     };
     Ok((kind, rest))
-}
-
-#[tactic(auto, unfolding(crate::specs::Reading::operation_at))]
-fn operation_of(
-    place: InstructionRole,
-    least: u32,
-    bytes: &[u8],
-) -> Result<(Operation, &[u8]), ReadError>
-    ensures { Gives (λ x. (x.0, x.1.now)) result (operation_at place least bytes.now) }
-{
-    let (lane, rest) = lane_from(least, bytes)?;
-    let (kind, rest) = kind_of(rest)?;
-    let (left, rest) = source_of(place, lane.len, rest)?;
-    let (right, rest) = source_of(place, lane.len, rest)?;
-    let op = Operation {
-        word: lane.word,
-        low: lane.low,
-        len: lane.len,
-        kind,
-        left,
-        right,
-    };
-    kept(kind_fits(kind, right), op, rest)
 }
 
 /// The operations of an instruction at a place.
@@ -123,13 +100,21 @@ impl InOrder for Operations {
 
     ghost after = { λ _. next_word };
 
-    fn item<'a>(
-        &self,
-        _alloc: Global,
-        least: u32,
-        bytes: &'a [u8],
-    ) -> Result<(Operation, &'a [u8]), ReadError> {
-        operation_of(self.place, least, bytes)
+    #[tactic(auto, unfolding(crate::specs::Reading::operation_at))]
+    fn item<'a>(&self, _alloc: Global, least: u32, bytes: &'a [u8]) -> Read<'a, Operation> {
+        let (lane, rest) = lane_from(least, bytes)?;
+        let (kind, rest) = kind_of(rest)?;
+        let (left, rest) = source_of(self.place, lane.len, rest)?;
+        let (right, rest) = source_of(self.place, lane.len, rest)?;
+        let op = Operation {
+            word: lane.word,
+            low: lane.low,
+            len: lane.len,
+            kind,
+            left,
+            right,
+        };
+        kept(kind_fits(kind, right), op, rest)
     }
 
     fn least_after(&self, op: &Operation) -> u32 {
@@ -138,7 +123,7 @@ impl InOrder for Operations {
 }
 
 #[tactic(auto, unfolding(crate::specs::Reading::vliw_at))]
-fn vliw_of(alloc: Global, place: InstructionRole, bytes: &[u8]) -> Result<(Vliw, &[u8]), ReadError>
+fn vliw_of(alloc: Global, place: InstructionRole, bytes: &[u8]) -> Read<Vliw>
     ensures { Gives (λ x. (x.0, x.1.now)) result (vliw_at place bytes.now) }
 {
     let (count, rest) = byte_of(bytes)?;
@@ -182,25 +167,21 @@ fn code_at<'a>(
     alloc: Global,
     places: &[InstructionRole],
     bytes: &'a [u8],
-) -> Result<(Sequence<Vliw>, &'a [u8]), ReadError>
+) -> Read<'a, Sequence<Vliw>>
     ensures { Gives (λ x. (x.0, x.1.now)) result (each vliw_at places.now bytes.now) }
 {
     let mut code = Vec::new(alloc);
     let mut rest = bytes;
     for place in places {
         let (vliw, after) = vliw_of(alloc, *place, rest)?;
-        code.push(vliw)?;
+        put(&mut code, vliw)?;
         rest = after;
     }
     Ok((Sequence::from_vec(code), rest))
 }
 
 /// An instruction for each place of the units of a stage.
-pub fn code_of<'a>(
-    alloc: Global,
-    units: &[Unit],
-    bytes: &'a [u8],
-) -> Result<(Sequence<Vliw>, &'a [u8]), ReadError>
+pub fn code_of<'a>(alloc: Global, units: &[Unit], bytes: &'a [u8]) -> Read<'a, Sequence<Vliw>>
     ensures { Gives (λ x. (x.0, x.1.now)) result (each vliw_at (places_of units.now) bytes.now) }
 {
     let places = place_list(alloc, units)?;

@@ -2,6 +2,7 @@
 
 ghost use Rattle.std.specs.Prelude.{◌≡◌, ◌++◌, ◌∷◌, [], ◌<◌, ◌^◌, length, OnOk};
 ghost use Rattle.rmt_config.specs.Spelling.{spelled_flag, spelled_guard, spelled_test, spelled_gate, spelled_memory, spelled_number, spelled_slot_head, spelled_slot, spelled_unit, CountsFitSlot, CountsFitUnit};
+ghost use Rattle.rmt_image.specs.Formats.{spelled_format};
 
 use crate::writing::spelled::{Spelled, put_four, put_list8, put_list16, put_list32, put_two};
 use rmt_config::config::{CellNumber, GateTest, GateUnit, Memory, SlotUnit, Unit, UnitGuard};
@@ -44,8 +45,9 @@ fn put_gate(out: &mut Vec<u8>, gate: &GateUnit) -> Result<(), AllocError>
     put_list8(out, gate.tests.as_slice())
 }
 
-fn put_memory(out: &mut Vec<u8>, memory: &Memory) -> Result<(), AllocError>
-    ensures { OnOk result (out.new.items ≡ out.old.items ++ spelled_memory memory.now) }
+/// The numbers of a memory before its lists of blocks.
+fn put_format(out: &mut Vec<u8>, memory: &Memory) -> Result<(), AllocError>
+    ensures { OnOk result (out.new.items ≡ out.old.items ++ spelled_format memory.now) }
 {
     match memory {
         Memory::Without => out.extend_from_slice(&[0]),
@@ -54,24 +56,34 @@ fn put_memory(out: &mut Vec<u8>, memory: &Memory) -> Result<(), AllocError>
             per,
             quanta,
             first_way,
-            keys,
-            records,
-            counters,
+            ..
         } => {
             out.extend_from_slice(&[1, *width])?;
             put_two(out, *per)?;
-            out.extend_from_slice(&[*quanta, *first_way])?;
-            out.extend_from_slice(keys.as_slice())?;
-            out.extend_from_slice(records.as_slice())?;
-            out.extend_from_slice(counters.as_slice())
+            out.extend_from_slice(&[*quanta, *first_way])
         }
-        Memory::Ternary {
-            quanta,
+        Memory::Ternary { quanta, .. } => out.extend_from_slice(&[2, *quanta]),
+    }
+}
+
+fn put_memory(out: &mut Vec<u8>, memory: &Memory) -> Result<(), AllocError>
+    ensures { OnOk result (out.new.items ≡ out.old.items ++ spelled_memory memory.now) }
+{
+    put_format(out, memory)?;
+    match memory {
+        Memory::Without => Ok(()),
+        Memory::Exact {
             keys,
             records,
             counters,
+            ..
+        }
+        | Memory::Ternary {
+            keys,
+            records,
+            counters,
+            ..
         } => {
-            out.extend_from_slice(&[2, *quanta])?;
             out.extend_from_slice(keys.as_slice())?;
             out.extend_from_slice(records.as_slice())?;
             out.extend_from_slice(counters.as_slice())

@@ -28,20 +28,6 @@ table c { default three(); }
 control { apply a; apply b; apply c; }
 ";
 
-/// Table b looks at what a writes, and c writes it again.
-pub const STRICT_AND_WEAK: &[u8] = b"
-header h { f : 8; } next accept;
-meta { x : 8; }
-action sx() { meta.x = h.f; }
-action cx() { meta.x = 0; }
-action go(p : 9) { out_port = p; }
-action no() { }
-table a { default sx(); }
-table b { exact meta.x; actions go; size 16; default no(); }
-table c { default cx(); }
-control { apply a; apply b; apply c; }
-";
-
 /// Four tables that set one field: a in one arm of t, b below a gate in the same arm, c in the other arm, d behind them.
 pub const ARMS: &[u8] = b"
 header h { f : 8; } next accept;

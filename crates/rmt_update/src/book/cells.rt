@@ -13,7 +13,7 @@ ghost use Rattle.rmt_update.specs.Kept.{IsKept};
 
 use crate::book::entry_words::entry_words;
 use crate::book::kept::Kept;
-use crate::book::rows::{tcam_masks, tcam_values};
+use crate::book::rows::tcam_words;
 use crate::book::words::{bits_at, bytes_at};
 use rmt_config::config::{CellNumber, SlotUnit, SramRow, Stage, TcamRow};
 use rmt_config::form::lane::key_bits;
@@ -133,10 +133,9 @@ fn ternary_key(
 {
     let side = divided_up(bits, 40);
     let unit = piece_at(keys, side, cell / 2048);
-    let values = tcam_values(alloc, rows, unit, cell % 2048)?;
-    let masks = tcam_masks(alloc, rows, unit, cell % 2048)?;
-    let value_words = values.as_slice();
-    let mask_words = masks.as_slice();
+    let compared = tcam_words(alloc, rows, unit, cell % 2048)?;
+    let value_words = compared.values.as_slice();
+    let mask_words = compared.masks.as_slice();
     let key = bytes_at(alloc, value_words, 40, 0, bits)?;
     let mask = bytes_at(alloc, mask_words, 40, 0, bits)?;
     Ok(KeyBytes { key, mask })

@@ -13,7 +13,7 @@ ghost use Rattle.rmt_cuckoo.specs.declared.layout.Ways.{Ways as WaysOf};
 ghost use Rattle.rmt_cuckoo.specs.Loading.{cells_in, cells_of};
 ghost use Rattle.rmt_update.specs.Coming.{key_bytes};
 ghost use Rattle.rmt_update.specs.FirstFull.{keys_of as keys_as_bytes};
-ghost use Rattle.rmt_update.specs.Loads.{AreLoadedKeys, AreTables, AreTried, IsLoaded, IsNotLoaded, IsTried, IsTriedAt, layout_in, table_of, ways_for};
+ghost use Rattle.rmt_update.specs.Loads.{AreLoadedKeys, AreTables, AreTried, CanFill, IsLoaded, IsNotLoaded, IsTried, IsTriedAt, layout_in, table_of, ways_for};
 
 use crate::book::encoded::tests_bytes;
 use crate::book::grid::Grid;
@@ -166,51 +166,30 @@ fn load_keys(
     }
 }
 
-/// Loads the entries of an exact table with this layout under a seed.
-fn load_table(
-    alloc: Global,
-    table: &TableCells,
-    layout: &Layout,
-    entries: &[Entry],
+/// A table, the entries that are put into its cells, and the seed of exact ones.
+#[derive(Drop)]
+struct TableFill<'a> {
+    table: &'a TableCells,
+    entries: &'a [Entry],
     seed: u8,
-) -> Result<TableTried, AllocError>
-    requires formed { IsTrue (table_is_formed table.now.name) }
-    requires bits { sum table.now.name.keys ≤ 640 }
-    requires kind { table.now.name.kind ≡ kind.Exact }
-    requires tests { All (λ (e : EntryOf). AllZip IsTest table.now.name.keys e.tests) entries.now }
-    requires few { length entries.now < 2 ^ 32 }
-    requires layout { layout.now ≡ layout_in table.now.parts.items }
-    requires parts { length layout.now ≤ 64 }
-    requires cells { cells_of layout.now < 2 ^ 32 }
-    ensures { IfOk result (IsTried table.now.parts.items seed (terms_of_name table.now.name) entries.now) }
-{
-    let keys = keys_of(alloc, &table.name, entries)?;
-    let tried = load_keys(alloc, table.parts.as_slice(), layout, &keys, seed)?;
-    Ok(tried)
 }
 
 /// Puts the entries of an exact table into cells under a seed. For a table with 2^32 cells or more, as none has within
 /// the chip's limits, there isn't enough memory.
-fn try_exact(
-    alloc: Global,
-    table: &TableCells,
-    entries: &[Entry],
-    seed: u8,
-) -> Result<TableTried, AllocError>
-    requires formed { IsTrue (table_is_formed table.now.name) }
-    requires bits { sum table.now.name.keys ≤ 640 }
-    requires kind { table.now.name.kind ≡ kind.Exact }
-    requires tests { All (λ (e : EntryOf). AllZip IsTest table.now.name.keys e.tests) entries.now }
-    requires few { length entries.now < 2 ^ 32 }
-    ensures { IfOk result (IsTried table.now.parts.items seed (terms_of_name table.now.name) entries.now) }
+fn try_exact(alloc: Global, fill: &TableFill) -> Result<TableTried, AllocError>
+    requires can { CanFill fill.now.table.now fill.now.entries.now }
+    requires kind { fill.now.table.now.name.kind ≡ kind.Exact }
+    ensures { IfOk result (IsTried fill.now.table.now.parts.items fill.now.seed (terms_of_name fill.now.table.now.name) fill.now.entries.now) }
 {
-    let layout = layout_of(alloc, table.parts.as_slice())?;
+    let parts = fill.table.parts.as_slice();
+    let layout = layout_of(alloc, parts)?;
     let small = is_small(layout.as_slice());
-    if small {
-        load_table(alloc, table, &layout, entries, seed)
-    } else {
-        Err(AllocError)
+    if !small {
+        return Err(AllocError);
     }
+    let keys = keys_of(alloc, &fill.table.name, fill.entries)?;
+    let tried = load_keys(alloc, parts, &layout, &keys, fill.seed)?;
+    Ok(tried)
 }
 
 /// Puts the entries of a prefix or ternary table into rows, in their order.
@@ -225,23 +204,14 @@ fn try_rows(alloc: Global, table: &TableCells, entries: &[Entry]) -> Result<Tabl
 }
 
 /// Puts the entries of a table into cells under a seed.
-fn try_table(
-    alloc: Global,
-    table: &TableCells,
-    entries: &[Entry],
-    seed: u8,
-) -> Result<TableTried, AllocError>
-    requires formed { IsTrue (table_is_formed table.now.name) }
-    requires bits { sum table.now.name.keys ≤ 640 }
-    requires tests { All (λ (e : EntryOf). AllZip IsTest table.now.name.keys e.tests) entries.now }
-    requires few { length entries.now < 2 ^ 32 }
-    ensures { IfOk result (IsTried table.now.parts.items seed (terms_of_name table.now.name) entries.now) }
+fn try_table(alloc: Global, fill: &TableFill) -> Result<TableTried, AllocError>
+    requires { CanFill fill.now.table.now fill.now.entries.now }
+    ensures { IfOk result (IsTried fill.now.table.now.parts.items fill.now.seed (terms_of_name fill.now.table.now.name) fill.now.entries.now) }
 {
-    match table.name.kind {
+    match fill.table.name.kind {
         Kind::Keyless => unreachable!(),
-        Kind::Exact => try_exact(alloc, table, entries, seed),
-        Kind::Prefix => try_rows(alloc, table, entries),
-        Kind::Ternary => try_rows(alloc, table, entries),
+        Kind::Exact => try_exact(alloc, fill),
+        Kind::Prefix | Kind::Ternary => try_rows(alloc, fill.table, fill.entries),
     }
 }
 
@@ -261,8 +231,13 @@ fn try_node(
         None => Ok(TableTried::Stand(Sequence::new(alloc))),
         Some(table) => {
             let lists = entries.as_slice();
-            let own = lists[node as usize].as_slice();
-            try_table(alloc, table, own, seed)
+            let entries = lists[node as usize].as_slice();
+            let fill = TableFill {
+                table,
+                entries,
+                seed,
+            };
+            try_table(alloc, &fill)
         }
     }
 }

@@ -30,40 +30,32 @@ pub fn sram_words(
     Ok(words)
 }
 
-/// The values of a row of TCAM blocks, a word a block. The only fault is want of memory.
-pub fn tcam_values(
-    alloc: Global,
-    rows: &[TcamRow],
-    blocks: &[u8],
-    row: u64,
-) -> Result<Vec<u128>, AllocError>
-    requires rows { PrefixRows rows.now }
-    requires row { row < 2048 }
-    ensures { IfOk result (λ words. words.items ≡ map (λ b. tcam_row (λ (t : TcamRowOf). t.value) rows.now b row) blocks.now) }
-{
-    let mut words = Vec::with_capacity(alloc, blocks.len())?;
-    let mut near = 0;
-    for block in blocks {
-        words.push(row_compared(rows, *block, row, &mut near).value as u128)?;
-    }
-    Ok(words)
+/// What a row of TCAM blocks compares, a word a block.
+#[derive(Drop)]
+pub struct ComparedWords {
+    pub values: Vec<u128>,
+    pub masks: Vec<u128>,
 }
 
-/// The masks of a row of TCAM blocks, a word a block. The only fault is want of memory.
-pub fn tcam_masks(
+/// What a row of TCAM blocks compares. The only fault is want of memory.
+pub fn tcam_words(
     alloc: Global,
     rows: &[TcamRow],
     blocks: &[u8],
     row: u64,
-) -> Result<Vec<u128>, AllocError>
+) -> Result<ComparedWords, AllocError>
     requires rows { PrefixRows rows.now }
     requires row { row < 2048 }
-    ensures { IfOk result (λ words. words.items ≡ map (λ b. tcam_row (λ (t : TcamRowOf). t.mask) rows.now b row) blocks.now) }
+    ensures values { IfOk result (λ words. words.values.items ≡ map (λ b. tcam_row (λ (t : TcamRowOf). t.value) rows.now b row) blocks.now) }
+    ensures masks { IfOk result (λ words. words.masks.items ≡ map (λ b. tcam_row (λ (t : TcamRowOf). t.mask) rows.now b row) blocks.now) }
 {
-    let mut words = Vec::with_capacity(alloc, blocks.len())?;
+    let mut values = Vec::with_capacity(alloc, blocks.len())?;
+    let mut masks = Vec::with_capacity(alloc, blocks.len())?;
     let mut near = 0;
     for block in blocks {
-        words.push(row_compared(rows, *block, row, &mut near).mask as u128)?;
+        let compared = row_compared(rows, *block, row, &mut near);
+        values.push(compared.value as u128)?;
+        masks.push(compared.mask as u128)?;
     }
-    Ok(words)
+    Ok(ComparedWords { values, masks })
 }

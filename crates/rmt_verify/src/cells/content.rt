@@ -39,6 +39,18 @@ pub struct ExactMemory<'a> {
     pub records: &'a [u8],
 }
 
+/// An entry that is looked for in a cell.
+#[derive(Clone, Copy)]
+pub struct WantedEntry<'a> {
+    pub entry: &'a Entry,
+    /// The widths of its key's fields.
+    pub widths: &'a Bytes,
+    /// The widths of its action's parameters.
+    pub params: &'a Bytes,
+    /// The number of its instruction.
+    pub code: u128,
+}
+
 /// The data of a cell of an exact part, behind 256 bytes that are 0.
 fn exact_data(
     alloc: Global,
@@ -96,23 +108,20 @@ pub fn exact_holds(
     slot: &SlotUnit,
     memory: &ExactMemory,
     cell: u32,
-    entry: &Entry,
-    widths: &Bytes,
-    params: &Bytes,
-    code: u128,
+    wanted: &WantedEntry,
 ) -> Result<bool, VerifyFault>
     requires rows { SramRows rows.now }
     requires fits { ExactFits slot.now memory.now.width memory.now.per memory.now.quanta memory.now.keys.now memory.now.records.now }
     requires ways { memory.now.first_way + 3 < 256 }
     requires cell { cell < 4096 * memory.now.quanta * memory.now.per }
-    requires wanted { IsWanted widths.now params.now entry.now }
-    requires bits { bits_of_lanes slot.now.keys ≡ sum widths.now }
-    requires whole { tests_as_one (λ (t : Test). t.mask) widths.now entry.now.tests ≡ 2 ^ sum widths.now - 1 }
+    requires wanted { IsWanted wanted.now.widths.now wanted.now.params.now wanted.now.entry.now }
+    requires bits { bits_of_lanes slot.now.keys ≡ sum wanted.now.widths.now }
+    requires whole { tests_as_one (λ (t : Test). t.mask) wanted.now.widths.now wanted.now.entry.now.tests ≡ 2 ^ sum wanted.now.widths.now - 1 }
     ensures { IfOk result (λ holds. (cs : List ℕ) → IsTrue holds ↔
-        Matches widths.now params.now code entry.now
+        Matches wanted.now.widths.now wanted.now.params.now wanted.now.code wanted.now.entry.now
         (exact_content (sram_row rows.now) slot.now memory.now.width memory.now.per memory.now.keys.now memory.now.records.now (cell_of (1024 * memory.now.quanta) memory.now.per cell))
         × Contains (candidates seed (bits_of_lanes slot.now.keys) (Exact memory.now.width memory.now.per memory.now.quanta memory.now.first_way memory.now.keys.now memory.now.records.now cs)
-        (tests_as_one (λ (t : Test). t.value) widths.now entry.now.tests)) cell) }
+        (tests_as_one (λ (t : Test). t.value) wanted.now.widths.now wanted.now.entry.now.tests)) cell) }
 {
     let bits = key_bits(slot.keys.as_slice());
     let layout = exact_keys(memory.width, memory.per, memory.quanta, bits);
@@ -120,10 +129,19 @@ pub fn exact_holds(
     let head = head_of(alloc, &layout, memory.keys, rows, at)?;
     let key = entry_bytes(alloc, &layout, memory.keys, rows, at, 8, bits)?;
     let data = exact_data(alloc, rows, memory, slot.held, cell)?;
-    let runs = (head / 8) as u128 == code;
-    let has_key = are_tests(&key, widths.as_slice(), entry.tests.as_slice(), false);
+    let runs = (head / 8) as u128 == wanted.code;
+    let has_key = are_tests(
+        &key,
+        wanted.widths.as_slice(),
+        wanted.entry.tests.as_slice(),
+        false,
+    );
     let stands = stands_at(seed, memory, &key, cell);
-    let has_data = are_arguments(&data, params.as_slice(), entry.args.as_slice());
+    let has_data = are_arguments(
+        &data,
+        wanted.params.as_slice(),
+        wanted.entry.args.as_slice(),
+    );
     Ok(runs & has_key & stands & has_data)
 }
 
@@ -136,18 +154,15 @@ pub fn ternary_holds(
     keys: &[u8],
     records: &[u8],
     cell: u32,
-    entry: &Entry,
-    widths: &Bytes,
-    params: &Bytes,
-    code: u128,
+    wanted: &WantedEntry,
 ) -> Result<bool, VerifyFault>
     requires rows { FormedRows stage.now }
     requires values { PrefixRows stage.now.trows }
     requires fits { TernaryFits slot.now quanta keys.now records.now }
     requires cell { cell < 2048 * quanta }
-    requires wanted { IsWanted widths.now params.now entry.now }
-    requires bits { bits_of_lanes slot.now.keys ≡ sum widths.now }
-    ensures { IfOk result (λ holds. IsTrue holds ↔ Matches widths.now params.now code entry.now (ternary_content stage.now slot.now keys.now records.now cell)) }
+    requires wanted { IsWanted wanted.now.widths.now wanted.now.params.now wanted.now.entry.now }
+    requires bits { bits_of_lanes slot.now.keys ≡ sum wanted.now.widths.now }
+    ensures { IfOk result (λ holds. IsTrue holds ↔ Matches wanted.now.widths.now wanted.now.params.now wanted.now.code wanted.now.entry.now (ternary_content stage.now slot.now keys.now records.now cell)) }
 {
     let bits = key_bits(slot.keys.as_slice());
     let rows = stage.srows.as_slice();
@@ -155,10 +170,14 @@ pub fn ternary_holds(
     let layout = ternary_records(quanta, slot.held);
     let head = head_of(alloc, &layout, records, rows, at)?;
     let data = data_bytes(alloc, &layout, records, rows, at, 8, slot.held as u64)?;
-    let words = words_of(alloc, &entry.tests, widths)?;
+    let words = words_of(alloc, &wanted.entry.tests, wanted.widths)?;
     let blocks = piece_at(keys, divided_up(bits, 40), at / 2048);
-    let runs = (head / 8) as u128 == code;
+    let runs = (head / 8) as u128 == wanted.code;
     let has_key = are_words(stage.trows.as_slice(), blocks, at % 2048, words.as_slice());
-    let has_data = are_arguments(&data, params.as_slice(), entry.args.as_slice());
+    let has_data = are_arguments(
+        &data,
+        wanted.params.as_slice(),
+        wanted.entry.args.as_slice(),
+    );
     Ok(runs & has_key & has_data)
 }

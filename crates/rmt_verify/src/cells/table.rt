@@ -9,7 +9,7 @@ ghost use Rattle.rmt_verify.specs.CellsHeld.{CellHeld, TableHeld, told_at};
 ghost use Rattle.rmt_verify.specs.TableKnown.{PartKnown, TableKnown};
 ghost use Rattle.rmt_verify.specs.Told.{AreTold};
 
-use crate::cells::content::{ExactMemory, exact_holds, ternary_holds};
+use crate::cells::content::{ExactMemory, WantedEntry, exact_holds, ternary_holds};
 use crate::cells::entries::{entry_of, keep_order};
 use crate::cells::told::is_told;
 use crate::fault::VerifyFault;
@@ -66,6 +66,12 @@ fn holds_entry(
     let params = &at.program.actions.as_slice()[action as usize].params;
     let code = part.first + entry.action as u128;
     let stage = stage_of(at.config, part);
+    let wanted = WantedEntry {
+        entry,
+        widths: at.widths,
+        params,
+        code,
+    };
     match &part.slot.memory {
         Memory::Without => Ok(false),
         Memory::Exact {
@@ -90,10 +96,7 @@ fn holds_entry(
                 records: records.as_slice(),
             },
             own.cell,
-            entry,
-            at.widths,
-            params,
-            code,
+            &wanted,
         ),
         Memory::Ternary {
             quanta,
@@ -108,10 +111,7 @@ fn holds_entry(
             keys.as_slice(),
             records.as_slice(),
             own.cell,
-            entry,
-            at.widths,
-            params,
-            code,
+            &wanted,
         ),
     }
 }

@@ -3,7 +3,7 @@
 ghost use Rattle.rmt_verify.specs.Readers.{Gives};
 ghost use Rattle.rmt_verify.specs.Reading.{lane_at, lanes_at, join_at, part_at, start_at, cell_at, lists_at};
 
-use crate::fault::MapFault;
+use crate::fault::{MapFault, Read};
 use crate::map_file::MapFile;
 use crate::reading::items::{Item, list8_of, list16_of, list32_of};
 use crate::reading::number::{byte_of, four_of, two_of};
@@ -21,7 +21,7 @@ impl Item for Lane {
     ghost item_at = { lane_at };
 
     #[tactic(auto, unfolding(crate::specs::Reading::lane_at))]
-    fn read(_alloc: Global, bytes: &[u8]) -> Result<(Lane, &[u8]), MapFault> {
+    fn read(_alloc: Global, bytes: &[u8]) -> Read<Lane> {
         let (word, rest) = byte_of(bytes)?;
         let (low, rest) = byte_of(rest)?;
         let (len, rest) = byte_of(rest)?;
@@ -40,7 +40,7 @@ impl Item for Sequence<Lane> {
     ghost item_at = { lanes_at };
 
     #[tactic(auto, unfolding(crate::specs::Reading::lanes_at))]
-    fn read(alloc: Global, bytes: &[u8]) -> Result<(Sequence<Lane>, &[u8]), MapFault> {
+    fn read(alloc: Global, bytes: &[u8]) -> Read<Sequence<Lane>> {
         list8_of(alloc, bytes)
     }
 }
@@ -51,7 +51,7 @@ impl Item for Join {
     ghost item_at = { join_at };
 
     #[tactic(auto, unfolding(crate::specs::Reading::join_at))]
-    fn read(_alloc: Global, bytes: &[u8]) -> Result<(Join, &[u8]), MapFault> {
+    fn read(_alloc: Global, bytes: &[u8]) -> Read<Join> {
         let (state, rest) = byte_of(bytes)?;
         let (entry, rest) = two_of(rest)?;
         Ok((Join { state, entry }, rest))
@@ -64,7 +64,7 @@ impl Item for Part {
     ghost item_at = { part_at };
 
     #[tactic(auto, unfolding(crate::specs::Reading::part_at))]
-    fn read(_alloc: Global, bytes: &[u8]) -> Result<(Part, &[u8]), MapFault> {
+    fn read(_alloc: Global, bytes: &[u8]) -> Read<Part> {
         let (node, rest) = byte_of(bytes)?;
         let (stage, rest) = byte_of(rest)?;
         let (quanta, rest) = two_of(rest)?;
@@ -84,7 +84,7 @@ impl Item for u16 {
     ghost item_at = { start_at };
 
     #[tactic(auto, unfolding(crate::specs::Reading::start_at))]
-    fn read(_alloc: Global, bytes: &[u8]) -> Result<(u16, &[u8]), MapFault> {
+    fn read(_alloc: Global, bytes: &[u8]) -> Read<u16> {
         two_of(bytes)
     }
 }
@@ -95,7 +95,7 @@ impl Item for CellOf {
     ghost item_at = { cell_at };
 
     #[tactic(auto, unfolding(crate::specs::Reading::cell_at))]
-    fn read(_alloc: Global, bytes: &[u8]) -> Result<(CellOf, &[u8]), MapFault> {
+    fn read(_alloc: Global, bytes: &[u8]) -> Read<CellOf> {
         let (entry, rest) = four_of(bytes)?;
         let (stage, rest) = byte_of(rest)?;
         let (cell, rest) = four_of(rest)?;
@@ -110,7 +110,7 @@ impl Item for CellOf {
 
 /// What stands behind the version.
 #[tactic(auto, unfolding(crate::specs::Reading::lists_at))]
-pub fn lists_of(alloc: Global, bytes: &[u8]) -> Result<(MapFile, &[u8]), MapFault>
+pub fn lists_of(alloc: Global, bytes: &[u8]) -> Read<MapFile>
     ensures { Gives (λ x. (x.0, x.1.now)) result (lists_at bytes.now) }
 {
     let (places, rest) = list32_of(alloc, bytes)?;

@@ -2,11 +2,11 @@
 
 ghost use Rattle.rmt_verify.specs.Readers.{Gives, byte_at, two_at, four_at};
 
-use crate::fault::MapFault;
+use crate::fault::{MapFault, Read};
 
 /// A byte.
 #[tactic(auto, unfolding(crate::specs::Readers::byte_at))]
-pub fn byte_of(bytes: &[u8]) -> Result<(u8, &[u8]), MapFault>
+pub fn byte_of(bytes: &[u8]) -> Read<u8>
     ensures { Gives (λ x. (x.0, x.1.now)) result (byte_at bytes.now) }
 {
     match bytes {
@@ -17,7 +17,7 @@ pub fn byte_of(bytes: &[u8]) -> Result<(u8, &[u8]), MapFault>
 
 /// A number of two bytes.
 #[tactic(auto, unfolding(crate::specs::Readers::two_at))]
-pub fn two_of(bytes: &[u8]) -> Result<(u16, &[u8]), MapFault>
+pub fn two_of(bytes: &[u8]) -> Read<u16>
     ensures { Gives (λ x. (x.0, x.1.now)) result (two_at bytes.now) }
 {
     let (high, rest) = byte_of(bytes)?;
@@ -27,7 +27,7 @@ pub fn two_of(bytes: &[u8]) -> Result<(u16, &[u8]), MapFault>
 
 /// A number of four bytes.
 #[tactic(auto, unfolding(crate::specs::Readers::four_at))]
-pub fn four_of(bytes: &[u8]) -> Result<(u32, &[u8]), MapFault>
+pub fn four_of(bytes: &[u8]) -> Read<u32>
     ensures { Gives (λ x. (x.0, x.1.now)) result (four_at bytes.now) }
 {
     let (high, rest) = two_of(bytes)?;

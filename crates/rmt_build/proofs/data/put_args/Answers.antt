@@ -1,7 +1,7 @@
 use Rattle.std.proofs.Common.{◌≡◌, ◌+◌, ◌-◌, ◌*◌, ◌^◌, ◌<◌, ◌≤◌, length, get_or, drop, ap, sym, subst, arith}
 use Rattle.rmt_bits.specs.Bits.{number_of}
 use Rattle.rmt_config.specs.Rooms.{args_as_one}
-use Rattle.rmt_refine.proofs.BesideLaws.{args-step}
+use Rattle.rmt_pack.proofs.BesideLaws.{args-step}
 use Rattle.rmt_build.proofs.data.put_args.Goals as goal
 
 pub loop-at-preserved : goal.loop-at-preserved

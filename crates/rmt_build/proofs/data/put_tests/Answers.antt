@@ -1,7 +1,7 @@
 use Rattle.std.proofs.Common.{◌≡◌, ◌+◌, ◌-◌, ◌*◌, ◌^◌, ◌∙◌, ap, arith, get_or, length, sym, take}
 use Rattle.rmt_bits.specs.Bits.{number_of}
 use Rattle.rmt_build.specs.Types.{Test}
-use Rattle.rmt_refine.proofs.BesideLaws.{key_end, key_step, next_place, place_fits}
+use Rattle.rmt_pack.proofs.BesideLaws.{key_end, key_step, next_place, place_fits}
 use Rattle.rmt_build.proofs.KeyLaws.{test_fits, values}
 use Rattle.rmt_build.proofs.data.put_tests.Goals as goal
 

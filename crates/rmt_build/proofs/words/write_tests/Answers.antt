@@ -22,22 +22,19 @@ put_words-requires c =
       words = subst (All IsMaskedWord) (sym c.as_slice-words.ensures) (tests-masked c.args.widths.now c.args.tests.now row c.requires.tests told.values told.masks);
     }
 
-pub returns-clause-values : goal.returns-clause-values
-returns-clause-values c =
+pub returns : goal.returns
+returns c =
     let row = c.in_ok-words.words in
     let told = c.in_ok-words.ensures in
+    let many = divided_up (sum c.args.widths.now) 40 in
     let long : length row ≡ divided_up (sum c.args.widths.now) 40 = sym (length-map row (λ (w : TcamWord). w.value)) ∙ told.values.count in
-    tests-row (λ t. t.value) (λ w. w.value) (values_of c.args.tcam.now) (values_of c.put_words.new.tcam) c.args.cell (divided_up (sum c.args.widths.now) 40) c.args.blocks.now c.args.widths.now
-    c.args.tests.now row long c.requires.room told.value_row
-    (subst (λ (ws : List TcamWord). WordsSo (values_of c.args.tcam.now) (values_of c.put_words.new.tcam) (c.args.cell % 2048) c.args.blocks.now (c.args.cell / 2048 * length ws) (length ws) (map (λ w. w.value) ws))
-    c.as_slice-words.ensures c.put_words.ensures.values)
-
-pub returns-clause-masks : goal.returns-clause-masks
-returns-clause-masks c =
-    let row = c.in_ok-words.words in
-    let told = c.in_ok-words.ensures in
-    let long : length row ≡ divided_up (sum c.args.widths.now) 40 = sym (length-map row (λ (w : TcamWord). w.value)) ∙ told.values.count in
-    tests-row (λ t. t.mask) (λ w. w.mask) (masks_of c.args.tcam.now) (masks_of c.put_words.new.tcam) c.args.cell (divided_up (sum c.args.widths.now) 40) c.args.blocks.now c.args.widths.now
-    c.args.tests.now row long c.requires.room told.mask_row
-    (subst (λ (ws : List TcamWord). WordsSo (masks_of c.args.tcam.now) (masks_of c.put_words.new.tcam) (c.args.cell % 2048) c.args.blocks.now (c.args.cell / 2048 * length ws) (length ws) (map (λ w. w.mask) ws))
-    c.as_slice-words.ensures c.put_words.ensures.masks)
+    record {
+      values = tests-row (λ t. t.value) (λ w. w.value) (values_of c.args.tcam.now) (values_of c.put_words.new.tcam) c.args.cell many c.args.blocks.now c.args.widths.now c.args.tests.now row long
+          c.requires.room told.value_row
+          (subst (λ (ws : List TcamWord). WordsSo (values_of c.args.tcam.now) (values_of c.put_words.new.tcam) (c.args.cell % 2048) c.args.blocks.now (c.args.cell / 2048 * length ws) (length ws) (map (λ w. w.value) ws))
+          c.as_slice-words.ensures c.put_words.ensures.values);
+      masks = tests-row (λ t. t.mask) (λ w. w.mask) (masks_of c.args.tcam.now) (masks_of c.put_words.new.tcam) c.args.cell many c.args.blocks.now c.args.widths.now c.args.tests.now row long
+          c.requires.room told.mask_row
+          (subst (λ (ws : List TcamWord). WordsSo (masks_of c.args.tcam.now) (masks_of c.put_words.new.tcam) (c.args.cell % 2048) c.args.blocks.now (c.args.cell / 2048 * length ws) (length ws) (map (λ w. w.mask) ws))
+          c.as_slice-words.ensures c.put_words.ensures.masks);
+    }

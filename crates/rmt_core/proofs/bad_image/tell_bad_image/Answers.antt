@@ -1,5 +1,5 @@
 -- The line of the fault.
-use Rattle.rmt_core.specs.SimText.{bad_image_line}
+use Rattle.rmt_core.specs.ImageFaults.{bad_image_line}
 use Rattle.rmt_core.proofs.bad_image.tell_bad_image.Goals as goal
 
 pub returns : goal.returns

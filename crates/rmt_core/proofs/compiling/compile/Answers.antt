@@ -7,12 +7,12 @@ use Rattle.rmt_check.specs.Means.{Means}
 use Rattle.rmt_entries.specs.Entries.{entries_of}
 use Rattle.rmt_core.specs.Types.{Program}
 use Rattle.rmt_core.specs.declared.placer.Placer.{Placer}
-use Rattle.rmt_core.specs.declared.status.Status.{Status}
-use Rattle.rmt_core.specs.declared.status.Status.TheVariants.{NoFit}
+use Rattle.rmt_drive.specs.declared.status.Status.{Status}
+use Rattle.rmt_drive.specs.declared.status.Status.TheVariants.{NoFit}
 use Rattle.rmt_core.specs.Compiling.{Compiles, written}
-use Rattle.rmt_core.specs.Ends.{Outside, WritesAndPrints, outside}
-use Rattle.rmt_core.specs.Files.{Files}
-use Rattle.rmt_core.specs.Given.{Given, told}
+use Rattle.rmt_drive.specs.Ends.{Outside, WritesAndPrints, outside}
+use Rattle.rmt_drive.specs.Files.{Files}
+use Rattle.rmt_drive.specs.Given.{Given, told}
 use Rattle.rmt_core.specs.Making.{bytes_of, image_and}
 use Rattle.rmt_core.specs.MapFiles.{Wanted}
 use Rattle.rmt_core.specs.TextFaults.{text_fault_line, text_fault_status}

@@ -1,7 +1,8 @@
 use Rattle.std.proofs.Common.{Result, Ok, Err, ap}
 use Rattle.std.specs.Prelude.{IfOk}
 use Rattle.rmt_core.specs.Making.{bytes_of}
-use Rattle.rmt_core.proofs.MakeLaws.{are_nodes, both_ok, built_files, lines_some}
+use Rattle.rmt_core.proofs.MakeLaws.{are_nodes, built_files, lines_some}
+use Rattle.rmt_drive.proofs.LineLaws.{both_ok}
 use Rattle.rmt_core.proofs.NoFitLaws.{same_Err}
 use Rattle.rmt_core.proofs.making.make.Goals as goal
 

@@ -6,7 +6,7 @@ use Rattle.rmt_ptcam.specs.declared.joins.Join.{Join}
 use Rattle.rmt_ptcam.specs.Joins.{joins}
 use Rattle.rmt_ptcam.specs.Needs.{refusal, unless}
 use Rattle.rmt_verify.specs.Spelling.{MapFits, spelled_map}
-use Rattle.rmt_core.proofs.MakeLaws.{both_ok}
+use Rattle.rmt_drive.proofs.LineLaws.{both_ok}
 use Rattle.rmt_core.proofs.making.map_bytes.Goals as goal
 
 told_joins : (o : Option ParserFault) (made told : List Join) → ◌≡◌ {A = Result (List Join) ParserFault} (Ok told) (unless o made) → told ≡ made

@@ -1,5 +1,5 @@
 use Rattle.std.proofs.Common.{codes}
-use Rattle.rmt_core.proofs.LineLaws.{ok_then, three_parts}
+use Rattle.rmt_drive.proofs.LineLaws.{ok_then, three_parts}
 use Rattle.rmt_core.proofs.no_fit.add_load_line.Goals as goal
 
 pub returns : goal.returns

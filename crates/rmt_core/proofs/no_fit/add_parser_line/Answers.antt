@@ -1,6 +1,6 @@
 use Rattle.std.proofs.Common.{◌++◌, ◌∙◌, ap, codes}
 use Rattle.std.specs.Fmt.{decimal}
-use Rattle.rmt_core.proofs.LineLaws.{three_parts}
+use Rattle.rmt_drive.proofs.LineLaws.{three_parts}
 use Rattle.rmt_core.proofs.no_fit.add_parser_line.Goals as goal
 
 pub returns : goal.returns

@@ -1,9 +1,8 @@
 -- The texts are read, the packets' file is opened, the texts are understood, and the program runs; or the call ends at one of these steps.
 use Rattle.std.proofs.Common.{Err, ap, refl, ◌∙◌}
 use Rattle.std.specs.Prelude.{string_bytes}
-use Rattle.rmt_core.specs.Ends.{outside}
-use Rattle.rmt_core.specs.PlainRunning.{OfOpen, OfTexts}
-use Rattle.rmt_core.specs.PlainText.{RunsPlain}
+use Rattle.rmt_drive.specs.Ends.{outside}
+use Rattle.rmt_core.specs.PlainText.{OfOpen, OfTexts, RunsPlain}
 use Rattle.rmt_core.specs.TextFaults.{text_fault_line, text_fault_status}
 use Rattle.rmt_core.proofs.CallLaws.{ends_at_once, ends_told, ends_unopened, goes_on_as, opens_then}
 use Rattle.rmt_core.proofs.GoingOn.{understood_answered}

@@ -1,9 +1,9 @@
 -- The image is read, or not.
 use Rattle.std.proofs.Common.{◌≡◌, Err, ℕ, List, ap, refl, ◌∙◌}
 use Rattle.std.specs.Prelude.{string_bytes}
-use Rattle.rmt_core.specs.declared.status.Status.TheVariants.{Done}
-use Rattle.rmt_core.specs.Files.{Files, image_limit}
-use Rattle.rmt_core.specs.Given.{Given, told}
+use Rattle.rmt_drive.specs.declared.status.Status.TheVariants.{Done}
+use Rattle.rmt_drive.specs.Files.{Files, image_limit}
+use Rattle.rmt_drive.specs.Given.{Given, told}
 use Rattle.rmt_core.specs.Reporting.{report_line}
 use Rattle.rmt_core.specs.Simulating.{Spelled}
 use Rattle.rmt_core.proofs.CallLaws.{ends_unread, reads_then}

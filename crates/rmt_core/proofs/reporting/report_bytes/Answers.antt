@@ -1,11 +1,11 @@
 -- The line of the use, or that of the fault.
 use Rattle.std.proofs.Common.{◌≡◌, Ok, inl, inr, refl, ⊎_elim}
-use Rattle.rmt_core.specs.declared.status.Status.TheVariants.{BadImage, Done}
-use Rattle.rmt_core.specs.Files.{Files}
-use Rattle.rmt_core.specs.Given.{Given, told}
+use Rattle.rmt_drive.specs.declared.status.Status.TheVariants.{BadImage, Done}
+use Rattle.rmt_drive.specs.Files.{Files}
+use Rattle.rmt_drive.specs.Given.{Given, told}
 use Rattle.rmt_core.specs.Reporting.{report_line}
 use Rattle.rmt_core.specs.Simulating.{Spelled}
-use Rattle.rmt_core.specs.SimText.{bad_image_line}
+use Rattle.rmt_core.specs.ImageFaults.{bad_image_line}
 use Rattle.rmt_core.specs.Types.{Config}
 use Rattle.rmt_core.proofs.CallLaws.{ends_told, told_quiet}
 use Rattle.rmt_core.proofs.GoingOn.{bad_image_answered}

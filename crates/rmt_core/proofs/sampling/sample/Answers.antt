@@ -3,10 +3,10 @@ use Rattle.std.proofs.Common.{Vec, List, ℕ, Err, arith, length, refl, sym, ap,
 use Rattle.std.specs.Global.{Global}
 use Rattle.rmt_sample.proofs.TextLaws.{entries_short, program_short}
 use Rattle.rmt_core.specs.declared.placer.Placer.TheVariants.{ByRule}
-use Rattle.rmt_core.specs.declared.status.Status.TheVariants.{NoFit}
+use Rattle.rmt_drive.specs.declared.status.Status.TheVariants.{NoFit}
 use Rattle.rmt_core.specs.Making.{TellsWhy}
 use Rattle.rmt_core.specs.Sampling.{GivesSample, sample_line}
-use Rattle.rmt_core.proofs.EndLaws.{no_memory}
+use Rattle.rmt_drive.proofs.EndLaws.{no_memory}
 use Rattle.rmt_core.proofs.SampleLaws.{line_of_plain, no_fault, of_sample, refusal_answered, sample_answered, told_no_reading, told_possible}
 use Rattle.rmt_core.proofs.TextLaws.{printed_tells}
 use Rattle.rmt_core.proofs.sampling.sample.Goals as goal

@@ -1,6 +1,6 @@
 use Rattle.std.proofs.Common.{ap, ◌∙◌}
 use Rattle.rmt_packets.specs.PacketText.{packets_of}
-use Rattle.rmt_core.proofs.MakeLaws.{both_ok}
+use Rattle.rmt_drive.proofs.LineLaws.{both_ok}
 use Rattle.rmt_core.proofs.SampleLaws.{chip_line_of}
 use Rattle.rmt_sample.proofs.TextLaws.{packets_good}
 use Rattle.rmt_core.proofs.sampling.tell_built.Goals as goal

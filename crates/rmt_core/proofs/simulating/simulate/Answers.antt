@@ -5,17 +5,16 @@ use Rattle.rmt_config.specs.Spells.{Spells}
 use Rattle.rmt_image.specs.Reading.{Answers}
 use Rattle.rmt_io.specs.Outside.{ShelfState, HasFile, OnlyRead}
 use Rattle.rmt_core.specs.Types.{Config}
-use Rattle.rmt_core.specs.declared.status.Status.{Status}
-use Rattle.rmt_core.specs.declared.status.Status.TheVariants.{BadImage}
-use Rattle.rmt_core.specs.declared.watch.Watch.{Watch}
-use Rattle.rmt_core.specs.declared.watch.Watch.TheVariants as watch
-use Rattle.rmt_core.specs.ChipRuns.{RunsChip}
-use Rattle.rmt_core.specs.Ends.{Outside, ReadsAndPrints, outside}
-use Rattle.rmt_core.specs.Files.{image_limit, packets_limit}
-use Rattle.rmt_core.specs.Loading.{IsFound}
-use Rattle.rmt_core.specs.Running.{OfImage, OfOpen}
-use Rattle.rmt_core.specs.Simulating.{GivesRun}
-use Rattle.rmt_core.specs.SimText.{bad_image_line}
+use Rattle.rmt_drive.specs.declared.status.Status.{Status}
+use Rattle.rmt_drive.specs.declared.status.Status.TheVariants.{BadImage}
+use Rattle.rmt_drive.specs.declared.watch.Watch.{Watch}
+use Rattle.rmt_drive.specs.declared.watch.Watch.TheVariants as watch
+use Rattle.rmt_drive.specs.ChipRuns.{RunsChip}
+use Rattle.rmt_drive.specs.Ends.{Outside, ReadsAndPrints, outside}
+use Rattle.rmt_drive.specs.Files.{image_limit, packets_limit}
+use Rattle.rmt_drive.specs.Loading.{IsFound}
+use Rattle.rmt_core.specs.Simulating.{OfImage, OfOpen, GivesRun}
+use Rattle.rmt_core.specs.ImageFaults.{bad_image_line}
 use Rattle.rmt_core.proofs.CallLaws.{ends_at_once, ends_told, ends_unopened, ends_unread, goes_on_as, opens_then, reads_then}
 use Rattle.rmt_core.proofs.GoingOn.{bad_image_answered, spelled_answered}
 use Rattle.rmt_core.proofs.simulating.simulate.Goals as goal

@@ -1,6 +1,6 @@
 use Rattle.std.proofs.Common.{ap, subst, string_bytes, ◌∙◌}
-use Rattle.rmt_core.specs.Ends.{WritesAndPrints, outside}
-use Rattle.rmt_core.specs.Given.{Stores}
+use Rattle.rmt_drive.specs.Ends.{WritesAndPrints, outside}
+use Rattle.rmt_drive.specs.Given.{Stores}
 use Rattle.rmt_core.specs.Switching.{port_writes}
 use Rattle.rmt_core.specs.Writing.{writes_of}
 use Rattle.rmt_core.proofs.switching.deliver_ports.Goals as goal

@@ -1,7 +1,7 @@
 -- The three files are read and understood, the frames run, and the captures of the ports are delivered; or the call ends at one of these steps.
 use Rattle.std.proofs.Common.{Err, ap, inl, inr, refl, subst, sym, ⊎_elim, ◌∙◌, string_bytes}
-use Rattle.rmt_core.specs.Ends.{outside}
-use Rattle.rmt_core.specs.Given.{stored}
+use Rattle.rmt_drive.specs.Ends.{outside}
+use Rattle.rmt_drive.specs.Given.{stored}
 use Rattle.rmt_core.specs.Switching.{Switches, port_writes}
 use Rattle.rmt_core.specs.SwitchSetup.{setup_fault_line, setup_fault_status}
 use Rattle.rmt_switch.specs.Printed.{switch_line}

@@ -1,6 +1,6 @@
 -- The entries behind the program, over the shelf as it was before both.
 use Rattle.std.proofs.Common.{string_bytes}
-use Rattle.rmt_core.specs.Files.{entries_limit}
+use Rattle.rmt_drive.specs.Files.{entries_limit}
 use Rattle.rmt_core.specs.TextFiles.{no_entries}
 use Rattle.rmt_core.proofs.SwitchLaws.{unread_before}
 use Rattle.rmt_core.proofs.text_files.read_texts.Goals as goal

@@ -1,7 +1,7 @@
 use Rattle.std.proofs.Common.{ap, subst, sym, ◌∙◌}
 use Rattle.rmt_core.specs.CommandReading.{seen}
 use Rattle.rmt_core.specs.Commands.{IfCommand, ReadsNone, words_of}
-use Rattle.rmt_core.specs.Ends.{Answered, outside}
+use Rattle.rmt_drive.specs.Ends.{Answered, outside}
 use Rattle.rmt_core.specs.Gives.{Gives}
 use Rattle.rmt_core.proofs.BudgetLaws.{HasBudget, has_budget}
 use Rattle.rmt_core.proofs.SampleLaws.{quiet_possible}

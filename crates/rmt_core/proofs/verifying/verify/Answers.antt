@@ -1,8 +1,8 @@
 -- The four files are read, or not.
 use Rattle.std.proofs.Common.{Err, List, ℕ, ap, refl, string_bytes, ◌∙◌}
-use Rattle.rmt_core.specs.Ends.{outside}
-use Rattle.rmt_core.specs.Files.{Files, image_limit, map_limit}
-use Rattle.rmt_core.specs.Given.{Given, Reads}
+use Rattle.rmt_drive.specs.Ends.{outside}
+use Rattle.rmt_drive.specs.Files.{Files, image_limit, map_limit}
+use Rattle.rmt_drive.specs.Given.{Given, Reads}
 use Rattle.rmt_core.specs.Verifying.{ChecksTexts}
 use Rattle.rmt_core.proofs.CallLaws.{ends_unread, reads_then}
 use Rattle.rmt_core.proofs.TextFileLaws.{reads_texts, texts_unread}

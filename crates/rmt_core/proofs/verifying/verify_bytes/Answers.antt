@@ -8,11 +8,11 @@ use Rattle.rmt_image.specs.Reading.{Answers}
 use Rattle.rmt_verify.specs.Spells.{Spells as SpellsMap}
 use Rattle.rmt_verify.specs.declared.map_file.MapFile.{MapFile}
 use Rattle.rmt_core.specs.Types.{Program, Config}
-use Rattle.rmt_core.specs.declared.status.Status.{Status}
-use Rattle.rmt_core.specs.declared.status.Status.TheVariants.{BadImage, Done, NoMemory, WriteFault}
+use Rattle.rmt_drive.specs.declared.status.Status.{Status}
+use Rattle.rmt_drive.specs.declared.status.Status.TheVariants.{BadImage, Done, NoMemory, WriteFault}
 use Rattle.rmt_core.specs.Commands.{IsPossible, Verify}
-use Rattle.rmt_core.specs.Ends.{Outside, ReadsAndPrints}
-use Rattle.rmt_core.specs.SimText.{bad_image_line}
+use Rattle.rmt_drive.specs.Ends.{Outside, ReadsAndPrints}
+use Rattle.rmt_core.specs.ImageFaults.{bad_image_line}
 use Rattle.rmt_core.specs.TextFaults.{text_fault_line, text_fault_status}
 use Rattle.rmt_core.specs.Verifying.{Checks, ChecksBytes, ChecksTexts, HasMap, answer_line, bad_map_line}
 use Rattle.rmt_core.proofs.CallLaws.{ends_at_once, ends_told, goes_on_as, told_quiet}

@@ -1,5 +1,5 @@
 use Rattle.std.proofs.Common.{Err, ap, ◌∙◌}
-use Rattle.rmt_core.specs.Ends.{outside}
+use Rattle.rmt_drive.specs.Ends.{outside}
 use Rattle.rmt_core.specs.Writing.{writes_of}
 use Rattle.rmt_core.proofs.DeliverLaws.{delivered_short, delivered_whole}
 use Rattle.rmt_core.proofs.writing.deliver.Goals as goal

@@ -4,14 +4,14 @@ use Rattle.rmt_ptcam.specs.Types.{ParserConfig}
 use Rattle.rmt_ptcam.specs.declared.fault.ParserFault.{ParserFault}
 use Rattle.rmt_ptcam.specs.declared.joins.Join.{Join}
 use Rattle.rmt_ptcam.specs.Clustering.{all_headers}
-use Rattle.rmt_ptcam.specs.Grouping.{Stand, by_state}
+use Rattle.rmt_ptcam.specs.Grouping.{by_state}
 use Rattle.rmt_ptcam.specs.Joins.{joins, replayed}
 use Rattle.rmt_ptcam.specs.Needs.{refusal, unless}
 use Rattle.rmt_ptcam.specs.Plain.{plain}
 use Rattle.rmt_ptcam.proofs.ClusterSteps.{joins_behind}
 use Rattle.rmt_ptcam.proofs.ClusteringLaws.{planned_ok}
 use Rattle.rmt_ptcam.proofs.FormedParsers.{formed_keeps}
-use Rattle.rmt_ptcam.proofs.GroupLaws.{stand_again}
+use Rattle.rmt_ptcam.proofs.GroupLaws.{start_stands}
 use Rattle.rmt_ptcam.proofs.JoinsCount.{joins_few}
 use Rattle.rmt_ptcam.proofs.JoinsLaws.{joins_give}
 use Rattle.rmt_ptcam.proofs.PlainForm.{plain_keeps}
@@ -21,9 +21,7 @@ pub grouped-requires : goal.grouped-requires
 grouped-requires c = formed_keeps c.in_ok-parser.parser c.in_ok-parser.ensures.formed
 
 pub all_joined-requires-clause-stand : goal.all_joined-requires-clause-stand
-all_joined-requires-clause-stand c =
-    let start : c.deref_mut.result.now ≡ by_state c.in_ok-parser.parser = c.deref_mut.ensures.value ∙ c.in_ok-groups.ensures in
-    subst Stand (sym start) (stand_again c.in_ok-parser.parser (formed_keeps c.in_ok-parser.parser c.in_ok-parser.ensures.formed))
+all_joined-requires-clause-stand c = start_stands c.in_ok-parser.parser (formed_keeps c.in_ok-parser.parser c.in_ok-parser.ensures.formed) c.deref_mut.result.now (c.deref_mut.ensures.value ∙ c.in_ok-groups.ensures)
 
 pub returns : goal.returns
 returns c =

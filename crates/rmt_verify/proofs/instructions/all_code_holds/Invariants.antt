@@ -5,4 +5,4 @@ use Rattle.rmt_verify.proofs.instructions.all_code_holds.Given as goal
 
 -- the stages so far
 abbrev pub invariant-loop-stage : goal.invariant-loop-stage
-invariant-loop-stage l = All (StageCoded l.program l.places) (take l.stage-index l.stages)
+invariant-loop-stage l = All (StageCoded l.coding.program.now l.coding.places.now) (take l.stage-index l.stages)

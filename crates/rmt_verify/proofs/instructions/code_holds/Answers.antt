@@ -1,4 +1,4 @@
-use Rattle.std.proofs.Common.{◌≡◌, List, true, sym, subst}
+use Rattle.std.proofs.Common.{◌≡◌, List, true, sym, subst, rules}
 use Rattle.std.specs.Prelude.{All, IsTrue, MatchOption, Option, ◌↔◌}
 use Rattle.std.specs.List.{list_all}
 use Rattle.std.proofs.lemmas.Result.{IfOk-weaker}
@@ -14,6 +14,9 @@ use Rattle.rmt_verify.proofs.StageCodeLaws.{stages_coded, tables_coded}
 use Rattle.rmt_verify.proofs.CodeLaws.{code_carried}
 use Rattle.rmt_verify.proofs.CodedLaws.{stages_formed}
 use Rattle.rmt_verify.proofs.instructions.code_holds.Goals as goal
+
+pub all_code_holds-requires-clause-coding : goal.all_code_holds-requires-clause-coding
+all_code_holds-requires-clause-coding c = record { program = c.requires.program; folded = search rules; places = c.requires.places }
 
 pub all_code_holds-requires-clause-formed : goal.all_code_holds-requires-clause-formed
 all_code_holds-requires-clause-formed c =

@@ -1,7 +1,7 @@
 -- A file behind another, over the shelf as it was before both.
 use Rattle.std.proofs.Common.{string_bytes}
 use Rattle.rmt_io.proofs.OutsideLaws.{only_read_trans}
-use Rattle.rmt_core.specs.Files.{capture_limit, groups_limit}
+use Rattle.rmt_drive.specs.Files.{capture_limit, groups_limit}
 use Rattle.rmt_core.specs.SwitchSetup.{no_capture, no_groups}
 use Rattle.rmt_core.proofs.SwitchLaws.{found_before, unread_before}
 use Rattle.rmt_core.proofs.switching.inputs.read_inputs.Goals as goal

@@ -1,8 +1,8 @@
 use Rattle.std.proofs.Common.{subst, sym}
 use Rattle.rmt_core.specs.declared.switching.setup.SetupFault.TheVariants.{Capture}
-use Rattle.rmt_core.specs.Runs.{bad_packets_line}
+use Rattle.rmt_drive.specs.SimText.{bad_packets_line}
 use Rattle.rmt_core.specs.SwitchSetup.{setup_fault_line, setup_fault_status}
-use Rattle.rmt_core.specs.Telling.{Tells}
+use Rattle.rmt_drive.specs.Telling.{Tells}
 use Rattle.rmt_core.proofs.switching.setup.tell_capture_fault.Goals as goal
 
 pub returns-in-Code-clause-line : goal.returns-in-Code-clause-line

@@ -19,9 +19,9 @@ loop-preserved g c =
     let read = list.item_at c.args.list.now in
     let after = list.after c.args.list.now in
     record {
-      read = rw (c.in_ok-push.ensures.items, c.least_after-least.ensures) (goes_on read after c.loop.items.items c.args.count c.loop.counter c.loop.least c.loop.rest.now c.in_ok-item.item c.in_ok-item.behind.now
+      read = rw (c.in_ok-put.ensures, c.least_after-least.ensures) (goes_on read after c.loop.items.items c.args.count c.loop.counter c.loop.least c.loop.rest.now c.in_ok-item.item c.in_ok-item.behind.now
           (items_at read after 0 c.args.count c.args.bytes.now) c.loop-test.true c.in_ok-item.ensures c.loop.invariant.read);
-      counted = rw c.in_ok-push.ensures.items (omega (arith, length-append c.loop.items.items (c.in_ok-item.item ∷ []), c.loop.invariant.counted));
+      counted = rw c.in_ok-put.ensures (omega (arith, length-append c.loop.items.items (c.in_ok-item.item ∷ []), c.loop.invariant.counted));
     }
 
 pub returns-clause-read : goal.returns-clause-read

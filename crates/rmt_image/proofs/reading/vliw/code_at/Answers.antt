@@ -17,7 +17,7 @@ returns-in_err-vliw c =
 
 pub loop-place-preserved : goal.loop-place-preserved
 loop-place-preserved c =
-    rw c.in_ok-push.ensures.items (each_goes_on vliw_at c.loop-place.code.items c.args.places.now c.loop-place.place-index none c.loop-place.rest.now c.in_ok-vliw.vliw c.in_ok-vliw.after.now
+    rw c.in_ok-put.ensures (each_goes_on vliw_at c.loop-place.code.items c.args.places.now c.loop-place.place-index none c.loop-place.rest.now c.in_ok-vliw.vliw c.in_ok-vliw.after.now
     (each vliw_at c.args.places.now c.args.bytes.now) c.loop-place-test.true c.in_ok-vliw.ensures c.loop-place.invariant)
 
 pub returns : goal.returns

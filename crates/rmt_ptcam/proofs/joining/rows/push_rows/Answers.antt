@@ -1,5 +1,4 @@
-use Rattle.std.proofs.Common.{◌≡◌, ◌+◌, ◌++◌, ◌∷◌, [], List, Some, ap, length, refl, sym, subst, take, ◌∙◌}
-use Rattle.std.specs.Prelude.{slice_get}
+use Rattle.std.proofs.Common.{◌≡◌, ◌+◌, ◌++◌, ◌∷◌, [], List, ap, length, refl, sym, subst, take, ◌∙◌}
 use Rattle.std.proofs.lemmas.Option.{slice_get_read}
 use Rattle.rmt_bits.proofs.ListLaws.{take-slice_get}
 use Rattle.rmt_ptcam.specs.Types.{ParserEntry}
@@ -13,9 +12,8 @@ loop-row-preserved c =
     let rows : List Row = c.args.rows.now in
     let i = c.loop-row.row-index in
     let item : Row = c.row-item.result in
-    let there : slice_get rows i ≡ Some item = slice_get_read rows (length rows) i item refl c.loop-row-test.true c.row-item.is in
     let x : Row = record { entry = c.in_ok-entry.entry; tail = item.tail } in
     let same : x ≡ item = ap (λ (e : ParserEntry). record { entry = e; tail = item.tail }) c.in_ok-entry.ensures in
-    let more : take (i + 1) rows ≡ take i rows ++ x ∷ [] = take-slice_get rows i item there ∙ ap (λ (y : Row). take i rows ++ y ∷ []) (sym same) in
+    let more : take (i + 1) rows ≡ take i rows ++ x ∷ [] = take-slice_get rows i item (slice_get_read rows (length rows) i item refl c.loop-row-test.true c.row-item.is) ∙ ap (λ (y : Row). take i rows ++ y ∷ []) (sym same) in
     subst (λ (l : List Row). Adds l c.args.entries.now c.push_row.new.entries c.args.tails.now c.push_row.new.tails) (sym more)
     (adds_more (take i rows) (x ∷ []) c.args.entries.now c.loop-row.entries c.push_row.new.entries c.args.tails.now c.loop-row.tails c.push_row.new.tails c.loop-row.invariant c.in_ok-push_row.ensures)

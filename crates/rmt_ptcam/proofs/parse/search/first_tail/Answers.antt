@@ -4,14 +4,8 @@ use Rattle.std.proofs.lemmas.List.Sorted.{IsPartitionPoint-from_clause, IsPartit
 use Rattle.rmt_ptcam.specs.Types.{TailOf}
 use Rattle.rmt_ptcam.proofs.parse.search.first_tail.Goals as goal
 
-pub returns-clause-before : goal.returns-clause-before
-returns-clause-before c =
+pub returns : goal.returns
+returns c =
     let parted = IsPartitionedBy-ltb (λ (e : TailOf). e.entry) _ c.args.entry c.requires in
     let point = IsPartitionPoint-from_clause (λ (e : TailOf). ltb e.entry c.args.entry) _ _ c.partition_point.ensures.partitioned parted (λ a r q k. search rules) in
-    λ k d h. ltb-true _ _ (point.0 k d (omega arith) h)
-
-pub returns-clause-behind : goal.returns-clause-behind
-returns-clause-behind c =
-    let parted = IsPartitionedBy-ltb (λ (e : TailOf). e.entry) _ c.args.entry c.requires in
-    let point = IsPartitionPoint-from_clause (λ (e : TailOf). ltb e.entry c.args.entry) _ _ c.partition_point.ensures.partitioned parted (λ a r q k. search rules) in
-    λ k d from h. ltb-false _ _ (point.1 k d from h)
+    record { before = λ k d h. ltb-true _ _ (point.0 k d (omega arith) h); behind = λ k d from h. ltb-false _ _ (point.1 k d from h) }

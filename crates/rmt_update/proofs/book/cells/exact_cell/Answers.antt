@@ -10,9 +10,32 @@ use Rattle.rmt_config.specs.Layouts.{IsInSram, entry_in, exact_keys, local_of, q
 use Rattle.rmt_config.proofs.CellLayouts.{exact-entry}
 use Rattle.rmt_update.specs.Kept.{Tells}
 use Rattle.rmt_update.specs.Words.{joined}
-use Rattle.rmt_update.proofs.KeptLaws.{bytes-few, key-told, tells-low}
+use Rattle.rmt_update.proofs.KeptLaws.{CanRead, bytes-few, can-read, key-told, tells-low}
 use Rattle.rmt_update.proofs.book.cells.exact_cell.Goals as goal
-use Rattle.rmt_refine.proofs.LayoutLaws.{at_layout, bytes_hold, keys_in}
+use Rattle.rmt_update.proofs.book.cells.exact_cell.Goals.{After-as_slice-words}
+use Rattle.rmt_pack.proofs.LayoutLaws.{at_layout, bytes_hold, keys_in}
+
+-- the entry can be read of its words
+reads : (c : After-as_slice-words) → CanRead c.as_slice-words.result.now c.in_ok-entry.entry.low (c.key_bits-bits.result + 8)
+reads c = can-read c.in_ok-entry.entry.words.items c.as_slice-words.result.now c.in_ok-entry.entry.low (c.key_bits-bits.result + 8) c.exact_keys-layout.result.entry _ c.as_slice-words.ensures.value (ap (λ (l : CellLayout). l.entry) c.exact_keys-layout.ensures) c.in_ok-entry.ensures
+
+pub bits_at-head-requires-clause-small : goal.bits_at-head-requires-clause-small
+bits_at-head-requires-clause-small c = (reads (goal.at.bits_at-head-requires-clause-small c).After-as_slice-words).small
+
+pub bits_at-head-requires-clause-few : goal.bits_at-head-requires-clause-few
+bits_at-head-requires-clause-few c = let h = (reads (goal.at.bits_at-head-requires-clause-few c).After-as_slice-words).few in omega (arith, h)
+
+pub bits_at-head-requires-clause-within : goal.bits_at-head-requires-clause-within
+bits_at-head-requires-clause-within c = let h = (reads (goal.at.bits_at-head-requires-clause-within c).After-as_slice-words).within in omega (arith, h)
+
+pub bytes_at-requires-clause-small : goal.bytes_at-requires-clause-small
+bytes_at-requires-clause-small c = (reads (goal.at.bytes_at-requires-clause-small c).After-as_slice-words).small
+
+pub bytes_at-requires-clause-few : goal.bytes_at-requires-clause-few
+bytes_at-requires-clause-few c = let h = (reads (goal.at.bytes_at-requires-clause-few c).After-as_slice-words).few in omega (arith, h)
+
+pub bytes_at-requires-clause-within : goal.bytes_at-requires-clause-within
+bytes_at-requires-clause-within c = let h = (reads (goal.at.bytes_at-requires-clause-within c).After-as_slice-words).within in omega (arith, h)
 
 pub entry_words-requires-clause-layout : goal.entry_words-requires-clause-layout
 entry_words-requires-clause-layout c =

@@ -8,9 +8,23 @@ use Rattle.rmt_config.specs.Layouts.{IsInSram, entry_in, exact_records, local_of
 use Rattle.rmt_config.proofs.CellLayouts.{exact-data}
 use Rattle.rmt_update.specs.Kept.{Tells}
 use Rattle.rmt_update.specs.Words.{joined}
+use Rattle.rmt_update.proofs.KeptLaws.{CanRead, can-read}
 use Rattle.rmt_update.proofs.book.cells.exact_held.Goals as goal
-use Rattle.rmt_update.proofs.book.cells.exact_held.Goals.{After-bytes_at}
-use Rattle.rmt_refine.proofs.LayoutLaws.{at_layout, records_in}
+use Rattle.rmt_update.proofs.book.cells.exact_held.Goals.{After-as_slice-words, After-bytes_at}
+use Rattle.rmt_pack.proofs.LayoutLaws.{at_layout, records_in}
+
+-- the entry can be read of its words
+reads : (c : After-as_slice-words) → CanRead c.as_slice-words.result.now c.in_ok-entry.entry.low c.args.held
+reads c = can-read c.in_ok-entry.entry.words.items c.as_slice-words.result.now c.in_ok-entry.entry.low c.args.held c.exact_records-layout.result.entry _ c.as_slice-words.ensures.value (ap (λ (l : CellLayout). l.entry) c.exact_records-layout.ensures) c.in_ok-entry.ensures
+
+pub bytes_at-requires-clause-small : goal.bytes_at-requires-clause-small
+bytes_at-requires-clause-small c = (reads (goal.at.bytes_at-requires-clause-small c).After-as_slice-words).small
+
+pub bytes_at-requires-clause-few : goal.bytes_at-requires-clause-few
+bytes_at-requires-clause-few c = let h = (reads (goal.at.bytes_at-requires-clause-few c).After-as_slice-words).few in omega (arith, h)
+
+pub bytes_at-requires-clause-within : goal.bytes_at-requires-clause-within
+bytes_at-requires-clause-within c = let h = (reads (goal.at.bytes_at-requires-clause-within c).After-as_slice-words).within in omega (arith, h)
 
 pub returns-then-held-eq0 : goal.returns-then-held-eq0
 returns-then-held-eq0 c =

@@ -2,7 +2,7 @@ use Rattle.std.proofs.Common.{◌≡◌, ℕ, ◌<◌, ◌+◌, ◌-◌, ◌*◌
 use Rattle.rmt_bits.specs.Bits.{deposit, number_of}
 use Rattle.rmt_config.specs.Rooms.{tests_as_one}
 use Rattle.rmt_config.specs.Rooms.{mask_or_value}
-use Rattle.rmt_refine.proofs.BesideLaws.{key_end, key_step, next_place, place_fits}
+use Rattle.rmt_pack.proofs.BesideLaws.{key_end, key_step, next_place, place_fits}
 use Rattle.rmt_update.proofs.EncodedLaws.{test_fits}
 use Rattle.rmt_update.proofs.book.encoded.put_tests.Goals as goal
 

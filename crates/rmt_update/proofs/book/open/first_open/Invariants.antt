@@ -6,4 +6,4 @@ use Rattle.rmt_update.proofs.book.open.first_open.Given as goal
 
 -- none of the cells so far is free
 abbrev pub invariant-loop-cell : goal.invariant-loop-cell
-invariant-loop-cell l = find (is_open l.odd l.part l.given) (range_with_len l.cell (l.end - l.cell)) ≡ find (is_open l.odd l.part l.given) (range_with_len l.first l.count)
+invariant-loop-cell l = find (is_open l.look.odd l.look.part.now l.look.given.now) (range_with_len l.cell (l.end - l.cell)) ≡ find (is_open l.look.odd l.look.part.now l.look.given.now) (range_with_len l.first l.count)

@@ -9,16 +9,8 @@ end row rows per lt =
     let most : (row + 1) * per ≤ 4 * rows * per = mul-le (row + 1) per (4 * rows) per (omega (arith, lt)) (omega arith) in
     omega (arith, next, same, most)
 
-pub overflow_mul-row_of : goal.overflow_mul-row_of
-overflow_mul-row_of c =
-    let w = c.args.ways in
-    let few = w.few_cells in
-    let last = end c.row_of.result w.rows w.per c.row_of.ensures.within in
-    omega (arith, few, last)
+pub overflow_mul-row : goal.overflow_mul-row
+overflow_mul-row c = let last = end c.row_of-row.result c.args.ways.rows c.args.ways.per c.row_of-row.ensures.within in omega (arith, c.args.ways.few_cells, last)
 
 pub first_open-requires : goal.first_open-requires
-first_open-requires c =
-    let w = c.args.ways in
-    let few = w.few_cells in
-    let last = end c.row_of.result w.rows w.per c.row_of.ensures.within in
-    omega (arith, few, last)
+first_open-requires c = let last = end c.row_of-row.result c.args.ways.rows c.args.ways.per c.row_of-row.ensures.within in omega (arith, c.args.ways.few_cells, last)

@@ -7,13 +7,10 @@ use Rattle.rmt_config.specs.declared.config.Memory.{Memory}
 use Rattle.rmt_config.specs.declared.config.Memory.TheVariants.{Exact, Ternary}
 use Rattle.rmt_config.specs.declared.config.SramRow.{SramRow}
 use Rattle.rmt_config.specs.declared.config.Stage.{Stage}
-use Rattle.rmt_config.specs.declared.config.Config.{Config}
 use Rattle.rmt_config.specs.Cells.{Content, cell_of, content_of, exact_content, sram_row, ternary_content, blocks_at}
 use Rattle.rmt_config.specs.LaneForm.{bits_of_lanes}
 use Rattle.rmt_config.specs.MemoryRules.{ExactFits, FormedRows, TernaryFits}
-use Rattle.rmt_config.specs.PartStands.{PartStands}
 use Rattle.rmt_config.specs.PrefixRow.{PrefixRows}
-use Rattle.rmt_config.specs.Rooms.{PartAt}
 use Rattle.rmt_config.specs.RunCells.{own_content}
 use Rattle.rmt_config.specs.BlockCounts.{divided_up}
 use Rattle.rmt_config.specs.UnitForm.{memory_is_formed, slot_head_is_formed}
@@ -24,11 +21,26 @@ use Rattle.rmt_update.specs.Kept.{HasBytes, IsKept, mask_bytes}
 use Rattle.rmt_update.specs.declared.book.kept.Kept.{Kept}
 use Rattle.rmt_config.specs.PartsTold.{part_at}
 use Rattle.rmt_update.proofs.book.parts.cell_of.Goals as goal
+use Rattle.rmt_update.proofs.book.parts.cell_of.Goals.{After-index-stages-part}
 
 -- the stage that is read is that of the part
-stage-is : (c : Config) (p : PartAt) (st : PartStands c p) (stages : List Stage) (stage : Stage) → stages ≡ c.stages → stage ≡ get_or stages p.stage stage → stage ≡ st.stage
-stage-is c p st stages stage all here =
-    here ∙ ap (λ (ss : List Stage). get_or ss p.stage stage) all ∙ get_or_from_slice_get c.stages p.stage st.stage stage st.in_stages
+stage_is : (c : After-index-stages-part) → c.index-stages-part.result ≡ c.requires.stands.stage
+stage_is c =
+    let st = c.requires.stands in
+    let stage = c.index-stages-part.result in
+    c.index-stages-part.is ∙ ap (λ (ss : List Stage). get_or ss c.args.part.now.at stage) c.as_slice-stages.ensures ∙ get_or_from_slice_get c.args.config.now.stages c.args.part.now.at st.stage stage st.in_stages
+
+-- what a cell holds that is like that of a memory's kind
+kept_of : (c : After-index-stages-part) (m : Memory) (k : Kept) → c.args.part.now.slot.now.memory ≡ m
+    → IsKept (bits_of_lanes c.args.part.now.slot.now.keys) m (content_of c.requires.stands.stage (record c.args.part.now.slot.now { memory = m }) c.args.number.cell) c.args.number k
+    → IsKept (bits_of_lanes c.args.part.now.slot.now.keys) c.args.part.now.slot.now.memory (own_content c.args.config.now c.args.part.now.at c.args.part.now.place c.args.number.cell) c.args.number k
+kept_of c m k is h =
+    let st = c.requires.stands in
+    let slot = c.args.part.now.slot.now in
+    let n = c.args.number.cell in
+    let bits = bits_of_lanes slot.keys in
+    subst (λ (x : Content). IsKept bits slot.memory x c.args.number k) (sym (held-is c.args.config.now (part_at c.args.part.now) st n))
+    (subst (λ (m : Memory). IsKept bits m (content_of st.stage (record slot { memory = m }) n) c.args.number k) (sym is) h)
 
 pub exact_cell-requires-clause-fits : goal.exact_cell-requires-clause-fits
 exact_cell-requires-clause-fits c =
@@ -41,14 +53,12 @@ exact_cell-requires-clause-fits c =
 
 pub ternary_cell-requires-clause-rows : goal.ternary_cell-requires-clause-rows
 ternary_cell-requires-clause-rows c =
-    let st = c.requires.stands in
-    subst FormedRows (sym (stage-is c.args.config.now (part_at c.args.part.now) st c.as_slice-stages.result.now c.index-stages-part.result c.as_slice-stages.ensures c.index-stages-part.is)) st.rows
+    subst FormedRows (sym (stage_is (goal.at.ternary_cell-requires-clause-rows c).After-index-stages-part)) c.requires.stands.rows
 
 pub ternary_cell-requires-clause-values : goal.ternary_cell-requires-clause-values
 ternary_cell-requires-clause-values c =
-    let st = c.requires.stands in
-    subst (λ (s : Stage). PrefixRows s.trows) (sym (stage-is c.args.config.now (part_at c.args.part.now) st c.as_slice-stages.result.now c.index-stages-part.result c.as_slice-stages.ensures c.index-stages-part.is))
-    (prefix-rows c.args.config.now (part_at c.args.part.now) st c.requires.memory)
+    subst (λ (s : Stage). PrefixRows s.trows) (sym (stage_is (goal.at.ternary_cell-requires-clause-values c).After-index-stages-part))
+    (prefix-rows c.args.config.now (part_at c.args.part.now) c.requires.stands c.requires.memory)
 
 pub ternary_cell-requires-clause-fits : goal.ternary_cell-requires-clause-fits
 ternary_cell-requires-clause-fits c =
@@ -66,7 +76,7 @@ ternary_cell-requires-clause-ends c =
     let part = part_at c.args.part.now in
     let st = c.requires.stands in
     let bits = bits_of_lanes part.slot.keys in
-    let stage = stage-is config part st c.as_slice-stages.result.now c.index-stages-part.result c.as_slice-stages.ensures c.index-stages-part.is in
+    let stage = stage_is (goal.at.ternary_cell-requires-clause-ends c).After-index-stages-part in
     let read = mask-read config part st a.quanta a.keys a.records a.counters a.is c.args.number.cell (divided_up bits 40) c.index-stages-part.result.trows
     (blocks_at c.as_slice-in-Ternary.result.now (divided_up bits 40) (c.args.number.cell / 2048)) c.as_slice-in-Ternary.result.now (ap (λ (s : Stage). s.trows) stage) refl c.as_slice-in-Ternary.ensures refl in
     subst (λ x. x < 2 ^ bits) (sym read) (mask-small config part st a.quanta a.keys a.records a.counters a.is c.args.number.cell)
@@ -74,52 +84,35 @@ ternary_cell-requires-clause-ends c =
 pub returns-in-Exact-clause-kept : goal.returns-in-Exact-clause-kept
 returns-in-Exact-clause-kept c =
     let a = c.in-Exact in
-    let config = c.args.config.now in
-    let part = part_at c.args.part.now in
-    let st = c.requires.stands in
+    let at = (goal.at.returns-in-Exact-clause-kept c).After-index-stages-part in
     let slot = c.args.part.now.slot.now in
     let number = c.args.number in
-    let n = number.cell in
     let bits = bits_of_lanes slot.keys in
-    let stage = stage-is config part st c.as_slice-stages.result.now c.index-stages-part.result c.as_slice-stages.ensures c.index-stages-part.is in
-    let rows : c.as_slice.result.now ≡ st.stage.srows = c.as_slice.ensures ∙ ap (λ (s : Stage). s.srows) stage in
-    let cell = cell_of (1024 * a.quanta) a.per n in
-    IfOk-weaker c.exact_cell.result
-    (λ kept. (w : ℕ) (cs : List ℕ) → IsKept bits (Exact a.width a.per a.quanta w c.as_slice-in-Exact.result.now c.as_slice-in-Exact-2.result.now cs)
-    (exact_content (sram_row c.as_slice.result.now) slot a.width a.per c.as_slice-in-Exact.result.now c.as_slice-in-Exact-2.result.now cell) number kept)
-    (λ kept. IsKept bits slot.memory (own_content config part.stage part.place n) number kept)
+    let rows : c.as_slice.result.now ≡ c.requires.stands.stage.srows = c.as_slice.ensures ∙ ap (λ (s : Stage). s.srows) (stage_is at) in
+    let cell = cell_of (1024 * a.quanta) a.per number.cell in
+    IfOk-weaker c.exact_cell.result _ _
     (λ kept h.
     let one = subst (λ (ks : List ℕ). IsKept bits (Exact a.width a.per a.quanta a.first_way ks c.as_slice-in-Exact-2.result.now a.counters) (exact_content (sram_row c.as_slice.result.now) slot a.width a.per ks c.as_slice-in-Exact-2.result.now cell) number kept)
     c.as_slice-in-Exact.ensures (h a.first_way a.counters) in
     let two = subst (λ (rs : List ℕ). IsKept bits (Exact a.width a.per a.quanta a.first_way a.keys rs a.counters) (exact_content (sram_row c.as_slice.result.now) slot a.width a.per a.keys rs cell) number kept)
     c.as_slice-in-Exact-2.ensures one in
-    let three = subst (λ (rs : List SramRow). IsKept bits (Exact a.width a.per a.quanta a.first_way a.keys a.records a.counters) (exact_content (sram_row rs) slot a.width a.per a.keys a.records cell) number kept) rows two in
-    let four = subst (λ (m : Memory). IsKept bits m (content_of st.stage (record slot { memory = m }) n) number kept) (sym a.is) three in
-    subst (λ (x : Content). IsKept bits slot.memory x number kept) (sym (held-is config part st n)) four)
+    kept_of at (Exact a.width a.per a.quanta a.first_way a.keys a.records a.counters) kept a.is
+    (subst (λ (rs : List SramRow). IsKept bits (Exact a.width a.per a.quanta a.first_way a.keys a.records a.counters) (exact_content (sram_row rs) slot a.width a.per a.keys a.records cell) number kept) rows two))
     c.exact_cell.ensures.kept
 
 pub returns-in-Ternary-clause-kept : goal.returns-in-Ternary-clause-kept
 returns-in-Ternary-clause-kept c =
-    let a = c.in-Ternary in
-    let config = c.args.config.now in
-    let part = part_at c.args.part.now in
-    let st = c.requires.stands in
+    let b = c.in-Ternary in
+    let at = (goal.at.returns-in-Ternary-clause-kept c).After-index-stages-part in
     let slot = c.args.part.now.slot.now in
-    let number = c.args.number in
-    let n = number.cell in
-    let bits = bits_of_lanes slot.keys in
-    let stage = stage-is config part st c.as_slice-stages.result.now c.index-stages-part.result c.as_slice-stages.ensures c.index-stages-part.is in
-    IfOk-weaker c.ternary_cell.result
-    (λ kept. (cs : List ℕ) → IsKept bits (Ternary a.quanta c.as_slice-in-Ternary.result.now c.as_slice-in-Ternary-2.result.now cs)
-    (ternary_content c.index-stages-part.result slot c.as_slice-in-Ternary.result.now c.as_slice-in-Ternary-2.result.now n) number kept)
-    (λ kept. IsKept bits slot.memory (own_content config part.stage part.place n) number kept)
+    let n = c.args.number.cell in
+    IfOk-weaker c.ternary_cell.result _ _
     (λ kept h.
-    let one = subst (λ (ks : List ℕ). IsKept bits (Ternary a.quanta ks c.as_slice-in-Ternary-2.result.now a.counters) (ternary_content c.index-stages-part.result slot ks c.as_slice-in-Ternary-2.result.now n) number kept)
-    c.as_slice-in-Ternary.ensures (h a.counters) in
-    let two = subst (λ (rs : List ℕ). IsKept bits (Ternary a.quanta a.keys rs a.counters) (ternary_content c.index-stages-part.result slot a.keys rs n) number kept) c.as_slice-in-Ternary-2.ensures one in
-    let three = subst (λ (s : Stage). IsKept bits (Ternary a.quanta a.keys a.records a.counters) (ternary_content s slot a.keys a.records n) number kept) stage two in
-    let four = subst (λ (m : Memory). IsKept bits m (content_of st.stage (record slot { memory = m }) n) number kept) (sym a.is) three in
-    subst (λ (x : Content). IsKept bits slot.memory x number kept) (sym (held-is config part st n)) four)
+    let keeps : Stage → List ℕ → List ℕ → Type 0 = λ s ks rs. IsKept (bits_of_lanes slot.keys) (Ternary b.quanta ks rs b.counters) (ternary_content s slot ks rs n) c.args.number kept in
+    kept_of at (Ternary b.quanta b.keys b.records b.counters) kept b.is
+    (subst (λ (s : Stage). keeps s b.keys b.records) (stage_is at)
+    (subst (keeps c.index-stages-part.result b.keys) c.as_slice-in-Ternary-2.ensures
+    (subst (λ (ks : List ℕ). keeps c.index-stages-part.result ks c.as_slice-in-Ternary-2.result.now) c.as_slice-in-Ternary.ensures (h b.counters)))))
     c.ternary_cell.ensures.kept
 
 -- three facts of what a call gives make another

@@ -5,28 +5,27 @@ use Rattle.rmt_config.specs.Rooms.{PartAt, parts_of}
 use Rattle.rmt_update.specs.declared.book.table.PartCells.{PartCells}
 use Rattle.rmt_update.specs.Listed.{IsListed}
 use Rattle.rmt_config.specs.PartsTold.{part_at, parts_at}
-use Rattle.rmt_update.proofs.ToldEntryLaws.{facts-at, parts-next}
+use Rattle.rmt_update.proofs.ToldEntryLaws.{PartFacts, facts-at, parts-next}
 use Rattle.rmt_update.proofs.book.table.cells_of.Goals as goal
+use Rattle.rmt_update.proofs.book.table.cells_of.Goals.{After-part-item}
+
+-- what is known of the part at hand
+facts : (c : After-part-item) → PartFacts c.args.config.now c.args.table.now (part_at c.part-item.result)
+facts c =
+    facts-at c.args.config.now c.args.table.now c.requires.items c.requires.memory c.requires.has c.requires.bits c.as_slice-part-items.result.now
+    (ap parts_at c.as_slice-part-items.ensures.value ∙ c.in_ok-found.ensures) c.loop-part.part-index c.part-item.result c.loop-part-test.true c.part-item.is
 
 pub part_cells-requires-clause-stands : goal.part_cells-requires-clause-stands
-part_cells-requires-clause-stands c =
-    (facts-at c.args.config.now c.args.table.now c.requires.items c.requires.memory c.requires.has c.requires.bits c.as_slice-part-items.result.now
-    (ap parts_at c.as_slice-part-items.ensures.value ∙ c.in_ok-found.ensures) c.loop-part.part-index c.part-item.result c.loop-part-test.true c.part-item.is).stands
+part_cells-requires-clause-stands c = (facts (goal.at.part_cells-requires-clause-stands c).After-part-item).stands
 
 pub part_cells-requires-clause-kind : goal.part_cells-requires-clause-kind
-part_cells-requires-clause-kind c =
-    (facts-at c.args.config.now c.args.table.now c.requires.items c.requires.memory c.requires.has c.requires.bits c.as_slice-part-items.result.now
-    (ap parts_at c.as_slice-part-items.ensures.value ∙ c.in_ok-found.ensures) c.loop-part.part-index c.part-item.result c.loop-part-test.true c.part-item.is).kind
+part_cells-requires-clause-kind c = (facts (goal.at.part_cells-requires-clause-kind c).After-part-item).kind
 
 pub part_cells-requires-clause-bits : goal.part_cells-requires-clause-bits
-part_cells-requires-clause-bits c =
-    (facts-at c.args.config.now c.args.table.now c.requires.items c.requires.memory c.requires.has c.requires.bits c.as_slice-part-items.result.now
-    (ap parts_at c.as_slice-part-items.ensures.value ∙ c.in_ok-found.ensures) c.loop-part.part-index c.part-item.result c.loop-part-test.true c.part-item.is).bits
+part_cells-requires-clause-bits c = (facts (goal.at.part_cells-requires-clause-bits c).After-part-item).bits
 
 pub part_cells-requires-clause-ways : goal.part_cells-requires-clause-ways
-part_cells-requires-clause-ways c =
-    (facts-at c.args.config.now c.args.table.now c.requires.items c.requires.memory c.requires.has c.requires.bits c.as_slice-part-items.result.now
-    (ap parts_at c.as_slice-part-items.ensures.value ∙ c.in_ok-found.ensures) c.loop-part.part-index c.part-item.result c.loop-part-test.true c.part-item.is).ways
+part_cells-requires-clause-ways c = (facts (goal.at.part_cells-requires-clause-ways c).After-part-item).ways
 
 pub loop-part-preserved : goal.loop-part-preserved
 loop-part-preserved c =

@@ -1,11 +1,10 @@
-use Rattle.std.proofs.Common.{◌≡◌, ◌+◌, ◌-◌, ◌^◌, ◌≤◌, ◌++◌, ◌∷◌, List, ℕ, get_or, drop, sum, add-one, sym, ap, ◌∙◌, arith}
+use Rattle.std.proofs.Common.{◌≡◌, ◌+◌, ◌-◌, ◌^◌, ◌≤◌, ◌++◌, ◌∷◌, List, ℕ, get_or, drop, sum, sym, ap, ◌∙◌, arith}
 use Rattle.std.specs.Prelude.{if◌then◌else◌}
-use Rattle.std.proofs.Math.Seq.{drop-cons}
 use Rattle.std.proofs.lemmas.List.Sums.{sum_by-cons}
 use Rattle.rmt_ast.specs.declared.program.Test.{Test}
 use Rattle.rmt_bits.specs.Bits.{number_of}
 use Rattle.rmt_config.specs.NamesForm.{tests_of_key}
-use Rattle.rmt_update.proofs.ToldLaws.{tests-more}
+use Rattle.rmt_update.proofs.ToldLaws.{tests-more, width-first}
 use Rattle.rmt_update.proofs.book.told.tests_of.Goals as goal
 
 pub overflow_sub-low : goal.overflow_sub-low
@@ -13,7 +12,7 @@ overflow_sub-low c =
     let ws = c.args.widths.now in
     let i = c.loop-width.width-index in
     let w = get_or ws i 0 in
-    let here : drop i ws ≡ w ∷ drop (i + 1) ws = drop-cons ws i 0 c.loop-width-test.true ∙ ap (λ n. w ∷ drop n ws) (sym (add-one i)) in
+    let here : drop i ws ≡ w ∷ drop (i + 1) ws = width-first ws i c.loop-width-test.true in
     let split : sum (w ∷ drop (i + 1) ws) ≡ w + sum (drop (i + 1) ws) = sum_by-cons (λ (n : ℕ). n) w (drop (i + 1) ws) in
     let e = ap sum here in
     omega (arith, e, split, c.loop-width.invariant.place)
@@ -26,7 +25,7 @@ loop-width-preserved c =
     let w = get_or ws i 0 in
     let key = number_of c.args.key.now in
     let mask = if c.args.whole then 2 ^ sum ws - 1 else number_of c.args.mask.now in
-    let here : drop i ws ≡ w ∷ drop (i + 1) ws = drop-cons ws i 0 c.loop-width-test.true ∙ ap (λ n. w ∷ drop n ws) (sym (add-one i)) in
+    let here : drop i ws ≡ w ∷ drop (i + 1) ws = width-first ws i c.loop-width-test.true in
     let split : sum (w ∷ drop (i + 1) ws) ≡ w + sum (drop (i + 1) ws) = sum_by-cons (λ (n : ℕ). n) w (drop (i + 1) ws) in
     let e : l.low ≡ sum (w ∷ drop (i + 1) ws) = l.invariant.place ∙ ap sum here in
     let inside : l.low - w + w ≤ sum ws = omega (arith, e, split, l.invariant.within) in

@@ -1,20 +1,26 @@
-use Rattle.std.proofs.Common.{◌≡◌, ◌≢◌, ◌<◌, ◌∙◌, ◌∷◌, ◌++◌, ℕ, true, List, [], None, length, ap, arith}
+use Rattle.std.proofs.Common.{◌≡◌, ◌≢◌, ◌<◌, ◌≤◌, ◌∙◌, ◌∷◌, ◌++◌, ℕ, true, List, [], None, length, ap, arith}
 use Rattle.std.proofs.lemmas.Result.{on_err_weaker}
 use Rattle.rmt_entries.specs.KeySets.{is_at}
 use Rattle.rmt_update.specs.KeyNumbers.{KeyNumbers, all_at, numbers_at, pairs_of, queued, slot_of}
-use Rattle.rmt_update.proofs.KeyNumberLaws.{crowd_stands, first_seen, kept_all, place_at, put_seen, put_stands_seen, refill_seen, same_all, same_stands, slot_at, there_seen, with_number}
+use Rattle.rmt_update.proofs.KeyNumberLaws.{Looked, crowd_stands, first_seen, kept_all, looked, put_seen, put_stands_seen, refill_seen, same_all, same_stands, there_seen, with_number}
 use Rattle.rmt_update.proofs.ResultLaws.{either_way, on_err}
 use Rattle.rmt_update.proofs.key_numbers.KeyNumbers.push.Goals as goal
+use Rattle.rmt_update.proofs.key_numbers.KeyNumbers.push.Goals.{After-index-slot, In_ok-put_list}
+
+-- the key's place
+look : (c : After-index-slot) → Looked c.self.inside.slots.items c.args.key.items c.place_of-place.result c.index-slot.result.now
+look c =
+    looked c.self.inside.slots.items c.args.key.items c.as_slice.result.now c.len.result c.place_of-place.result c.index-slot.result.now (c.len.ensures ∙ c.self.inside.slots.ok.0) c.as_slice.ensures.value c.place_of-place.ensures.place c.place_of-place.ensures.within
+    c.index-slot.ensures
 
 pub invariant_of-self-then-slot-gt0 : goal.invariant_of-self-then-slot-gt0
 invariant_of-self-then-slot-gt0 c =
     let slots = c.self.inside.slots.items in
     let key = c.args.key.items in
-    let all : c.len.result ≡ length slots = c.len.ensures ∙ c.self.inside.slots.ok.0 in
-    let slot = slot_at slots key c.as_slice.result.now c.len.result c.place_of-place.result c.index-slot.result.now all c.as_slice.ensures.value c.place_of-place.ensures.place c.place_of-place.ensures.within c.index-slot.ensures in
+    let found = (look (goal.at.invariant_of-self-then-slot-gt0 c).After-index-slot).slot_is in
     let crowded = pairs_of c.self.inside.crowded in
     let next = pairs_of c.push_queued.new.queues in
-    let some : slot_of slots key ≢ 0 = λ none. omega (arith, c.if-slot-gt0.true, slot, none) in
+    let some : slot_of slots key ≢ 0 = λ none. omega (arith, c.if-slot-gt0.true, found, none) in
     either_way c.push_queued.result _ _ _ c.push_queued.ensures.pushed c.push_queued.ensures.kept
     (λ put. crowd_stands slots c.self.inside.firsts.items c.self.inside.keys.items crowded c.self.invariant key c.args.number next put some)
     (λ same. same_stands slots c.self.inside.firsts.items c.self.inside.keys.items crowded c.self.invariant next same)
@@ -33,15 +39,12 @@ returns-then-is_emptied-clause-pushed c q =
     let keys = c.self.inside.keys.items in
     let key = c.args.key.items in
     let ks = c.as_slice-then-slot-gt0.result.now in
-    let all : c.len.result ≡ length slots = c.len.ensures ∙ c.self.inside.slots.ok.0 in
-    let slot = slot_at slots key c.as_slice.result.now c.len.result c.place_of-place.result c.index-slot.result.now all c.as_slice.ensures.value c.place_of-place.ensures.place c.place_of-place.ensures.within c.index-slot.ensures in
-    let place = place_at slots key c.as_slice.result.now c.len.result c.place_of-place.result all c.as_slice.ensures.value c.place_of-place.ensures.place in
-    let within : c.place_of-place.result < length slots = omega (arith, c.place_of-place.ensures.within, all) in
-    let numbered : c.place_of-place.result < length firsts = omega (arith, within, c.self.invariant.count) in
+    let h = look (goal.at.returns-then-is_emptied-clause-pushed c).After-index-slot in
+    let numbered : c.place_of-place.result < length firsts = omega (arith, h.within, c.self.invariant.count) in
     let found : (is_at ks c.index-slot.result.now key ≡ true) × ((c.index-first.result.now ≡ None) × (queued c.self.inside.crowded c.args.key ≡ [])) = c.is_emptied.ensures c.if-is_emptied.true in
-    let there = there_seen slots keys key ks c.index-slot.result.now c.as_slice-then-slot-gt0.ensures.value slot found.0 in
+    let there = there_seen slots keys key ks c.index-slot.result.now c.as_slice-then-slot-gt0.ensures.value h.slot_is found.0 in
     let empty = first_seen firsts c.place_of-place.result c.index-first.result.now c.index-first.ensures numbered in
-    refill_seen slots firsts keys (pairs_of c.self.inside.crowded) c.self.invariant key c.args.number c.place_of-place.result there (empty ∙ found.1.0) found.1.1 place within q
+    refill_seen slots firsts keys (pairs_of c.self.inside.crowded) c.self.invariant key c.args.number c.place_of-place.result there (empty ∙ found.1.0) found.1.1 h.place_is h.within q
     ∙ ap (λ (n : KeyNumbers). numbers_at n q ++ with_number key c.args.number q.items) c.self.view_is
 
 pub returns-in_err-put_list-clause-kept : goal.returns-in_err-put_list-clause-kept
@@ -54,31 +57,24 @@ returns-in_err-put_list-clause-kept c =
     ap (λ (ks : List ℕ). all_at slots firsts ks crowded q.items) kept.1 ∙ kept_all slots firsts c.self.inside.keys.items crowded c.self.invariant kept.0 q.items
     ∙ ap (λ (n : KeyNumbers). numbers_at n q) c.self.view_is)
 
+-- the key is put, where its place has none
+free : (slots key : List ℕ) (place slot : ℕ) → Looked slots key place slot → slot ≤ 0 → slot_of slots key ≡ 0
+free slots key place slot h none = omega (arith, h.slot_is, none)
+
+behind : (c : In_ok-put_list) → c.put_list.new.held.items ≡ c.self.inside.keys.items ++ length c.args.key.items ∷ c.args.key.items
+behind c = c.in_ok-put_list.ensures.put ∙ ap (λ (ks : List ℕ). c.self.inside.keys.items ++ length ks ∷ ks) c.as_slice-2.ensures.value
+
 pub invariant_of-self-2 : goal.invariant_of-self-2
 invariant_of-self-2 c =
-    let slots = c.self.inside.slots.items in
-    let key = c.args.key.items in
-    let all : c.len.result ≡ length slots = c.len.ensures ∙ c.self.inside.slots.ok.0 in
-    let slot = slot_at slots key c.as_slice.result.now c.len.result c.place_of-place.result c.index-slot.result.now all c.as_slice.ensures.value c.place_of-place.ensures.place c.place_of-place.ensures.within c.index-slot.ensures in
-    let place = place_at slots key c.as_slice.result.now c.len.result c.place_of-place.result all c.as_slice.ensures.value c.place_of-place.ensures.place in
-    let within : c.place_of-place.result < length slots = omega (arith, c.place_of-place.ensures.within, all) in
-    let free : slot_of slots key ≡ 0 = omega (arith, slot, c.if-slot-gt0.false) in
-    let begin : c.len-begin.result ≡ length c.self.inside.keys.items = c.len-begin.ensures ∙ c.self.inside.keys.ok.0 in
-    let behind : c.put_list.new.held.items ≡ c.self.inside.keys.items ++ length key ∷ key = c.in_ok-put_list.ensures.put ∙ ap (λ (ks : List ℕ). c.self.inside.keys.items ++ length ks ∷ ks) c.as_slice-2.ensures.value in
-    put_stands_seen slots c.self.inside.firsts.items c.self.inside.keys.items (pairs_of c.self.inside.crowded) c.self.invariant key c.args.number c.place_of-place.result c.len-begin.result c.put_list.new.held.items
-    free place within begin behind
+    let at = goal.at.invariant_of-self-2 c in
+    let h = look at.After-index-slot in
+    put_stands_seen c.self.inside.slots.items c.self.inside.firsts.items c.self.inside.keys.items (pairs_of c.self.inside.crowded) c.self.invariant c.args.key.items c.args.number c.place_of-place.result c.len-begin.result c.put_list.new.held.items
+    (free _ _ _ _ h c.if-slot-gt0.false) h.place_is h.within (c.len-begin.ensures ∙ c.self.inside.keys.ok.0) (behind at.In_ok-put_list)
 
 pub returns-clause-pushed : goal.returns-clause-pushed
 returns-clause-pushed c q =
-    let slots = c.self.inside.slots.items in
-    let key = c.args.key.items in
-    let all : c.len.result ≡ length slots = c.len.ensures ∙ c.self.inside.slots.ok.0 in
-    let slot = slot_at slots key c.as_slice.result.now c.len.result c.place_of-place.result c.index-slot.result.now all c.as_slice.ensures.value c.place_of-place.ensures.place c.place_of-place.ensures.within c.index-slot.ensures in
-    let place = place_at slots key c.as_slice.result.now c.len.result c.place_of-place.result all c.as_slice.ensures.value c.place_of-place.ensures.place in
-    let within : c.place_of-place.result < length slots = omega (arith, c.place_of-place.ensures.within, all) in
-    let free : slot_of slots key ≡ 0 = omega (arith, slot, c.if-slot-gt0.false) in
-    let begin : c.len-begin.result ≡ length c.self.inside.keys.items = c.len-begin.ensures ∙ c.self.inside.keys.ok.0 in
-    let behind : c.put_list.new.held.items ≡ c.self.inside.keys.items ++ length key ∷ key = c.in_ok-put_list.ensures.put ∙ ap (λ (ks : List ℕ). c.self.inside.keys.items ++ length ks ∷ ks) c.as_slice-2.ensures.value in
-    put_seen slots c.self.inside.firsts.items c.self.inside.keys.items (pairs_of c.self.inside.crowded) c.self.invariant key c.args.number c.place_of-place.result c.len-begin.result c.put_list.new.held.items
-    free place within begin behind q
-    ∙ ap (λ (n : KeyNumbers). numbers_at n q ++ with_number key c.args.number q.items) c.self.view_is
+    let at = goal.at.returns-clause-pushed c in
+    let h = look at.After-index-slot in
+    put_seen c.self.inside.slots.items c.self.inside.firsts.items c.self.inside.keys.items (pairs_of c.self.inside.crowded) c.self.invariant c.args.key.items c.args.number c.place_of-place.result c.len-begin.result c.put_list.new.held.items
+    (free _ _ _ _ h c.if-slot-gt0.false) h.place_is h.within (c.len-begin.ensures ∙ c.self.inside.keys.ok.0) (behind at.In_ok-put_list) q
+    ∙ ap (λ (n : KeyNumbers). numbers_at n q ++ with_number c.args.key.items c.args.number q.items) c.self.view_is

@@ -11,7 +11,7 @@ use Rattle.rmt_config.specs.declared.form.layout.CellLayout.{CellLayout}
 use Rattle.rmt_config.specs.Rooms.{mask_or_value}
 use Rattle.rmt_verify.proofs.ContentLaws.{args_along, code_told, exact_all, exact_head, exact_key, exact_key-lt, key_few, key_room, key_small, stands_told, told_along, way_low}
 use Rattle.rmt_verify.proofs.cells.content.exact_holds.Goals as goal
-use Rattle.rmt_refine.proofs.LayoutLaws.{at_layout, bytes_hold}
+use Rattle.rmt_pack.proofs.LayoutLaws.{at_layout, bytes_hold}
 
 pub head_of-requires-clause-cell : goal.head_of-requires-clause-cell
 head_of-requires-clause-cell c =
@@ -56,7 +56,7 @@ pub returns : goal.returns
 returns c = λ cs.
     let memory = c.args.memory.now in
     let slot = c.args.slot.now in
-    let e = c.args.entry.now in
+    let e = c.args.wanted.now.entry.now in
     let cell : ℕ = c.args.cell in
     let bits : ℕ = bits_of_lanes slot.keys in
     let sram = sram_row c.args.rows.now in
@@ -65,8 +65,8 @@ returns c = λ cs.
     let at = cell_of (1024 * memory.quanta) memory.per cell in
     let stands : ℕ = entry_at sram ks memory.width bits at in
     let held : ℕ = data_at sram rs memory.per slot.held at in
-    let ws : List ℕ = c.args.widths.now in
-    let ps : List ℕ = c.args.params.now in
+    let ws : List ℕ = c.args.wanted.now.widths.now in
+    let ps : List ℕ = c.args.wanted.now.params.now in
     let some_p = c.requires.fits.some_p in
     let some_d = c.requires.fits.some_d in
     let same : c.key_bits-bits.result ≡ bits = c.key_bits-bits.ensures ∙ ap bits_of_lanes c.as_slice.ensures in
@@ -77,10 +77,10 @@ returns c = λ cs.
     let tests : tests_as_one (mask_or_value false) c.as_slice-2.result.now c.as_slice-3.result.now ≡ tests_as_one (λ t. t.value) ws e.tests =
     ap (λ (z : List ℕ). tests_as_one (mask_or_value false) z c.as_slice-3.result.now) c.as_slice-2.ensures ∙ ap (λ (z : List Test). tests_as_one (mask_or_value false) ws z) c.as_slice-3.ensures in
     let read : number_of c.deref-3.result.now ≡ held = ap number_of c.deref-3.ensures.value ∙ c.in_ok-data.ensures.number in
-    exact_all ws ps c.args.code e (exact_content sram slot memory.width memory.per ks rs at)
+    exact_all ws ps c.args.wanted.now.code e (exact_content sram slot memory.width memory.per ks rs at)
     (λ key. Contains (candidates c.args.seed bits (Exact memory.width memory.per memory.quanta memory.first_way ks rs cs) key) cell)
-    (c.in_ok-head.head / 8 == c.args.code) c.are_tests-has_key.result c.stands_at-stands.result c.are_arguments-has_data.result
-    (code_told c.in_ok-head.head stands c.args.code head_is)
+    (c.in_ok-head.head / 8 == c.args.wanted.now.code) c.are_tests-has_key.result c.stands_at-stands.result c.are_arguments-has_data.result
+    (code_told c.in_ok-head.head stands c.args.wanted.now.code head_is)
     (told_along c.are_tests-has_key.result (number_of c.deref.result.now) (stands / 256) (tests_as_one (mask_or_value false) c.as_slice-2.result.now c.as_slice-3.result.now) (tests_as_one (λ t. t.value) ws e.tests) c.are_tests-has_key.ensures number tests)
     (ap (λ n. 2 ^ n - 1) c.requires.bits ∙ sym c.requires.whole)
     (stands_told memory.width memory.per memory.quanta memory.first_way ks rs cs c.args.seed bits (stands / 256) cell c.deref-2.result.now c.stands_at-stands.result some_p some_d

@@ -10,7 +10,7 @@ use Rattle.rmt_config.specs.declared.form.layout.CellLayout.{CellLayout}
 use Rattle.rmt_pack.specs.declared.tcam.TcamWord.{TcamWord}
 use Rattle.rmt_verify.proofs.ContentLaws.{args_along, blocks_there, code_told, row_data, row_head, ternary_all, words_along, words_told}
 use Rattle.rmt_verify.proofs.cells.content.ternary_holds.Goals as goal
-use Rattle.rmt_refine.proofs.LayoutLaws.{at_layout, rows_in}
+use Rattle.rmt_pack.proofs.LayoutLaws.{at_layout, rows_in}
 
 pub data_bytes-requires-clause-layout : goal.data_bytes-requires-clause-layout
 data_bytes-requires-clause-layout c =
@@ -28,15 +28,15 @@ pub returns : goal.returns
 returns c =
     let stage = c.args.stage.now in
     let slot = c.args.slot.now in
-    let e = c.args.entry.now in
+    let e = c.args.wanted.now.entry.now in
     let cell : ℕ = c.args.cell in
     let d : ℕ = c.args.quanta in
     let bits : ℕ = bits_of_lanes slot.keys in
     let sram = sram_row stage.srows in
     let ks : List ℕ = c.args.keys.now in
     let rs : List ℕ = c.args.records.now in
-    let ws : List ℕ = c.args.widths.now in
-    let ps : List ℕ = c.args.params.now in
+    let ws : List ℕ = c.args.wanted.now.widths.now in
+    let ps : List ℕ = c.args.wanted.now.params.now in
     let l : CellLayout = c.ternary_records-layout.result in
     let stands : ℕ = row_record sram rs slot.held cell in
     let words : List TcamWord = c.in_ok-words.words in
@@ -54,7 +54,7 @@ returns c =
     let same = words_along c.are_words-has_key.result (cell % 2048) c.as_slice-2.result.now stage.trows c.piece_at-blocks.result.now blocks c.as_slice-3.result.now words c.are_words-has_key.ensures c.as_slice-2.ensures unit_is c.as_slice-3.ensures in
     let told = words_told stage.trows (cell % 2048) blocks words (sum ws) (tests_as_one (λ t. t.value) ws e.tests) (tests_as_one (λ t. t.mask) ws e.tests) c.requires.values.within c.requires.rows.tbits long
     c.in_ok-words.ensures.values c.in_ok-words.ensures.masks c.in_ok-words.ensures.value_row c.in_ok-words.ensures.mask_row in
-    ternary_all ws ps c.args.code e (ternary_content stage slot ks rs cell) (c.in_ok-head.head / 8 == c.args.code) c.are_words-has_key.result c.are_arguments-has_data.result
-    (code_told c.in_ok-head.head stands c.args.code head_is)
+    ternary_all ws ps c.args.wanted.now.code e (ternary_content stage slot ks rs cell) (c.in_ok-head.head / 8 == c.args.wanted.now.code) c.are_words-has_key.result c.are_arguments-has_data.result
+    (code_told c.in_ok-head.head stands c.args.wanted.now.code head_is)
     (λ yes. told.0 (same.0 yes), λ both. same.1 (told.1 both))
     (args_along c.are_arguments-has_data.result c.as_slice-4.result.now ps c.as_slice-5.result.now e.args (number_of c.deref.result.now) (stands / 256) c.are_arguments-has_data.ensures c.as_slice-4.ensures c.as_slice-5.ensures read)

@@ -17,7 +17,7 @@ returns-then-not-branch c =
     let u = c.unit-item.result in
     let at = slice_get-seen stage.units c.as_slice-unit-items.result.now i u c.as_slice-unit-items.ensures c.loop-unit-test.true c.unit-item.is in (
       λ no. absurd cc,
-      λ coded. absurd (let yes = c.in_ok-unit_holds.ensures.1 (subst (λ k. UnitCoded c.args.program.now c.args.places.now stage k u) (sym c.loop-unit.invariant.first_is) (coded i u at)) in cc),
+      λ coded. absurd (let yes = c.in_ok-unit_holds.ensures.1 (subst (λ k. UnitCoded c.args.coding.now.program.now c.args.coding.now.places.now stage k u) (sym c.loop-unit.invariant.first_is) (coded i u at)) in cc),
     )
 
 pub loop-unit-preserved : goal.loop-unit-preserved
@@ -31,7 +31,7 @@ loop-unit-preserved c =
     record {
       few = omega (arith, inv.few, c.instructions_of.ensures.few);
       first_is = (let size = c.instructions_of.ensures.value in let is = inv.first_is in omega (arith, next, size, is));
-      so_far = units_more c.args.program.now c.args.places.now stage i u at (subst (λ k. UnitCoded c.args.program.now c.args.places.now stage k u) inv.first_is (c.in_ok-unit_holds.ensures.0 cc)) inv.so_far;
+      so_far = units_more c.args.coding.now.program.now c.args.coding.now.places.now stage i u at (subst (λ k. UnitCoded c.args.coding.now.program.now c.args.coding.now.places.now stage k u) inv.first_is (c.in_ok-unit_holds.ensures.0 cc)) inv.so_far;
     }
 
 pub returns : goal.returns

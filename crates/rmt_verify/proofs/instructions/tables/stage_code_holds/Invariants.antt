@@ -10,5 +10,5 @@ abbrev pub invariant-loop-unit : goal.invariant-loop-unit
 invariant-loop-unit l = record {
   few : l.first ≤ 256 * l.unit-index;
   first_is : l.first ≡ first_code l.stage l.unit-index;
-  so_far : (place : ℕ) (u : Unit) → place < l.unit-index → slice_get l.stage.units place ≡ Some u → UnitCoded l.program l.places l.stage (first_code l.stage place) u;
+  so_far : (place : ℕ) (u : Unit) → place < l.unit-index → slice_get l.stage.units place ≡ Some u → UnitCoded l.coding.program.now l.coding.places.now l.stage (first_code l.stage place) u;
 }

@@ -8,12 +8,12 @@ use Rattle.rmt_verify.proofs.StageCodeLaws.{applied_table}
 use Rattle.rmt_verify.proofs.instructions.tables.unit_holds.Goals as goal
 
 pub table_holds-requires-clause-table : goal.table_holds-requires-clause-table
-table_holds-requires-clause-table c = applied_table c.args.program.now c.in-Slot.slot.node c.in-Some.table.now c.requires.program (sym c.in-Some.ensures)
+table_holds-requires-clause-table c = applied_table c.args.coding.now.program.now c.in-Slot.slot.node c.in-Some.table.now c.requires.coding.program (sym c.in-Some.ensures)
 
 pub returns-in-Some : goal.returns-in-Some
 returns-in-Some c =
-    let p = c.args.program.now in
-    let places = c.args.places.now in
+    let p = c.args.coding.now.program.now in
+    let places = c.args.coding.now.places.now in
     let stage = c.args.stage.now in
     let first = c.args.first in
     IfOk-weaker c.table_holds.result (λ b. IsTrue b ↔ TableCoded p places c.in-Some.table.now first stage) (λ b. IsTrue b ↔ UnitCoded p places stage first c.args.unit.now)

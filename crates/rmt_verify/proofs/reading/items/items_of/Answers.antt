@@ -13,7 +13,7 @@ returns-in_err-item g c =
 pub loop-preserved : goal.loop-preserved
 loop-preserved g c =
     let read = g.T.Item.item_at in
-    rw c.in_ok-push.ensures.items (goes_on read c.loop.items.items c.args.count c.loop.counter c.loop.rest.now c.in_ok-item.item c.in_ok-item.behind.now
+    rw c.in_ok-put.ensures (goes_on read c.loop.items.items c.args.count c.loop.counter c.loop.rest.now c.in_ok-item.item c.in_ok-item.behind.now
     (items_at read c.args.count c.args.bytes.now) c.loop-test.true c.in_ok-item.ensures c.loop.invariant)
 
 pub returns : goal.returns

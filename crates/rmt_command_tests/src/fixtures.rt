@@ -1,0 +1,6 @@
+//! What the tests of the commands begin with.
+
+pub mod captures;
+pub mod commands;
+pub mod images;
+pub mod programs;

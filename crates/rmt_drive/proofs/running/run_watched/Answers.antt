@@ -1,0 +1,117 @@
+-- A run that ended early, and one that came to the end of what may be read.
+use Rattle.std.proofs.Common.{◌≡◌, ℕ, None, Err, inl, refl, ap, sym, subst, ◌∙◌, arith}
+use Rattle.rmt_io.proofs.OutsideLaws.{only_printed_trans, printing_failed_later}
+use Rattle.rmt_io.specs.Outside.{Gained}
+use Rattle.rmt_runs.proofs.FrontLaws.{gained_none}
+use Rattle.rmt_chip.specs.declared.chip.Chip.{Chip}
+use Rattle.rmt_chip.specs.Stands.{entered_of}
+use Rattle.rmt_drive.specs.declared.running.state.Run.{Run}
+use Rattle.rmt_drive.specs.ChipEvents.{empty_cycles}
+use Rattle.rmt_drive.specs.ChipText.{run_text}
+use Rattle.rmt_drive.specs.RunEnd.{bad_line}
+use Rattle.rmt_drive.proofs.ChipEnds.{broken_answered, few_first, follows_first, not_done, ran_all, taken_answered}
+use Rattle.rmt_drive.proofs.DrainLaws.{ended_done, ended_was}
+use Rattle.rmt_drive.proofs.LineBreaks.{broke, ended, taken_as}
+use Rattle.rmt_drive.proofs.running.run_watched.Goals as goal
+
+pub take_all-requires-clause-starts : goal.take_all-requires-clause-starts
+take_all-requires-clause-starts g c =
+    let s = c.requires.stands in
+    let now = g.O.Sink.state c.args.out.now in
+    ((c.args.watch, s.0), follows_first c.args.watch s.0 c.in-Ok.run' c.args.chip.now c.args.commits.now now s.1 s.2 (c.in-Ok.ensures s.0 c.args.chip.now now s.1))
+
+pub take_all-requires-clause-few : goal.take_all-requires-clause-few
+take_all-requires-clause-few g c =
+    let s = c.requires.stands in
+    let now = g.O.Sink.state c.args.out.now in
+    few_first c.args.watch s.0 c.in-Ok.run' c.args.chip.now now now (c.in-Ok.ensures s.0 c.args.chip.now now s.1)
+
+pub finish-requires-clause-came : goal.finish-requires-clause-came
+finish-requires-clause-came g c =
+    let s = c.requires.stands in
+    let k = s.0 in
+    let stands = s.1 in
+    let of = s.2 in
+    let lent = c.take_all.ensures.lent in
+    let runs = c.run-3-1.given.1 (sym (ap (λ (x : ℕ × ℕ). x.1) lent)) in
+    let chips = c.chip-1.given.1 (sym (ap (λ (x : ℕ × ℕ). x.0) lent)) in
+    let now = g.O.Sink.state c.args.out.now in
+    let w = c.args.watch in
+    let shelf = g.F.Shelf.state c.args.shelf.now in
+    let h = follows_first w k c.in-Ok.run' c.args.chip.now c.args.commits.now now stands of (c.in-Ok.ensures k c.args.chip.now now stands) in
+    let new = c.take_all.new.taker in
+    let t = taken_as runs chips (ended w k c.args.limit shelf new.run.now new.chip.now new.commits.now now (g.O.Sink.state c.take_all.new.out) c.in-Ok-take_all.bad (c.in-Ok-take_all.ensures.ended (w, k) h)) in
+    (w, k, t.said.events, t.made, t.state, now, t.came)
+
+pub finish-requires-clause-entered : goal.finish-requires-clause-entered
+finish-requires-clause-entered g c =
+    let lent = c.take_all.ensures.lent in
+    let chips = c.chip-1.given.1 (sym (ap (λ (x : ℕ × ℕ). x.0) lent)) in
+    let few = c.in-Ok-take_all.ensures.few in
+    omega (arith, few.1, few.2.entered, ap (λ (x : Chip). entered_of x) chips)
+
+pub finish-requires-clause-cycles : goal.finish-requires-clause-cycles
+finish-requires-clause-cycles g c =
+    let lent = c.take_all.ensures.lent in
+    let runs = c.run-3-1.given.1 (sym (ap (λ (x : ℕ × ℕ). x.1) lent)) in
+    let few = c.in-Ok-take_all.ensures.few in
+    omega (arith, few.1, few.2.cycles, ap (λ (x : Run). x.cycles) runs)
+
+pub returns-in-Ok-take_all-clause-clocked : goal.returns-in-Ok-take_all-clause-clocked
+returns-in-Ok-take_all-clause-clocked g c = λ e tells k stands of.
+    let lent = c.take_all.ensures.lent in
+    let runs = c.run-3-1.given.1 (sym (ap (λ (x : ℕ × ℕ). x.1) lent)) in
+    let chips = c.chip-1.given.1 (sym (ap (λ (x : ℕ × ℕ). x.0) lent)) in
+    let now = g.O.Sink.state c.args.out.now in
+    let w = c.args.watch in
+    let shelf = g.F.Shelf.state c.args.shelf.now in
+    let h = follows_first w k c.in-Ok.run' c.args.chip.now c.args.commits.now now stands of (c.in-Ok.ensures k c.args.chip.now now stands) in
+    let new = c.take_all.new.taker in
+    let t = taken_as runs chips (ended w k c.args.limit shelf new.run.now new.chip.now new.commits.now now (g.O.Sink.state c.take_all.new.out) c.in-Ok-take_all.bad (c.in-Ok-take_all.ensures.ended (w, k) h)) in
+    let was = ended_was c.in-Ok-take_all.bad c.finish.result e c.finish.ensures.possible in
+    let none : bad_line c.in-Ok-take_all.bad ≡ None = ended_done c.in-Ok-take_all.bad was in
+    ran_all k c.args.limit shelf.rest t.full t.said t.made t.state (t.reads tells) t.came.comes t.ends w c.finish.new.chip now (g.O.Sink.state c.finish.new.out) (t.bad_is ∙ none)
+    (c.finish.ensures.clocked e w k t.said.events t.made t.state now t.came)
+    (subst (λ b. Gained now (g.O.Sink.state c.finish.new.out) (run_text w k t.made (empty_cycles t.state) b)) none (c.finish.ensures.printed (e ∙ sym was) w k t.said.events t.made t.state now t.came))
+
+pub returns-in-Ok-take_all-clause-answered : goal.returns-in-Ok-take_all-clause-answered
+returns-in-Ok-take_all-clause-answered g c = λ tells k stands of.
+    let lent = c.take_all.ensures.lent in
+    let runs = c.run-3-1.given.1 (sym (ap (λ (x : ℕ × ℕ). x.1) lent)) in
+    let chips = c.chip-1.given.1 (sym (ap (λ (x : ℕ × ℕ). x.0) lent)) in
+    let now = g.O.Sink.state c.args.out.now in
+    let w = c.args.watch in
+    let shelf = g.F.Shelf.state c.args.shelf.now in
+    let h = follows_first w k c.in-Ok.run' c.args.chip.now c.args.commits.now now stands of (c.in-Ok.ensures k c.args.chip.now now stands) in
+    let new = c.take_all.new.taker in
+    let t = taken_as runs chips (ended w k c.args.limit shelf new.run.now new.chip.now new.commits.now now (g.O.Sink.state c.take_all.new.out) c.in-Ok-take_all.bad (c.in-Ok-take_all.ensures.ended (w, k) h)) in
+    let e = c.finish.ensures in
+    taken_answered k c.args.limit shelf.rest t.full t.said t.made t.state (t.reads tells) t.came.comes t.ends _ _ w c.in-Ok-take_all.bad t.bad_is c.take_all.ensures.only_read.files c.finish.result e.possible
+    (λ f. e.some f w k t.said.events t.made t.state now t.came) (λ d. e.printed d w k t.said.events t.made t.state now t.came) (e.front w k t.said.events t.made t.state now t.came)
+    (λ f. printing_failed_later (g.O.Sink.state c.finish.new.out) c.take_all.ensures.only_printed (e.failed f))
+
+pub returns-clause-answered : goal.returns-clause-answered
+returns-clause-answered g c = λ tells k stands of.
+    let now = g.O.Sink.state c.args.out.now in
+    let w = c.args.watch in
+    let shelf = g.F.Shelf.state c.args.shelf.now in
+    let h = follows_first w k c.in-Ok.run' c.args.chip.now c.args.commits.now now stands of (c.in-Ok.ensures k c.args.chip.now now stands) in
+    let new = c.take_all.new.taker in
+    rw c.fault_status.ensures
+    (broken_answered _ _ w k c.args.limit shelf.rest c.in-Err.fault
+    (broke w k h.come.formed h.come.small shelf c.args.limit new.run.now new.chip.now new.commits.now now (g.O.Sink.state c.take_all.new.out) c.in-Err.fault tells (c.in-Err.ensures.broken (w, k) h)) c.take_all.ensures.only_read.files
+    (λ e. c.in-Err.ensures.write_fault (ap Err e)) (λ e. c.in-Err.ensures.never_fails (ap Err e)))
+
+pub returns-in-Ok-take_all-clause-only_printed : goal.returns-in-Ok-take_all-clause-only_printed
+returns-in-Ok-take_all-clause-only_printed g c = only_printed_trans c.take_all.ensures.only_printed c.finish.ensures.only_printed
+
+-- without memory nothing was read or printed
+pub returns-in_default-clause-answered : goal.returns-in_default-clause-answered
+returns-in_default-clause-answered g c = λ tells k stands of. record {
+  files = inl (λ name. refl);
+  front = λ given is. (given, is, gained_none (g.O.Sink.state c.args.out.now) (g.O.Sink.state c.args.out.now) given.text (λ t. refl));
+  steady = λ st e. absurd (cc);
+}
+
+pub returns-clause-clocked : goal.returns-clause-clocked
+returns-clause-clocked g c = λ done tells k stands of. absurd (not_done c.in-Err.fault (sym c.fault_status.ensures ∙ done))

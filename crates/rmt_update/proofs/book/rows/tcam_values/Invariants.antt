@@ -1,7 +1,0 @@
-use Rattle.std.proofs.Common.{◌≡◌, take, map}
-use Rattle.rmt_config.specs.declared.config.TcamRow.{TcamRow}
-use Rattle.rmt_config.specs.Cells.{tcam_row}
-use Rattle.rmt_update.proofs.book.rows.tcam_values.Given as goal
-
-abbrev pub invariant-loop-block : goal.invariant-loop-block
-invariant-loop-block l = l.words.items ≡ map (λ b. tcam_row (λ (t : TcamRow). t.value) l.rows b l.row) (take l.block-index l.blocks)

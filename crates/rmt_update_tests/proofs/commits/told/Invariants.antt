@@ -1,0 +1,7 @@
+use Rattle.rmt_update.specs.Running.{Running}
+use Rattle.rmt_update.specs.Stands.{Stands}
+use Rattle.rmt_update_tests.proofs.commits.told.Given as goal
+
+-- the lists stand for some run
+abbrev pub invariant-loop-line : goal.invariant-loop-line
+invariant-loop-line l = (r : Running) × Stands r l.lists
