@@ -1,11 +1,11 @@
 //! A call of the program: the top call, and then the message for people.
 
-use crate::last_line::LastLine;
-use crate::messages::{KeepsFault, Lengths, message_after};
 use rmt_core::rmt;
 use rmt_explain::ending::Ending;
 use rmt_io::shelf::Shelf;
 use rmt_io::sink::Sink;
+use rmt_messages::last_line::LastLine;
+use rmt_messages::messages::{KeepsFault, Lengths, message_after};
 use std::alloc::{AllocError, Global};
 use std::io::Write;
 

@@ -3,8 +3,6 @@
 #![tactic(auto)]
 
 mod call;
-mod last_line;
-mod messages;
 #[cfg(test)]
 mod tests;
 
@@ -12,10 +10,10 @@ ghost use Rattle.std.specs.Prelude.{◌≡◌, ◌≢◌, IfOk, drop};
 ghost use Rattle.std.specs.Vec.Iter.{into_iter_items};
 
 use crate::call::call;
-use crate::messages::{KeepsFault, Lengths};
 use rmt_core::status::Status;
-use rmt_io::true_shelf::{MachineFault, TrueShelf};
+use rmt_io::true_shelf::TrueShelf;
 use rmt_io::true_sink::TrueSink;
+use rmt_messages::messages::Lengths;
 use std::alloc::Global;
 use std::env::Args;
 use std::io::{ErrorKind, Write};
@@ -50,12 +48,6 @@ impl<R: Files> Lengths for TrueLengths<'_, R> {
             Ok(found) if found.is_file() => Some(found.len()),
             _ => None,
         }
-    }
-}
-
-impl<R: Files> KeepsFault for TrueShelf<'_, R> {
-    fn kept_fault(&self) -> Option<&MachineFault> {
-        self.last_fault()
     }
 }
 

@@ -20,7 +20,8 @@ use Rattle.rmt_refine.proofs.PartLaws.{some_and}
 use Rattle.rmt_refine.proofs.TheLaw.{its_table}
 use Rattle.rmt_vliw.specs.Coded.{IsCodeOf, IsDefaultCodeOf}
 use Rattle.rmt_build.specs.Promises.{HasCodeOfRule}
-use Rattle.rmt_build.specs.UnitCode.{DoActions, DoTable, DoUnit, DoUnits}
+use Rattle.rmt_filling.specs.TableCode.{DoActions, DoTable}
+use Rattle.rmt_build.specs.UnitCode.{DoUnit, DoUnits}
 use Rattle.rmt_refine.proofs.TableCodeLaws.{table_does}
 
 -- an instruction of a list, by its number

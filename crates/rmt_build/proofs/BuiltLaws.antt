@@ -29,11 +29,11 @@ use Rattle.rmt_refine.specs.View.{as_slot, slot_of}
 use Rattle.rmt_bits.proofs.MemberLaws.{Contains-item, Contains-flat_map}
 use Rattle.rmt_refine.proofs.PartLaws.{quanta_of_node}
 use Rattle.rmt_pack.proofs.PartLaws.{slot_is_unit, then_some}
-use Rattle.rmt_build.specs.declared.plan.Plan.{Plan}
+use Rattle.rmt_filling.specs.declared.plan.Plan.{Plan}
 use Rattle.rmt_build.specs.BuiltStage.{HasPart, HaveParts, IsBuiltStage, SmallUnit}
-use Rattle.rmt_build.specs.Holding.{Held}
-use Rattle.rmt_build.specs.Listing.{ListsSram, ListsTcam}
-use Rattle.rmt_build.specs.Memories.{memory_for}
+use Rattle.rmt_filling.specs.Holding.{Held}
+use Rattle.rmt_filling.specs.Listing.{ListsSram, ListsTcam}
+use Rattle.rmt_filling.specs.Memories.{memory_for}
 use Rattle.rmt_build.specs.Plans.{IsPlan, need_in, taken_upto}
 use Rattle.rmt_build.specs.UnitCode.{DoUnits}
 use Rattle.rmt_build.specs.Written.{UnitFits, UnitsApart, UnitsWritten}

@@ -18,9 +18,10 @@ use Rattle.rmt_refine.specs.Units.{UnitCarried, UnitsCarried, nodes_in}
 use Rattle.rmt_refine.specs.View.{own_view}
 use Rattle.rmt_pack.proofs.PartLaws.{IsPart as Stands, and_from}
 use Rattle.rmt_refine.proofs.PartLaws.{spot_of_part}
-use Rattle.rmt_build.specs.declared.plan.Plan.{Plan}
+use Rattle.rmt_filling.specs.declared.plan.Plan.{Plan}
 use Rattle.rmt_build.specs.BuiltStage.{IsBuiltStage}
-use Rattle.rmt_build.specs.Plans.{AreParts, AreStands, format_at}
+use Rattle.rmt_build.specs.Plans.{AreParts, AreStands}
+use Rattle.rmt_filling.specs.Formats.{format_at}
 use Rattle.rmt_build.specs.Told.{cells_told}
 use Rattle.rmt_build.proofs.AssemblyLaws.{code_carried}
 use Rattle.rmt_build.proofs.DistinctLaws.{told_once}

@@ -25,11 +25,12 @@ use Rattle.rmt_refine.proofs.NumberLaws.{one_list}
 use Rattle.rmt_pack.proofs.PartLaws.{IsPart, and_at, then_some}
 use Rattle.rmt_refine.proofs.PartLaws.{some_and}
 use Rattle.rmt_refine.proofs.TheLaw.{table_entries}
-use Rattle.rmt_build.specs.declared.plan.Plan.{Plan}
-use Rattle.rmt_build.specs.declared.stands.Stand.{Stand}
+use Rattle.rmt_filling.specs.declared.plan.Plan.{Plan}
+use Rattle.rmt_filling.specs.declared.stands.Stand.{Stand}
 use Rattle.rmt_build.specs.BuiltStage.{IsBuiltStage}
-use Rattle.rmt_build.specs.Plans.{AreStands, format_at, quanta_before}
-use Rattle.rmt_build.specs.EntryCells.{cells_for}
+use Rattle.rmt_build.specs.Plans.{AreStands, quanta_before}
+use Rattle.rmt_filling.specs.Formats.{format_at}
+use Rattle.rmt_filling.specs.EntryCells.{cells_for}
 use Rattle.rmt_build.specs.Told.{cells_told}
 use Rattle.rmt_build.proofs.PartLaws.{sum_more}
 use Rattle.rmt_build.proofs.SpotLaws.{StandsAt, listed_stands, rising_place, stands_listed, table_of_part}

@@ -19,12 +19,12 @@ use Rattle.rmt_refine.proofs.NodeLaws.{one_place}
 use Rattle.rmt_refine.proofs.NumberLaws.{one_list}
 use Rattle.rmt_pack.proofs.PartLaws.{IsPart}
 use Rattle.rmt_refine.proofs.PartLaws.{unit_of_part}
-use Rattle.rmt_build.specs.declared.plan.Plan.{Plan}
-use Rattle.rmt_build.specs.declared.stands.Stand.{Stand}
+use Rattle.rmt_filling.specs.declared.plan.Plan.{Plan}
+use Rattle.rmt_filling.specs.declared.stands.Stand.{Stand}
 use Rattle.rmt_build.specs.BuiltStage.{IsBuiltStage}
-use Rattle.rmt_build.specs.Numbers.{number_at}
+use Rattle.rmt_filling.specs.Numbers.{number_at}
 use Rattle.rmt_build.specs.Plans.{AreStands}
-use Rattle.rmt_build.specs.EntryCells.{StandOnce, counted_from, stands_there, stands_within}
+use Rattle.rmt_filling.specs.EntryCells.{StandOnce, counted_from, stands_there, stands_within}
 use Rattle.rmt_build.specs.Told.{cell_told, cells_told, stages_told, unit_told}
 use Rattle.rmt_build.proofs.SpotLaws.{listed_stands, part_stands, slot_built, table_of_part}
 use Rattle.rmt_build.proofs.ToldLaws.{stages_listed, unit_listed}

@@ -14,10 +14,11 @@ use Rattle.rmt_bits.proofs.AllLaws.{All-range, All-unmap}
 use Rattle.rmt_pack.proofs.FormatLaws.{filtered}
 use Rattle.rmt_pack.specs.Placements.{quanta_in}
 use Rattle.rmt_build.specs.Types.{Node, Program, Table}
-use Rattle.rmt_build.specs.declared.plan.Plan.{Plan}
-use Rattle.rmt_build.specs.declared.stands.Stand.{Stand}
-use Rattle.rmt_build.specs.EntryCells.{StandOnce, cells_for, counted_from, stands_there, stands_within}
-use Rattle.rmt_build.specs.Plans.{IsPlan, format_at, quanta_before, stands_of_part}
+use Rattle.rmt_filling.specs.declared.plan.Plan.{Plan}
+use Rattle.rmt_filling.specs.declared.stands.Stand.{Stand}
+use Rattle.rmt_filling.specs.EntryCells.{StandOnce, cells_for, counted_from, stands_there, stands_within}
+use Rattle.rmt_build.specs.Plans.{IsPlan, quanta_before, stands_of_part}
+use Rattle.rmt_filling.specs.Formats.{format_at}
 
 -- no cell, no entry
 pub within_none : (stands : List Stand) → stands_within 0 0 stands ≡ []

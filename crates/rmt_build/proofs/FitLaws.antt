@@ -11,16 +11,17 @@ use Rattle.rmt_config.specs.Cells.{cells_in}
 use Rattle.rmt_pack.specs.Placements.{quanta_in}
 use Rattle.rmt_refine.specs.Units.{table_at}
 use Rattle.rmt_pack.proofs.PartLaws.{and_at}
-use Rattle.rmt_build.specs.declared.plan.Plan.{Plan}
-use Rattle.rmt_build.specs.declared.stands.Stand.{Stand}
-use Rattle.rmt_build.specs.Memories.{memory_for}
-use Rattle.rmt_build.specs.Plans.{IsPlan, format_at, need_in, quanta_before, stands_of_part, taken_upto}
-use Rattle.rmt_build.specs.Rooms.{AreOf, HasBlocks, StandApart}
-use Rattle.rmt_build.specs.EntryCells.{cells_for, stands_within}
+use Rattle.rmt_filling.specs.declared.plan.Plan.{Plan}
+use Rattle.rmt_filling.specs.declared.stands.Stand.{Stand}
+use Rattle.rmt_filling.specs.Memories.{memory_for}
+use Rattle.rmt_build.specs.Plans.{IsPlan, need_in, quanta_before, stands_of_part, taken_upto}
+use Rattle.rmt_filling.specs.Formats.{format_at}
+use Rattle.rmt_filling.specs.Rooms.{AreOf, HasBlocks, StandApart}
+use Rattle.rmt_filling.specs.EntryCells.{cells_for, stands_within}
 use Rattle.rmt_build.specs.Written.{SlotFits}
-use Rattle.rmt_build.proofs.ApartLaws.{part-apart}
+use Rattle.rmt_filling.proofs.ApartLaws.{part-apart}
 use Rattle.rmt_build.proofs.PlanLaws.{has_need, has_room, is_format}
-use Rattle.rmt_build.proofs.RoomLaws.{room-blocks}
+use Rattle.rmt_filling.proofs.RoomLaws.{room-blocks}
 use Rattle.rmt_build.proofs.UnitLaws.{node_applies}
 use Rattle.rmt_build.proofs.MemoryLaws.{memory_cells}
 

@@ -19,10 +19,11 @@ use Rattle.rmt_pack.specs.declared.placement.Part.{Part}
 use Rattle.rmt_pack.specs.declared.format.Format.{Format}
 use Rattle.rmt_pack.specs.Formats.{no_memory}
 use Rattle.rmt_pack.specs.Placements.{quanta_in}
-use Rattle.rmt_build.specs.declared.memory.PartNeed.{PartNeed}
-use Rattle.rmt_build.specs.declared.memory.Taken.{Taken}
-use Rattle.rmt_build.specs.Memories.{blocks_for, memory_for, sram_for, tcam_for}
-use Rattle.rmt_build.specs.Plans.{AreParts, format_at, need_in, taken_upto, what_format}
+use Rattle.rmt_filling.specs.declared.memory.PartNeed.{PartNeed}
+use Rattle.rmt_filling.specs.declared.memory.Taken.{Taken}
+use Rattle.rmt_filling.specs.Memories.{blocks_for, memory_for, sram_for, tcam_for}
+use Rattle.rmt_build.specs.Plans.{AreParts, need_in, taken_upto}
+use Rattle.rmt_filling.specs.Formats.{format_at, what_format}
 use Rattle.rmt_build.specs.Promises.{HasBlocksInOrder}
 use Rattle.rmt_refine.specs.Units.{UnitCarried, nodes_in, table_at}
 use Rattle.rmt_build.proofs.FormStage.{kinds}

@@ -10,7 +10,8 @@ use Rattle.rmt_config.specs.CodeForm.{code_is_formed, places_of, slot_places, un
 use Rattle.rmt_pack.specs.Placements.{data_bits}
 use Rattle.rmt_refine.specs.Units.{table_at}
 use Rattle.rmt_refine.proofs.PartLaws.{some_and}
-use Rattle.rmt_build.specs.UnitCode.{DoTable, DoUnit, DoUnits}
+use Rattle.rmt_filling.specs.TableCode.{DoTable}
+use Rattle.rmt_build.specs.UnitCode.{DoUnit, DoUnits}
 use Rattle.std.proofs.lemmas.List.{append-nil}
 use Rattle.std.proofs.lemmas.Bool.{and_parts, both_ways}
 use Rattle.std.proofs.lemmas.Slice.Zip.{AllZip-long}

@@ -35,9 +35,10 @@ use Rattle.rmt_refine.specs.Units.{UnitCarried, UnitsCarried, last_stage, nodes_
 use Rattle.rmt_refine.proofs.EdgeLaws.{children_follow}
 use Rattle.rmt_refine.proofs.NodeLaws.{part_there, stands_in_last}
 use Rattle.rmt_refine.proofs.RankLaws.{compare}
-use Rattle.rmt_build.specs.declared.plan.Plan.{Plan}
+use Rattle.rmt_filling.specs.declared.plan.Plan.{Plan}
 use Rattle.rmt_build.specs.BuiltStage.{IsBuiltStage}
-use Rattle.rmt_build.specs.Plans.{IsPlan, format_at, what_format}
+use Rattle.rmt_build.specs.Plans.{IsPlan}
+use Rattle.rmt_filling.specs.Formats.{format_at, what_format}
 use Rattle.rmt_ptcam.proofs.FormedParsers.{clustered_formed, clustered_headers}
 use Rattle.rmt_build.proofs.FormClustered.{clustered_parts}
 use Rattle.rmt_build.proofs.FormFits.{data_held, limits_kept, memories, zip_at}

@@ -25,13 +25,14 @@ use Rattle.rmt_ptcam.proofs.FormLaws.{in_order_lie}
 use Rattle.rmt_ptcam.proofs.PlainLaws.{lanes_bits}
 use Rattle.rmt_refine.specs.Units.{TableCarried, UnitCarried, guard_of, last_stage, table_at}
 use Rattle.rmt_pack.proofs.PartLaws.{and_at}
-use Rattle.rmt_build.specs.declared.plan.Plan.{Plan}
-use Rattle.rmt_build.specs.declared.stands.Stand.{Stand}
+use Rattle.rmt_filling.specs.declared.plan.Plan.{Plan}
+use Rattle.rmt_filling.specs.declared.stands.Stand.{Stand}
 use Rattle.rmt_build.specs.BuiltStage.{SmallGuard}
-use Rattle.rmt_build.specs.Memories.{blocks_for, memory_for, sram_for, tcam_for}
-use Rattle.rmt_build.specs.Numbers.{number_at}
-use Rattle.rmt_build.specs.Plans.{AreParts, AreStands, format_at, need_in, parts_before, quanta_before, stands_of_part, taken_upto}
-use Rattle.rmt_build.specs.EntryCells.{cells_for, counted_from, stands_there}
+use Rattle.rmt_filling.specs.Memories.{blocks_for, memory_for, sram_for, tcam_for}
+use Rattle.rmt_filling.specs.Numbers.{number_at}
+use Rattle.rmt_build.specs.Plans.{AreParts, AreStands, need_in, parts_before, quanta_before, stands_of_part, taken_upto}
+use Rattle.rmt_filling.specs.Formats.{format_at}
+use Rattle.rmt_filling.specs.EntryCells.{cells_for, counted_from, stands_there}
 use Rattle.rmt_build.proofs.FormLanes.{lanes_formed}
 use Rattle.rmt_build.proofs.FormMemory.{cells_within}
 use Rattle.rmt_build.proofs.FormSlots.{AreSmall, HasKeyed, are_small, exact_formed, few_quanta_cells, ternary_formed}

@@ -26,11 +26,11 @@ use Rattle.rmt_refine.specs.View.{as_slot}
 use Rattle.rmt_pack.proofs.FindLaws.{Contains-range}
 use Rattle.rmt_bits.proofs.MemberLaws.{Contains-unfilter}
 use Rattle.rmt_pack.proofs.PartLaws.{then_some}
-use Rattle.rmt_build.specs.declared.memory.PartNeed.{PartNeed}
-use Rattle.rmt_build.specs.declared.memory.Taken.{Taken}
-use Rattle.rmt_build.specs.declared.plan.Plan.{Plan}
+use Rattle.rmt_filling.specs.declared.memory.PartNeed.{PartNeed}
+use Rattle.rmt_filling.specs.declared.memory.Taken.{Taken}
+use Rattle.rmt_filling.specs.declared.plan.Plan.{Plan}
 use Rattle.rmt_build.specs.BuiltStage.{IsBuiltSlot, IsBuiltStage}
-use Rattle.rmt_build.specs.Memories.{memory_for}
+use Rattle.rmt_filling.specs.Memories.{memory_for}
 use Rattle.rmt_build.specs.Plans.{AreParts, need_in, taken_upto}
 use Rattle.rmt_build.proofs.FormBlocks.{HasMemory, are_blocks, few_sram, few_tcam, greatest_le, none_twice}
 use Rattle.rmt_build.proofs.FormLimits.{FewParts, FitsStage, within_limits}

@@ -15,8 +15,8 @@ use Rattle.rmt_config.specs.StageForm.{starts_are_formed}
 use Rattle.rmt_config.specs.Instructions.{first_code}
 use Rattle.rmt_refine.specs.Units.{UnitCarried, nodes_in}
 use Rattle.rmt_refine.proofs.TheLaw.{table_entries}
-use Rattle.rmt_build.specs.declared.plan.Plan.{Plan}
-use Rattle.rmt_build.specs.declared.stands.Stand.{Stand}
+use Rattle.rmt_filling.specs.declared.plan.Plan.{Plan}
+use Rattle.rmt_filling.specs.declared.stands.Stand.{Stand}
 use Rattle.rmt_build.specs.BuiltStage.{IsBuiltStage}
 use Rattle.rmt_build.specs.Plans.{AreParts, AreStands}
 use Rattle.rmt_build.proofs.FormFits.{slot_built}

@@ -18,12 +18,13 @@ use Rattle.rmt_config.specs.CellForm.{Coded, SlotHolds, cells_of, coded_from, co
 use Rattle.rmt_config.specs.Cells.{cells_in, code_of, content_of, visible_bits}
 use Rattle.rmt_config.specs.Order.{rises_from}
 use Rattle.rmt_config.specs.Instructions.{first_code, unit_instructions}
-use Rattle.rmt_build.specs.declared.plan.Plan.{Plan}
-use Rattle.rmt_build.specs.declared.stands.Stand.{Stand}
+use Rattle.rmt_filling.specs.declared.plan.Plan.{Plan}
+use Rattle.rmt_filling.specs.declared.stands.Stand.{Stand}
 use Rattle.rmt_build.specs.BuiltStage.{HoldsStand, IsBuiltSlot}
-use Rattle.rmt_build.specs.Numbers.{number_at}
-use Rattle.rmt_build.specs.Plans.{format_at, need_in, quanta_before, stands_of_part, taken_upto}
-use Rattle.rmt_build.specs.EntryCells.{cells_for, counted_from, stands_there, stands_within}
+use Rattle.rmt_filling.specs.Numbers.{number_at}
+use Rattle.rmt_filling.specs.Formats.{format_at}
+use Rattle.rmt_build.specs.Plans.{need_in, quanta_before, stands_of_part, taken_upto}
+use Rattle.rmt_filling.specs.EntryCells.{cells_for, counted_from, stands_there, stands_within}
 use Rattle.rmt_pack.specs.Placements.{quanta_in}
 use Rattle.rmt_refine.proofs.PartLaws.{some_and}
 use Rattle.rmt_build.proofs.MemoryLaws.{memory_cells}

@@ -17,9 +17,9 @@ use Rattle.rmt_config.specs.LaneForm.{bits_of_lanes}
 use Rattle.rmt_pack.specs.declared.format.Need.{Need}
 use Rattle.rmt_pack.specs.Formats.{HasNeed, IsExactFormat, most_cells}
 use Rattle.rmt_pack.specs.Placements.{data_bits, key_bits, param_bits, table_need}
-use Rattle.rmt_build.specs.declared.memory.PartNeed.{PartNeed}
-use Rattle.rmt_build.specs.declared.memory.Taken.{Taken}
-use Rattle.rmt_build.specs.Memories.{blocks_for, memory_for, sram_for, tcam_for}
+use Rattle.rmt_filling.specs.declared.memory.PartNeed.{PartNeed}
+use Rattle.rmt_filling.specs.declared.memory.Taken.{Taken}
+use Rattle.rmt_filling.specs.Memories.{blocks_for, memory_for, sram_for, tcam_for}
 use Rattle.rmt_pack.specs.declared.format.Format.{Format}
 use Rattle.rmt_build.proofs.MemoryLaws.{few_quanta}
 

@@ -23,7 +23,7 @@ use Rattle.rmt_pack.specs.Placements.{quanta_in}
 use Rattle.rmt_refine.specs.Units.{UnitCarried, guard_of, last_stage, nodes_in, table_at}
 use Rattle.rmt_pack.proofs.PartLaws.{and_at}
 use Rattle.rmt_refine.proofs.PartLaws.{quanta_of_node}
-use Rattle.rmt_build.specs.declared.plan.Plan.{Plan}
+use Rattle.rmt_filling.specs.declared.plan.Plan.{Plan}
 use Rattle.rmt_build.specs.BuiltStage.{IsBuiltStage, SmallUnit}
 use Rattle.rmt_build.specs.Plans.{AreParts, AreStands, stands_of_part}
 use Rattle.rmt_build.proofs.FormCode.{HasData, code_formed}
@@ -31,7 +31,7 @@ use Rattle.rmt_build.proofs.FormEach.{slot_formed}
 use Rattle.rmt_build.proofs.FormFits.{memories, slot_built, zip_at, zip_right}
 use Rattle.rmt_build.proofs.FormStage.{kinds}
 use Rattle.rmt_build.proofs.FormUnits.{gate_formed}
-use Rattle.rmt_build.specs.Numbers.{number_at}
+use Rattle.rmt_filling.specs.Numbers.{number_at}
 use Rattle.rmt_refine.proofs.TheLaw.{table_entries}
 
 -- a table without a key stands in one stage

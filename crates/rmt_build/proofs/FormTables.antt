@@ -24,9 +24,9 @@ use Rattle.rmt_refine.proofs.RunLaws.{is_earlier}
 use Rattle.rmt_pack.proofs.PartLaws.{and_at}
 use Rattle.rmt_build.proofs.FormStage.{HoldsData, IsGateOf, IsSlotOf, kinds}
 use Rattle.rmt_build.proofs.FormBlocks.{HasMemory}
-use Rattle.rmt_build.specs.declared.memory.PartNeed.{PartNeed}
-use Rattle.rmt_build.specs.declared.memory.Taken.{Taken}
-use Rattle.rmt_build.specs.Memories.{memory_for}
+use Rattle.rmt_filling.specs.declared.memory.PartNeed.{PartNeed}
+use Rattle.rmt_filling.specs.declared.memory.Taken.{Taken}
+use Rattle.rmt_filling.specs.Memories.{memory_for}
 use Rattle.rmt_pack.specs.declared.format.Format.{Format}
 use Rattle.std.proofs.lemmas.Option.{none-some, same_Some}
 use Rattle.rmt_phv.specs.Places.{high_first}

@@ -41,13 +41,14 @@ use Rattle.rmt_refine.specs.Places.{PlacesCarried}
 use Rattle.rmt_refine.specs.Units.{UnitCarried, UnitsCarried, nodes_in, table_at}
 use Rattle.rmt_refine.specs.View.{as_slot, own_view, slot_of}
 use Rattle.rmt_pack.proofs.PartLaws.{slot_is_unit, then_some}
-use Rattle.rmt_build.specs.declared.plan.Plan.{Plan}
+use Rattle.rmt_filling.specs.declared.plan.Plan.{Plan}
 use Rattle.rmt_build.specs.BuiltStage.{IsBuiltStage}
-use Rattle.rmt_build.specs.Memories.{blocks_for, memory_for}
-use Rattle.rmt_build.specs.Plans.{format_at, need_in, quanta_before, taken_upto, what_format}
+use Rattle.rmt_filling.specs.Memories.{blocks_for, memory_for}
+use Rattle.rmt_filling.specs.Formats.{format_at, what_format}
+use Rattle.rmt_build.specs.Plans.{need_in, quanta_before, taken_upto}
 use Rattle.rmt_build.specs.Promises.{HasBlocksInOrder, HasCodeOfRule, HasDataOfRule, HasFormat, HasFormatOfRule, StandInRows}
 use Rattle.rmt_build.specs.Stages.{AreStagesOf, IsPlanFor}
-use Rattle.rmt_build.specs.EntryCells.{cells_for}
+use Rattle.rmt_filling.specs.EntryCells.{cells_for}
 use Rattle.rmt_build.specs.Told.{cells_told}
 use Rattle.rmt_build.proofs.AssemblyLaws.{code_coded}
 use Rattle.rmt_build.proofs.CarriedLaws.{built_carries, units_carried}

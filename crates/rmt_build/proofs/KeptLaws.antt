@@ -12,9 +12,10 @@ use Rattle.rmt_config.specs.BlockCounts.{divided_up, record_units, record_width,
 use Rattle.rmt_config.specs.StageForm.{memory_sram_blocks, memory_tcam_blocks}
 use Rattle.rmt_refine.specs.Cells.{HoldsEntry}
 use Rattle.rmt_bits.specs.Bits.{slice}
-use Rattle.rmt_build.specs.declared.stands.Stand.{Stand}
-use Rattle.rmt_build.specs.Holding.{EndsIn, Held, PartHolds, content_in}
-use Rattle.rmt_build.proofs.ExactLaws.{UnitsStay, ends-same, records_end-same, units-same}
+use Rattle.rmt_filling.specs.declared.stands.Stand.{Stand}
+use Rattle.rmt_filling.specs.Holding.{EndsIn, Held, content_in}
+use Rattle.rmt_build.specs.HeldParts.{PartHolds}
+use Rattle.rmt_filling.proofs.ExactLaws.{UnitsStay, ends-same, records_end-same, units-same}
 
 -- the blocks of a memory hold the same
 pub record Agree (old new : Held) (m : Memory) : Type 0 where

@@ -26,8 +26,10 @@ use Rattle.rmt_ast.specs.State.{width_of}
 use Rattle.rmt_ast.specs.WellFormed.{IsProgram}
 use Rattle.rmt_config.specs.Rooms.{tests_as_one}
 use Rattle.rmt_refine.specs.Units.{table_at}
-use Rattle.rmt_build.specs.Loads.{keys_of, layout_in, layout_of, ways_for}
-use Rattle.rmt_build.specs.Plans.{AreParts, format_at}
+use Rattle.rmt_filling.specs.Keys.{keys_of}
+use Rattle.rmt_build.specs.Loads.{layout_in, layout_of, ways_for}
+use Rattle.rmt_build.specs.Plans.{AreParts}
+use Rattle.rmt_filling.specs.Formats.{format_at}
 use Rattle.rmt_build.proofs.MemoryLaws.{few_quanta}
 use Rattle.rmt_build.proofs.PlanLaws.{has_need, is_format, part_sram, sram_fits}
 

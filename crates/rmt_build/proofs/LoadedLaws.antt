@@ -33,12 +33,14 @@ use Rattle.rmt_refine.proofs.OutcomeLaws.{list_at}
 use Rattle.rmt_refine.proofs.PartLaws.{some_and}
 use Rattle.rmt_pack.proofs.PartLaws.{then_some}
 use Rattle.rmt_refine.proofs.TheLaw.{table_entries}
-use Rattle.rmt_build.specs.declared.stands.Stand.{Stand}
-use Rattle.rmt_build.specs.Loads.{AreAllLoaded, StandAt, StandBy, keys_of, layout_of}
-use Rattle.rmt_build.specs.Plans.{AreParts, AreStands, format_at, parts_before, quanta_before}
+use Rattle.rmt_filling.specs.declared.stands.Stand.{Stand}
+use Rattle.rmt_build.specs.Loads.{AreAllLoaded, StandAt, StandBy, layout_of}
+use Rattle.rmt_filling.specs.Keys.{keys_of}
+use Rattle.rmt_build.specs.Plans.{AreParts, AreStands, parts_before, quanta_before}
+use Rattle.rmt_filling.specs.Formats.{format_at}
 use Rattle.rmt_build.specs.Promises.{HasRows}
-use Rattle.rmt_build.specs.EntryCells.{IsLoadedAt, StandInOrder, StandOnce, cells_for}
-use Rattle.rmt_build.proofs.CandidateLaws.{below_all, looked_for}
+use Rattle.rmt_filling.specs.EntryCells.{IsLoadedAt, StandInOrder, StandOnce, cells_for}
+use Rattle.rmt_filling.proofs.CandidateLaws.{below_all, looked_for}
 use Rattle.rmt_build.proofs.PartLaws.{quanta_more}
 use Rattle.rmt_build.proofs.PlanLaws.{is_format, is_table, node_there}
 use Rattle.rmt_bits.proofs.ListLaws.{slice_get-item, AllZip-slice_get}

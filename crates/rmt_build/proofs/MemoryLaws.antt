@@ -9,11 +9,11 @@ use Rattle.rmt_pack.specs.declared.format.Need.{Need}
 use Rattle.rmt_pack.specs.Formats.{HasNeed, IsNeed, IsFormat, memory_format, ternary_format}
 use Rattle.rmt_pack.proofs.FormatLaws.{exact_format-taken}
 use Rattle.rmt_bounds.proofs.FormatBounds.{ternary_fits_stage}
-use Rattle.rmt_build.specs.declared.memory.PartNeed.{PartNeed}
-use Rattle.rmt_build.specs.Memories.{blocks_for, sram_for, tcam_for, memory_for}
+use Rattle.rmt_filling.specs.declared.memory.PartNeed.{PartNeed}
+use Rattle.rmt_filling.specs.Memories.{blocks_for, sram_for, tcam_for, memory_for}
 use Rattle.rmt_config.specs.Cells.{cells_in}
-use Rattle.rmt_build.specs.declared.memory.Taken.{Taken}
-use Rattle.rmt_build.specs.EntryCells.{cells_for}
+use Rattle.rmt_filling.specs.declared.memory.Taken.{Taken}
+use Rattle.rmt_filling.specs.EntryCells.{cells_for}
 
 -- what a part has to hold is what its table needs
 pub record IsNeedOf (n : PartNeed) (t : Need) : Type 0 where

@@ -25,11 +25,11 @@ use Rattle.rmt_config.specs.Rooms.{PartAt, parts_of, tests_as_one}
 use Rattle.rmt_refine.specs.Units.{UnitsCarried, table_at}
 use Rattle.rmt_refine.proofs.TheLaw.{table_entries}
 use Rattle.rmt_build.specs.Types.{CellNumber, Config, Kind, Program, Stage, Table, Test}
-use Rattle.rmt_build.specs.declared.plan.Plan.{Plan}
-use Rattle.rmt_build.specs.declared.stands.Stand.{Stand}
+use Rattle.rmt_filling.specs.declared.plan.Plan.{Plan}
+use Rattle.rmt_filling.specs.declared.stands.Stand.{Stand}
 use Rattle.rmt_build.specs.BuiltStage.{IsBuiltStage}
-use Rattle.rmt_build.specs.EntryCells.{StandInOrder, StandOnce}
-use Rattle.rmt_build.specs.Numbers.{number_at}
+use Rattle.rmt_filling.specs.EntryCells.{StandInOrder, StandOnce}
+use Rattle.rmt_filling.specs.Numbers.{number_at}
 use Rattle.rmt_build.specs.Plans.{AreStands, stands_of_part}
 use Rattle.rmt_build.specs.Promises.{HasRows}
 use Rattle.rmt_build.specs.Told.{cells_told}

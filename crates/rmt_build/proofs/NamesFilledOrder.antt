@@ -23,8 +23,8 @@ use Rattle.rmt_ast.specs.RowOrder.{goes_first}
 use Rattle.rmt_config.specs.NamesForm.{each_later, has_keys_once, has_order}
 use Rattle.rmt_refine.proofs.RankLaws.{compare}
 use Rattle.rmt_build.specs.Types.{Kind, Test}
-use Rattle.rmt_build.specs.declared.stands.Stand.{Stand}
-use Rattle.rmt_build.specs.EntryCells.{StandInOrder, StandOnce}
+use Rattle.rmt_filling.specs.declared.stands.Stand.{Stand}
+use Rattle.rmt_filling.specs.EntryCells.{StandInOrder, StandOnce}
 use Rattle.rmt_build.proofs.NamesFilledRanks.{StandsFirst, in_order, ranks_are}
 use Rattle.rmt_build.proofs.PromiseLaws.{goes_true}
 use Rattle.rmt_build.proofs.StandLaws.{entry_there, entry_within, one_stand}

@@ -23,12 +23,13 @@ use Rattle.rmt_pack.proofs.PartLaws.{and_at}
 use Rattle.rmt_refine.proofs.PartLaws.{spot_of_part}
 use Rattle.rmt_refine.proofs.TheLaw.{table_entries}
 use Rattle.rmt_build.specs.Types.{CellNumber, Config, Program, SlotUnit, Stage, Table, Test}
-use Rattle.rmt_build.specs.declared.plan.Plan.{Plan}
-use Rattle.rmt_build.specs.declared.stands.Stand.{Stand}
+use Rattle.rmt_filling.specs.declared.plan.Plan.{Plan}
+use Rattle.rmt_filling.specs.declared.stands.Stand.{Stand}
 use Rattle.rmt_build.specs.BuiltStage.{HoldsStand, IsBuiltSlot, IsBuiltStage}
-use Rattle.rmt_build.specs.EntryCells.{StandOnce, cells_for, counted_from, stands_within}
-use Rattle.rmt_build.specs.Numbers.{number_at}
-use Rattle.rmt_build.specs.Plans.{AreStands, format_at, stands_of_part}
+use Rattle.rmt_filling.specs.EntryCells.{StandOnce, cells_for, counted_from, stands_within}
+use Rattle.rmt_filling.specs.Numbers.{number_at}
+use Rattle.rmt_build.specs.Plans.{AreStands, stands_of_part}
+use Rattle.rmt_filling.specs.Formats.{format_at}
 use Rattle.rmt_build.specs.Told.{cells_told}
 use Rattle.rmt_build.proofs.CellsLaws.{each_stands, stands_told}
 use Rattle.rmt_build.proofs.NamesListedParts.{IsPartOf, NoPart, OnePart, by_stage, parts_in_stage}

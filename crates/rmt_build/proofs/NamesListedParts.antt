@@ -25,7 +25,7 @@ use Rattle.rmt_refine.proofs.NodeLaws.{one_place}
 use Rattle.rmt_pack.proofs.PartLaws.{IsPart, slot_is_unit, then_some}
 use Rattle.rmt_refine.proofs.PartLaws.{quanta_of_node}
 use Rattle.rmt_build.specs.Types.{Config, Node, Program, SlotUnit, Stage, Table, Unit}
-use Rattle.rmt_build.specs.declared.plan.Plan.{Plan}
+use Rattle.rmt_filling.specs.declared.plan.Plan.{Plan}
 use Rattle.rmt_build.specs.BuiltStage.{IsBuiltStage}
 use Rattle.rmt_build.specs.Plans.{AreStands}
 use Rattle.rmt_build.specs.Told.{cells_told}

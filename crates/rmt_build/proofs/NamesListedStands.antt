@@ -13,8 +13,8 @@ use Rattle.rmt_pack.specs.declared.placement.Part.{Part}
 use Rattle.rmt_pack.specs.Placements.{quanta_in}
 use Rattle.rmt_ast.specs.declared.program.Kind.TheVariants.{Keyless, Exact, Prefix, Ternary}
 use Rattle.rmt_build.specs.Types.{Kind}
-use Rattle.rmt_build.specs.declared.stands.Stand.{Stand}
-use Rattle.rmt_build.specs.EntryCells.{cells_for, stands_there}
+use Rattle.rmt_filling.specs.declared.stands.Stand.{Stand}
+use Rattle.rmt_filling.specs.EntryCells.{cells_for, stands_there}
 use Rattle.rmt_build.specs.Plans.{quanta_before}
 use Rattle.rmt_build.proofs.PartLaws.{quanta_more}
 use Rattle.rmt_build.proofs.StandLaws.{cells_add, first_cell, part_cells}

@@ -40,12 +40,12 @@ use Rattle.rmt_refine.specs.Units.{HasKind, TableCarried, UnitsCarried, table_at
 use Rattle.rmt_refine.specs.View.{as_slot}
 use Rattle.rmt_pack.proofs.PartLaws.{IsPart}
 use Rattle.rmt_refine.proofs.PartLaws.{unit_of_part}
-use Rattle.rmt_build.specs.declared.plan.Plan.{Plan}
+use Rattle.rmt_filling.specs.declared.plan.Plan.{Plan}
 use Rattle.rmt_build.specs.BuiltStage.{IsBuiltStage}
-use Rattle.rmt_build.specs.Plans.{format_at}
+use Rattle.rmt_filling.specs.Formats.{format_at}
 use Rattle.rmt_build.specs.Stages.{AreStagesOf, IsPlanFor}
 use Rattle.rmt_build.proofs.CellsLaws.{all_quanta}
-use Rattle.rmt_build.proofs.EntryLaws.{data-fits}
+use Rattle.rmt_filling.proofs.EntryLaws.{data-fits}
 use Rattle.rmt_build.proofs.FormStage.{kinds}
 use Rattle.rmt_build.proofs.NamesListedParts.{IsPartOf, each_is_part, parts_in_stage}
 use Rattle.rmt_build.proofs.NamesTold.{all_places, all_told, has_number, named_there}

@@ -18,7 +18,7 @@ use Rattle.rmt_refine.proofs.NodeLaws.{one_place}
 use Rattle.rmt_refine.proofs.NumberLaws.{one_list}
 use Rattle.rmt_pack.proofs.PartLaws.{IsPart}
 use Rattle.rmt_refine.proofs.PartLaws.{unit_of_part}
-use Rattle.rmt_build.specs.declared.plan.Plan.{Plan}
+use Rattle.rmt_filling.specs.declared.plan.Plan.{Plan}
 use Rattle.rmt_build.specs.BuiltStage.{IsBuiltStage}
 use Rattle.rmt_build.specs.Plans.{AreStands}
 use Rattle.rmt_build.specs.Told.{cell_told, cells_told}

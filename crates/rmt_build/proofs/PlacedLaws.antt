@@ -22,7 +22,8 @@ use Rattle.rmt_place.proofs.GoodLaws.{good_keeps, rule_good}
 use Rattle.rmt_place.proofs.LeastLaws.{greatest-le, items-le, length-until}
 use Rattle.rmt_place.proofs.LegalLaws as legal
 use Rattle.rmt_place.proofs.LegalPlacement.{kept_legal, node_quanta}
-use Rattle.rmt_build.specs.Plans.{AreParts, format_at, what_format}
+use Rattle.rmt_build.specs.Plans.{AreParts}
+use Rattle.rmt_filling.specs.Formats.{format_at, what_format}
 use Rattle.rmt_build.specs.Stages.{ArePlaced}
 
 -- ---- formats

@@ -16,9 +16,10 @@ use Rattle.rmt_pack.specs.Placements.{quanta_in, table_need}
 use Rattle.rmt_pack.proofs.NeedLaws.{table_has_need}
 use Rattle.rmt_refine.specs.Units.{table_at}
 use Rattle.rmt_ast.specs.declared.program.What.TheVariants.{Gate}
-use Rattle.rmt_build.specs.declared.memory.PartNeed.{PartNeed}
-use Rattle.rmt_build.specs.Memories.{HasRoom, blocks_for, sram_for, taken_behind, tcam_for}
-use Rattle.rmt_build.specs.Plans.{AreParts, format_at, formats_of, need_in, parts_before, taken_upto, what_format}
+use Rattle.rmt_filling.specs.declared.memory.PartNeed.{PartNeed}
+use Rattle.rmt_filling.specs.Memories.{HasRoom, blocks_for, sram_for, taken_behind, tcam_for}
+use Rattle.rmt_build.specs.Plans.{AreParts, need_in, parts_before, taken_upto}
+use Rattle.rmt_filling.specs.Formats.{format_at, formats_of, what_format}
 use Rattle.rmt_build.proofs.MemoryLaws.{IsNeedOf, few_quanta, format_of_kind, quantum_of, sram_is, tcam_is}
 use Rattle.rmt_build.proofs.PartLaws.{parts_more, sum_more}
 use Rattle.rmt_build.proofs.UnitLaws.{node_applies}

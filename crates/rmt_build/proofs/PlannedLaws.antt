@@ -23,12 +23,13 @@ use Rattle.rmt_refine.specs.Units.{UnitCarried, applied, nodes_in, table_at}
 use Rattle.rmt_refine.specs.View.{as_slot}
 use Rattle.rmt_pack.proofs.FindLaws.{Contains-range}
 use Rattle.rmt_build.specs.Types.{Node, Program, Stage, Table, Unit}
-use Rattle.rmt_build.specs.declared.plan.Plan.{Plan}
+use Rattle.rmt_filling.specs.declared.plan.Plan.{Plan}
 use Rattle.rmt_build.specs.BuiltStage.{IsBuiltStage}
-use Rattle.rmt_build.specs.EntryCells.{cells_for, counted_from}
-use Rattle.rmt_build.specs.Numbers.{number_at}
+use Rattle.rmt_filling.specs.EntryCells.{cells_for, counted_from}
+use Rattle.rmt_filling.specs.Numbers.{number_at}
 use Rattle.rmt_build.specs.Planned.{cells_planned, node_planned, part_planned}
-use Rattle.rmt_build.specs.Plans.{format_at, quanta_before, stands_of_part}
+use Rattle.rmt_filling.specs.Formats.{format_at}
+use Rattle.rmt_build.specs.Plans.{quanta_before, stands_of_part}
 use Rattle.rmt_build.specs.Stages.{AreStagesOf}
 use Rattle.rmt_build.specs.Told.{cell_told, cells_told, stages_told, unit_told}
 use Rattle.rmt_build.proofs.FormStage.{kinds}

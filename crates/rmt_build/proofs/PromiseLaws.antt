@@ -19,15 +19,16 @@ use Rattle.rmt_ast.specs.RowOrder.{goes_first}
 use Rattle.rmt_refine.specs.declared.map.CellOf.{CellOf}
 use Rattle.rmt_refine.specs.Cells.{IsTold}
 use Rattle.rmt_refine.specs.Units.{UnitsCarried}
-use Rattle.rmt_build.specs.declared.memory.PartNeed.{PartNeed}
-use Rattle.rmt_build.specs.declared.memory.Taken.{Taken}
-use Rattle.rmt_build.specs.declared.stands.Stand.{Stand}
-use Rattle.rmt_build.specs.declared.plan.Plan.{Plan}
+use Rattle.rmt_filling.specs.declared.memory.PartNeed.{PartNeed}
+use Rattle.rmt_filling.specs.declared.memory.Taken.{Taken}
+use Rattle.rmt_filling.specs.declared.stands.Stand.{Stand}
+use Rattle.rmt_filling.specs.declared.plan.Plan.{Plan}
 use Rattle.rmt_build.specs.BuiltStage.{IsBuiltStage}
-use Rattle.rmt_build.specs.Memories.{memory_for}
-use Rattle.rmt_build.specs.Plans.{AreStands, format_at, quanta_before}
+use Rattle.rmt_filling.specs.Memories.{memory_for}
+use Rattle.rmt_build.specs.Plans.{AreStands, quanta_before}
+use Rattle.rmt_filling.specs.Formats.{format_at}
 use Rattle.rmt_build.specs.Promises.{HasFormat, HasRows, StandInRows}
-use Rattle.rmt_build.specs.EntryCells.{GoesFirst, StandInOrder, cells_for}
+use Rattle.rmt_filling.specs.EntryCells.{GoesFirst, StandInOrder, cells_for}
 use Rattle.rmt_build.specs.Told.{cells_told}
 use Rattle.rmt_build.proofs.CellsLaws.{told_stands}
 use Rattle.rmt_build.proofs.TableLaws.{AreInRows, goes_back, goes_itself}

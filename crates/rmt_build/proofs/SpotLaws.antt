@@ -13,12 +13,13 @@ use Rattle.rmt_config.specs.Cells.{cells_in}
 use Rattle.rmt_refine.specs.Units.{DoesAs, TableCarried, UnitsCarried, applied, table_at}
 use Rattle.rmt_pack.proofs.PartLaws.{IsPart}
 use Rattle.rmt_refine.proofs.PartLaws.{some_and, unit_of_part}
-use Rattle.rmt_build.specs.declared.plan.Plan.{Plan}
-use Rattle.rmt_build.specs.declared.stands.Stand.{Stand}
+use Rattle.rmt_filling.specs.declared.plan.Plan.{Plan}
+use Rattle.rmt_filling.specs.declared.stands.Stand.{Stand}
 use Rattle.rmt_build.specs.BuiltStage.{IsBuiltSlot, IsBuiltStage}
-use Rattle.rmt_build.specs.Numbers.{number_at}
-use Rattle.rmt_build.specs.Plans.{AreStands, format_at, need_in, stands_of_part, taken_upto}
-use Rattle.rmt_build.specs.EntryCells.{stands_within}
+use Rattle.rmt_filling.specs.Numbers.{number_at}
+use Rattle.rmt_build.specs.Plans.{AreStands, need_in, stands_of_part, taken_upto}
+use Rattle.rmt_filling.specs.Formats.{format_at}
+use Rattle.rmt_filling.specs.EntryCells.{stands_within}
 use Rattle.rmt_build.proofs.StandLaws.{entry_within, first_cell, part_cells, within_from, within_to}
 use Rattle.rmt_bits.proofs.MemberLaws.{Contains-unmap, Contains-map, Contains-item}
 use Rattle.rmt_build.proofs.MemoryLaws.{memory_cells}

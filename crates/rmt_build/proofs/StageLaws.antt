@@ -20,11 +20,12 @@ use Rattle.rmt_config.specs.Instructions.{first_code}
 use Rattle.rmt_refine.specs.Cells.{HoldsEntry}
 use Rattle.rmt_refine.specs.Units.{table_at}
 use Rattle.rmt_refine.specs.View.{as_slot, slot_of}
-use Rattle.rmt_build.specs.declared.plan.Plan.{Plan}
-use Rattle.rmt_build.specs.declared.stands.Stand.{Stand}
+use Rattle.rmt_filling.specs.declared.plan.Plan.{Plan}
+use Rattle.rmt_filling.specs.declared.stands.Stand.{Stand}
 use Rattle.rmt_build.specs.BuiltStage.{HoldsStand}
-use Rattle.rmt_build.specs.Holding.{EndsIn, Held, PartHolds, content_in}
-use Rattle.rmt_build.specs.Listing.{IsSramRow, IsTcamRow, ListsSram, ListsTcam}
+use Rattle.rmt_filling.specs.Holding.{EndsIn, Held, content_in}
+use Rattle.rmt_build.specs.HeldParts.{PartHolds}
+use Rattle.rmt_filling.specs.Listing.{IsSramRow, IsTcamRow, ListsSram, ListsTcam}
 use Rattle.rmt_build.specs.Plans.{stands_of_part}
 use Rattle.rmt_build.specs.Written.{IsOutside, UnitsWritten}
 use Rattle.rmt_build.proofs.KeptLaws.{part-same}

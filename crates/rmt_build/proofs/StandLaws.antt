@@ -13,9 +13,9 @@ use Rattle.rmt_pack.specs.declared.placement.Part.{Part}
 use Rattle.rmt_pack.specs.Placements.{quanta_in}
 use Rattle.rmt_pack.proofs.BlockLaws.{range-apart}
 use Rattle.rmt_pack.proofs.FindLaws.{Contains-range}
-use Rattle.rmt_build.specs.declared.stands.Stand.{Stand}
+use Rattle.rmt_filling.specs.declared.stands.Stand.{Stand}
 use Rattle.rmt_build.specs.Plans.{quanta_before}
-use Rattle.rmt_build.specs.EntryCells.{StandOnce, cells_for, counted_from, stands_there, stands_within}
+use Rattle.rmt_filling.specs.EntryCells.{StandOnce, cells_for, counted_from, stands_there, stands_within}
 use Rattle.rmt_build.proofs.PartLaws.{quanta_more}
 use Rattle.rmt_bits.proofs.MemberLaws.{Contains-unmap, Contains-map, Contains-split, Contains-filter, Contains-unfilter}
 use Rattle.rmt_bits.proofs.OptionLaws.{eqb-sym}

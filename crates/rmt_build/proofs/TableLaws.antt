@@ -26,15 +26,16 @@ use Rattle.rmt_pack.proofs.FindLaws.{Contains-range, found_passes}
 use Rattle.rmt_refine.proofs.NodeLaws.{one_place}
 use Rattle.rmt_pack.proofs.PartLaws.{IsPart, and_from, then_some}
 use Rattle.rmt_refine.proofs.PartLaws.{part_of_spot, slot_of_part, spot_of_part, unit_of_part}
-use Rattle.rmt_build.specs.declared.memory.PartNeed.{PartNeed}
-use Rattle.rmt_build.specs.declared.memory.Taken.{Taken}
-use Rattle.rmt_build.specs.declared.plan.Plan.{Plan}
-use Rattle.rmt_build.specs.declared.stands.Stand.{Stand}
+use Rattle.rmt_filling.specs.declared.memory.PartNeed.{PartNeed}
+use Rattle.rmt_filling.specs.declared.memory.Taken.{Taken}
+use Rattle.rmt_filling.specs.declared.plan.Plan.{Plan}
+use Rattle.rmt_filling.specs.declared.stands.Stand.{Stand}
 use Rattle.rmt_build.specs.BuiltStage.{HoldsStand, IsBuiltStage}
-use Rattle.rmt_build.specs.Memories.{memory_for}
-use Rattle.rmt_build.specs.Plans.{AreStands, format_at, need_in, stands_of_part, taken_upto}
+use Rattle.rmt_filling.specs.Memories.{memory_for}
+use Rattle.rmt_build.specs.Plans.{AreStands, need_in, stands_of_part, taken_upto}
+use Rattle.rmt_filling.specs.Formats.{format_at}
 use Rattle.rmt_build.specs.Promises.{HasRows}
-use Rattle.rmt_build.specs.EntryCells.{GoesFirst, StandInOrder, StandOnce, cells_for}
+use Rattle.rmt_filling.specs.EntryCells.{GoesFirst, StandInOrder, StandOnce, cells_for}
 use Rattle.rmt_build.specs.Told.{cells_told}
 use Rattle.rmt_build.proofs.CellsLaws.{each_stands, no_cells, one_spot, part_in, stands_told, told_stands}
 use Rattle.rmt_build.proofs.SpotLaws.{StandsAt, listed_stands, part_size, slot_built, stand_there, stands_listed, there_stands}

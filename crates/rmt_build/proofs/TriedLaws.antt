@@ -21,12 +21,13 @@ use Rattle.rmt_refine.specs.Units.{applied, table_at}
 use Rattle.rmt_refine.proofs.OutcomeLaws.{list_at}
 use Rattle.rmt_refine.proofs.PartLaws.{some_and}
 use Rattle.rmt_pack.proofs.PartLaws.{then_some}
-use Rattle.rmt_build.specs.declared.stands.Stand.{Stand}
-use Rattle.rmt_build.specs.declared.loading.TableTried.{TableTried}
-use Rattle.rmt_build.specs.declared.loading.TableTried.TheVariants.{Overfull, Stand as Standing}
-use Rattle.rmt_build.specs.Loads.{AreAllLoaded, AreLoaded, AreLoadedBefore, IsFull, StandAt, StandBy, keys_of, layout_of}
-use Rattle.rmt_build.specs.EntryCells.{StandOnce}
-use Rattle.rmt_build.specs.Tries.{IsTried, StandOrFull}
+use Rattle.rmt_filling.specs.declared.stands.Stand.{Stand}
+use Rattle.rmt_filling.specs.declared.keys.TableTried.{TableTried}
+use Rattle.rmt_filling.specs.declared.keys.TableTried.TheVariants.{Overfull, Stand as Standing}
+use Rattle.rmt_build.specs.Loads.{AreAllLoaded, AreLoaded, AreLoadedBefore, IsFull, StandAt, StandBy, layout_of}
+use Rattle.rmt_filling.specs.Keys.{keys_of, IsTried}
+use Rattle.rmt_filling.specs.EntryCells.{StandOnce}
+use Rattle.rmt_build.specs.Tries.{StandOrFull}
 
 -- ---- one node
 

@@ -9,9 +9,9 @@ use Rattle.rmt_ast.specs.declared.program.What.TheVariants as what
 use Rattle.rmt_config.specs.declared.config.Unit.TheVariants as unit
 use Rattle.rmt_pack.specs.declared.placement.Part.{Part}
 use Rattle.rmt_ast.specs.declared.program.Kind.TheVariants.{Keyless, Exact, Prefix, Ternary}
-use Rattle.rmt_build.specs.declared.memory.PartNeed.{PartNeed}
-use Rattle.rmt_build.specs.declared.memory.Taken.{Taken}
-use Rattle.rmt_build.specs.Memories.{memory_for}
+use Rattle.rmt_filling.specs.declared.memory.PartNeed.{PartNeed}
+use Rattle.rmt_filling.specs.declared.memory.Taken.{Taken}
+use Rattle.rmt_filling.specs.Memories.{memory_for}
 use Rattle.rmt_refine.specs.Units.{HasKind, TableCarried, UnitCarried, DoesAs, applied, guard_in, guard_of, table_at}
 use Rattle.rmt_pack.proofs.PartLaws.{and_from, then_some}
 

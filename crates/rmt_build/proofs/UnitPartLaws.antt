@@ -6,7 +6,7 @@ use Rattle.rmt_build.specs.Types.{Program, Table, Unit, GateUnit, SlotUnit}
 use Rattle.rmt_ast.specs.declared.entry.Entry.{Entry}
 use Rattle.rmt_config.specs.declared.config.Unit.TheVariants.{Gate, Slot}
 use Rattle.rmt_refine.specs.Units.{table_at}
-use Rattle.rmt_build.specs.declared.plan.Plan.{Plan}
+use Rattle.rmt_filling.specs.declared.plan.Plan.{Plan}
 use Rattle.rmt_build.specs.BuiltStage.{HasPart, HaveParts}
 
 module _ (p : Program) (lists : List (List Entry)) (plan : Plan) (k : ℕ) where

@@ -11,8 +11,8 @@ use Rattle.rmt_config.specs.Instructions.{unit_instructions}
 use Rattle.rmt_config.specs.StageForm.{memory_sram_blocks, memory_tcam_blocks}
 use Rattle.rmt_pack.specs.Placements.{data_bits, key_bits}
 use Rattle.rmt_refine.specs.Units.{applied, table_at}
-use Rattle.rmt_build.specs.declared.plan.Plan.{Plan}
-use Rattle.rmt_build.specs.Holding.{Held}
+use Rattle.rmt_filling.specs.declared.plan.Plan.{Plan}
+use Rattle.rmt_filling.specs.Holding.{Held}
 use Rattle.rmt_build.specs.Plans.{stands_of_part}
 use Rattle.rmt_build.specs.Written.{SlotWritten, UnitsApart, UnitsWritten}
 use Rattle.rmt_build.proofs.KeptLaws.{part-same}

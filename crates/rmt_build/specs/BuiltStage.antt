@@ -13,10 +13,10 @@ use Rattle.rmt_config.specs.Instructions.{first_code}
 use Rattle.rmt_refine.specs.Cells.{HoldsEntry}
 use Rattle.rmt_refine.specs.Units.{UnitCarried, nodes_in, table_at}
 use Rattle.rmt_refine.specs.View.{as_slot, slot_of}
-use Rattle.rmt_build.specs.declared.plan.Plan.{Plan}
-use Rattle.rmt_build.specs.declared.stands.Stand.{Stand}
-use Rattle.rmt_build.specs.Memories.{memory_for}
-use Rattle.rmt_build.specs.Numbers.{number_at}
+use Rattle.rmt_filling.specs.declared.plan.Plan.{Plan}
+use Rattle.rmt_filling.specs.declared.stands.Stand.{Stand}
+use Rattle.rmt_filling.specs.Memories.{memory_for}
+use Rattle.rmt_filling.specs.Numbers.{number_at}
 use Rattle.rmt_build.specs.Plans.{need_in, stands_of_part, taken_upto}
 use Rattle.rmt_build.specs.UnitCode.{DoUnits}
 

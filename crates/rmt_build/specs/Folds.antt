@@ -5,7 +5,6 @@ use Rattle.rmt_vliw.specs.declared.folded.Folded.{Folded}
 use Rattle.rmt_vliw.specs.declared.fault.ActionDeep.{ActionDeep}
 use Rattle.rmt_vliw.specs.declared.fault.ActionDeep.TheVariants.{At}
 use Rattle.rmt_vliw.specs.Folding.{folded_of}
-pub use Rattle.rmt_vliw.specs.Folding.{AreFoldings}
 
 -- the first of some actions that doesn't fold, of which the first has this number
 abbrev pub deep_then : ℕ → Result Folded ℕ → Option ActionDeep → Option ActionDeep

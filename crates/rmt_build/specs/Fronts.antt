@@ -8,7 +8,8 @@ use Rattle.rmt_phv.specs.Places.{KeepsApart}
 use Rattle.rmt_ptcam.specs.Clustering.{clustered}
 use Rattle.rmt_ptcam.specs.Needs.{refusal}
 use Rattle.rmt_build.specs.declared.front.Front.{Front}
-use Rattle.rmt_build.specs.Folds.{AreFoldings, first_deep}
+use Rattle.rmt_vliw.specs.Folding.{AreFoldings}
+use Rattle.rmt_build.specs.Folds.{first_deep}
 
 -- Neither its parser nor its actions nor its fields are refused, and each is made by its rule.
 pub record IsFront (p : Program) (front : Front) : Type 0 where

@@ -1,23 +1,20 @@
 -- How exact tables are loaded, and when they aren't.
 use Rattle.std.specs.Prelude.{◌≡◌, ◌<◌, ⊤, ℕ, ◌*◌, List, [], ◌∷◌, if◌then◌else◌, All, Option, Some, None, filter, map, length, nat_lt, slice_get}
 use Rattle.std.specs.List.{range_with_len}
-use Rattle.rmt_bits.specs.Bits.{bytes_of}
 use Rattle.rmt_build.specs.Types.{Program, Table, Kind}
 use Rattle.rmt_ast.specs.declared.program.Kind.TheVariants.{Keyless, Exact, Prefix, Ternary}
 use Rattle.rmt_ast.specs.declared.entry.Entry.{Entry}
-use Rattle.rmt_ast.specs.State.{width_of}
-use Rattle.rmt_config.specs.BlockCounts.{divided_up}
 use Rattle.rmt_cuckoo.specs.declared.layout.Ways.{Ways}
 use Rattle.rmt_cuckoo.specs.Loading.{IsLoading, IsOverfull}
 use Rattle.rmt_pack.specs.declared.placement.Part.{Part}
-use Rattle.rmt_pack.specs.Placements.{key_bits, quanta_in}
-use Rattle.rmt_config.specs.Rooms.{tests_as_one}
+use Rattle.rmt_pack.specs.Placements.{quanta_in}
 use Rattle.rmt_refine.specs.Units.{table_at}
 use Rattle.rmt_build.specs.declared.fault.NoFit.{NoFit}
 use Rattle.rmt_build.specs.declared.fault.NoFit.TheVariants.{NoMemory, Lookup, Step, Parser, Action, Phv, Stage, Load}
-use Rattle.rmt_build.specs.declared.stands.Stand.{Stand}
-use Rattle.rmt_build.specs.Plans.{format_at}
-use Rattle.rmt_build.specs.EntryCells.{IsLoadedAt, StandInOrder, StandOnce}
+use Rattle.rmt_filling.specs.declared.stands.Stand.{Stand}
+use Rattle.rmt_filling.specs.Formats.{format_at}
+use Rattle.rmt_filling.specs.Keys.{keys_of}
+use Rattle.rmt_filling.specs.EntryCells.{IsLoadedAt, StandInOrder, StandOnce}
 
 -- the part of so many quanta, if there are any
 abbrev pub ways_for : ℕ → ℕ → List Ways
@@ -30,10 +27,6 @@ layout_in per parts n =
 
 abbrev pub layout_of : Program → List Part → ℕ → List Ways
 layout_of p parts n = layout_in (format_at p n).per parts n
-
--- the keys of entries of a table as bytes
-abbrev pub keys_of : Program → Table → List Entry → List (List ℕ)
-keys_of p t es = map (λ (e : Entry). bytes_of (divided_up (key_bits p t) 8) (tests_as_one (λ test. test.value) (map (width_of p) t.key) e.tests)) es
 
 -- a node applies an exact table with these entries
 pub record AppliesExact (p : Program) (lists : List (List Entry)) (n : ℕ) (t : Table) (es : List Entry) : Type 0 where

@@ -5,8 +5,8 @@ use Rattle.rmt_ast.specs.declared.entry.Entry.{Entry}
 use Rattle.rmt_refine.specs.declared.map.CellOf.{CellOf}
 use Rattle.rmt_refine.specs.Units.{table_at}
 use Rattle.rmt_build.specs.Types.{Program, Table}
-use Rattle.rmt_build.specs.declared.plan.Plan.{Plan}
-use Rattle.rmt_build.specs.Numbers.{number_at}
+use Rattle.rmt_filling.specs.declared.plan.Plan.{Plan}
+use Rattle.rmt_filling.specs.Numbers.{number_at}
 use Rattle.rmt_build.specs.Plans.{stands_of_part}
 use Rattle.rmt_build.specs.Told.{cell_told}
 

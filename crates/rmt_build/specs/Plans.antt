@@ -1,36 +1,22 @@
 -- Where the nodes of a program are to stand, and what that has to keep.
-use Rattle.std.specs.Prelude.{◌≡◌, ℕ, ◌*◌, ◌<◌, ◌≤◌, List, [], Some, All, AllPairs, map, length, count_by, nat_lt, option_map, unwrap_or, slice_get, slice_index_or, sum_by}
+use Rattle.std.specs.Prelude.{◌≡◌, ℕ, ◌*◌, ◌<◌, ◌≤◌, List, [], Some, All, AllPairs, length, count_by, nat_lt, slice_get, slice_index_or, sum_by}
 use Rattle.std.specs.List.{range_with_len}
-use Rattle.rmt_build.specs.Types.{Program, Table, Node, What}
-use Rattle.rmt_ast.specs.declared.program.What.TheVariants.{Apply, Gate}
+use Rattle.rmt_build.specs.Types.{Program, Table}
 use Rattle.rmt_ast.specs.declared.entry.Entry.{Entry}
-use Rattle.rmt_pack.specs.declared.format.Format.{Format}
+use Rattle.rmt_ast.specs.EntryLists.{AreEntries}
+use Rattle.rmt_ast.specs.WellFormed.{IsProgram}
 use Rattle.rmt_pack.specs.declared.placement.Part.{Part}
-use Rattle.rmt_pack.specs.Formats.{memory_format, no_memory}
-use Rattle.rmt_pack.specs.Placements.{data_bits, key_bits, quanta_in, quanta_of, table_need, taken_in}
+use Rattle.rmt_pack.specs.Placements.{data_bits, key_bits, quanta_in, quanta_of, taken_in}
 use Rattle.rmt_phv.specs.Places.{KeepsApart}
 use Rattle.rmt_place.specs.Placing.{AreTwo, IsPart}
 use Rattle.rmt_refine.specs.Units.{table_at}
-use Rattle.rmt_build.specs.declared.memory.PartNeed.{PartNeed}
-use Rattle.rmt_build.specs.declared.memory.Taken.{Taken}
-use Rattle.rmt_build.specs.declared.plan.Plan.{Plan}
-use Rattle.rmt_build.specs.declared.stands.Stand.{Stand}
-use Rattle.rmt_build.specs.Folds.{AreFoldings}
-use Rattle.rmt_build.specs.EntryCells.{StandOnce, cells_for, stands_within}
-
--- ---- formats
-
--- the memory format of a node, by the rule; a gate has no memory
-abbrev pub what_format : Program → What → Format
-what_format p (Apply t) = unwrap_or (option_map (λ (table : Table). memory_format table.kind (table_need p table)) (slice_get p.tables t)) no_memory
-what_format p (Gate field test) = no_memory
-
--- those of all nodes
-abbrev pub formats_of : Program → List Format
-formats_of p = map (λ (node : Node). what_format p node.what) p.nodes
-
-abbrev pub format_at : Program → ℕ → Format
-format_at p n = slice_index_or (formats_of p) n no_memory
+use Rattle.rmt_filling.specs.declared.memory.PartNeed.{PartNeed}
+use Rattle.rmt_filling.specs.declared.memory.Taken.{Taken}
+use Rattle.rmt_filling.specs.declared.plan.Plan.{Plan}
+use Rattle.rmt_filling.specs.declared.stands.Stand.{Stand}
+use Rattle.rmt_vliw.specs.Folding.{AreFoldings}
+use Rattle.rmt_filling.specs.EntryCells.{StandOnce, cells_for, stands_within}
+use Rattle.rmt_filling.specs.Formats.{format_at, formats_of}
 
 -- ---- parts
 
@@ -92,3 +78,10 @@ pub record IsPlan (p : Program) (lists : List (List Entry)) (plan : Plan) : Type
   pub parts : AreParts p plan.placement.parts
   pub formats : plan.formats ≡ formats_of p
   pub stands : AreStands p lists plan.placement.parts plan.stands
+
+-- it is for a well-formed program with these entries, and the chip has a stage k
+pub record IsPlanned (p : Program) (lists : List (List Entry)) (plan : Plan) (k : ℕ) : Type 0 where
+  pub program : IsProgram p
+  pub entries : AreEntries p lists
+  pub is_plan : IsPlan p lists plan
+  pub stage : k < 32

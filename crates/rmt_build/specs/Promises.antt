@@ -31,7 +31,8 @@ use Rattle.rmt_refine.specs.Units.{table_at}
 use Rattle.rmt_refine.specs.View.{slot_of}
 use Rattle.rmt_vliw.specs.Coded.{ActionsFold, TableCoded}
 use Rattle.rmt_build.specs.Loads.{IsFirstSeed}
-use Rattle.rmt_build.specs.Plans.{format_at, quanta_before}
+use Rattle.rmt_filling.specs.Formats.{format_at}
+use Rattle.rmt_build.specs.Plans.{quanta_before}
 use Rattle.rmt_build.specs.Told.{cells_told}
 
 -- ---- blocks

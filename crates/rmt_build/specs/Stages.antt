@@ -9,11 +9,12 @@ use Rattle.rmt_place.specs.Needs.{demand_at, demands_of, keeps_limits}
 use Rattle.rmt_place.specs.Placing.{AreTwo, IsPart, standing_in}
 use Rattle.rmt_place.specs.Starting.{starts_of}
 use Rattle.rmt_refine.specs.Carries.{EdgesKept, all_edges}
-use Rattle.rmt_build.specs.declared.plan.Plan.{Plan}
+use Rattle.rmt_filling.specs.declared.plan.Plan.{Plan}
 use Rattle.rmt_build.specs.BuiltStage.{IsBuiltStage}
 use Rattle.rmt_build.specs.Loads.{AreAllLoaded}
 use Rattle.rmt_pack.specs.Placements.{Keeps, quanta_of}
-use Rattle.rmt_build.specs.Plans.{IsPlan, format_at}
+use Rattle.rmt_build.specs.Plans.{IsPlan}
+use Rattle.rmt_filling.specs.Formats.{format_at}
 
 -- The parts of the nodes of a program whose fields have these places: they keep every edge, each stage keeps its limits, no two are of one node in
 -- one stage, and each node has exactly the quanta that it needs.

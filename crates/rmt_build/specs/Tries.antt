@@ -1,22 +1,35 @@
 -- What comes of putting entries into cells under one seed.
-use Rattle.std.specs.Prelude.{◌≡◌, ℕ, List, Option, IsSomeAnd, All, length}
+use Rattle.std.specs.Prelude.{◌≡◌, ℕ, List, Some, Option, IsSomeAnd, length}
 use Rattle.rmt_build.specs.Types.{Program, Table}
 use Rattle.rmt_ast.specs.declared.program.Kind.TheVariants.{Exact}
 use Rattle.rmt_ast.specs.declared.entry.Entry.{Entry}
-use Rattle.rmt_cuckoo.specs.declared.layout.Ways.{Ways}
-use Rattle.rmt_cuckoo.specs.Loading.{IsLoading, IsOverfull}
+use Rattle.rmt_ast.specs.EntryLists.{AreEntries, AreTableEntries, terms_of}
+use Rattle.rmt_ast.specs.WellFormed.{IsProgram}
+use Rattle.rmt_cuckoo.specs.Loading.{IsOverfull}
 use Rattle.rmt_pack.specs.declared.placement.Part.{Part}
-use Rattle.rmt_build.specs.declared.loading.TableTried.{TableTried}
-use Rattle.rmt_build.specs.declared.loading.TableTried.TheVariants as table
+use Rattle.rmt_pack.specs.declared.format.Format.{Format}
+use Rattle.rmt_refine.specs.Units.{table_at}
+use Rattle.rmt_filling.specs.Formats.{format_at, formats_of}
+use Rattle.rmt_build.specs.Plans.{AreParts}
+use Rattle.rmt_filling.specs.declared.keys.TableTried.{TableTried}
+use Rattle.rmt_filling.specs.declared.keys.TableTried.TheVariants as table
 use Rattle.rmt_build.specs.declared.loading.Tried.{Tried}
 use Rattle.rmt_build.specs.declared.loading.Tried.TheVariants as tried
-use Rattle.rmt_build.specs.Loads.{AreAllLoaded, AreLoadedBefore, IsFull, StandAt, keys_of, layout_of}
-use Rattle.rmt_build.specs.EntryCells.{IsLoadedAt, StandOnce}
+use Rattle.rmt_build.specs.Loads.{AreAllLoaded, AreLoadedBefore, IsFull, StandAt, layout_of}
+use Rattle.rmt_filling.specs.Keys.{keys_of}
 
--- of the keys of an exact table: each stands in the cell into which it is loaded, or some have fewer cells than they are
-abbrev pub IsTried : List Ways → ℕ → List (List ℕ) → TableTried → Type 0
-IsTried layout seed keys (table.Stand own) = (cells : List ℕ) × IsLoading layout seed keys cells × StandOnce (length keys) own × All (IsLoadedAt cells) own
-IsTried layout seed keys (table.Overfull members cells) = (own : List ℕ) × IsOverfull layout seed keys own cells × (members ≡ length own)
+-- a well-formed program with these entries, whose nodes have these formats and parts
+pub record IsPlacedProgram (p : Program) (lists : List (List Entry)) (formats : List Format) (parts : List Part) : Type 0 where
+  pub program : IsProgram p
+  pub entries : AreEntries p lists
+  pub by_rule : formats ≡ formats_of p
+  pub are_parts : AreParts p parts
+
+-- node n applies a table with these entries, whose memory has this format
+pub record IsNodeTable (p : Program) (n : ℕ) (t : Table) (es : List Entry) (f : Format) : Type 0 where
+  pub table : table_at p n ≡ Some t
+  pub entries : AreTableEntries n es (terms_of p t)
+  pub by_rule : f ≡ format_at p n
 
 -- of the entries of node n: they stand, or some of an exact table have fewer cells than they are
 abbrev pub StandOrFull : Program → List Part → ℕ → ℕ → List Entry → Option Table → TableTried → Type 0

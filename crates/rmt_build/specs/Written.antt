@@ -8,10 +8,11 @@ use Rattle.rmt_config.specs.Instructions.{unit_instructions}
 use Rattle.rmt_config.specs.StageForm.{sram_blocks, tcam_blocks}
 use Rattle.rmt_pack.specs.Placements.{data_bits, key_bits}
 use Rattle.rmt_refine.specs.Units.{table_at}
-use Rattle.rmt_build.specs.declared.plan.Plan.{Plan}
-use Rattle.rmt_build.specs.Holding.{Held, PartHolds}
+use Rattle.rmt_filling.specs.declared.plan.Plan.{Plan}
+use Rattle.rmt_filling.specs.Holding.{Held}
+use Rattle.rmt_build.specs.HeldParts.{PartHolds}
 use Rattle.rmt_build.specs.Plans.{stands_of_part}
-use Rattle.rmt_build.specs.Rooms.{AreOf, HasBlocks, StandApart}
+use Rattle.rmt_filling.specs.Rooms.{AreOf, HasBlocks, StandApart}
 
 -- the entries of a slot of stage k can be written
 pub record SlotFits (p : Program) (lists : List (List Entry)) (plan : Plan) (k : ℕ) (slot : SlotUnit) : Type 0 where

@@ -3,7 +3,8 @@
 ghost use Rattle.std.specs.Prelude.{◌≡◌, ◌≢◌, ℕ, List, Some, None, Err, IfOk, MatchResult};
 ghost use Rattle.rmt_ast.specs.WellFormed.{IsProgram};
 ghost use Rattle.rmt_config.specs.declared.limits.LimitHit.{LimitHit};
-ghost use Rattle.rmt_build.specs.Folds.{AreFoldings, first_deep};
+ghost use Rattle.rmt_vliw.specs.Folding.{AreFoldings};
+ghost use Rattle.rmt_build.specs.Folds.{first_deep};
 ghost use Rattle.rmt_build.specs.Fronts.{IsFront};
 ghost use Rattle.rmt_build.specs.Refusals.{first_refusal};
 

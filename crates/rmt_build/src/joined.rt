@@ -1,6 +1,6 @@
 //! The back end joined.
 
-ghost use Rattle.std.specs.Prelude.{◌≡◌, ◌≢◌, ◌<◌, ◌≤◌, ℕ, List, All, AllPairs, Some, None, Ok, Err, IfErr, IfOk, IsOkUnless, length, slice_index, true};
+ghost use Rattle.std.specs.Prelude.{◌≡◌, ◌≢◌, ◌<◌, ℕ, List, All, AllPairs, Some, None, Ok, Err, IfErr, IfOk, IsOkUnless, length, slice_index, true};
 ghost use Rattle.rmt_bits.specs.declared.lane.Lane.{Lane};
 ghost use Rattle.rmt_ast.specs.EntryLists.{AreEntries};
 ghost use Rattle.rmt_ast.specs.NameRules.{CanBeNamed};
@@ -21,12 +21,12 @@ ghost use Rattle.rmt_ptcam.specs.Clustering.{clustered};
 ghost use Rattle.rmt_ptcam.specs.Needs.{refusal};
 ghost use Rattle.rmt_refine.specs.Carries.{Carries, all_edges};
 ghost use Rattle.rmt_refine.specs.Places.{PlacesCarried};
-ghost use Rattle.rmt_build.specs.Folds.{AreFoldings};
+ghost use Rattle.rmt_vliw.specs.Folding.{AreFoldings};
 ghost use Rattle.rmt_build.specs.BuiltStage.{IsBuiltStage};
 ghost use Rattle.rmt_build.specs.Fronts.{IsFront};
 ghost use Rattle.rmt_build.specs.Loads.{AreNotLoaded, IsFirstSeed, IsNotLoaded};
 ghost use Rattle.rmt_build.specs.Planned.{cells_planned};
-ghost use Rattle.rmt_build.specs.Plans.{IsPlan};
+ghost use Rattle.rmt_build.specs.Plans.{IsPlanned};
 ghost use Rattle.rmt_build.specs.Promises.{IsBounded, IsConfigOf, IsLaidOut, KeepsRules};
 ghost use Rattle.rmt_build.specs.Refusals.{first_refusal};
 ghost use Rattle.rmt_build.specs.Stages.{ArePlaced, AreStagesOf, IsPlanFor};
@@ -35,13 +35,9 @@ use crate::built::Built;
 use crate::code::code_of;
 use crate::fault::NoFit;
 use crate::filling::write_units;
-use crate::formats::formats_of;
 use crate::front::{Front, front_of};
 use crate::lanes::{lane_of, out_headers};
-use crate::listing::{sram_rows, tcam_rows};
-use crate::loading::load_all;
-use crate::plan::{Plan, PlannedStage};
-use crate::tcam::TcamRows;
+use crate::loading::{PlacedProgram, load_all};
 use crate::told::cells_of;
 use crate::units::units_of;
 use rmt_ast::deps::Deps;
@@ -53,6 +49,10 @@ use rmt_bits::sequence::Sequence;
 use rmt_bounds::find::bound;
 use rmt_config::config::{Config, ParserConfig, Stage};
 use rmt_config::form::names::alone::names_have_counts;
+use rmt_filling::formats::formats_of;
+use rmt_filling::listing::{sram_rows, tcam_rows};
+use rmt_filling::plan::{Plan, PlannedStage};
+use rmt_filling::tcam::TcamRows;
 use rmt_pack::placement::Placement;
 use rmt_pack::rows::Rows;
 use rmt_phv::places::Places;
@@ -271,7 +271,13 @@ fn plan_of(
     let starts = offsets(alloc, &placement, deps)?;
     let formats = formats_of(alloc, program)?;
     let parts = placement.parts.as_slice();
-    let loaded = load_all(alloc, program, entries, formats.as_slice(), parts)?;
+    let placed = PlacedProgram {
+        program,
+        entries,
+        formats: formats.as_slice(),
+        parts,
+    };
+    let loaded = load_all(alloc, &placed)?;
     Ok(Plan {
         folded,
         places,
@@ -292,11 +298,8 @@ fn stage_of(
     stage: u32,
     start: u16,
 ) -> Result<Stage, NoFit>
-    requires program { IsProgram program.now }
-    requires entries { AreEntries program.now entries.now }
-    requires plan { IsPlan program.now entries.now plan.now }
+    requires planned { IsPlanned program.now entries.now plan.now stage }
     requires limits { keeps_limits (standing_in (demands_of program.now plan.now.places) plan.now.placement.parts stage) ≡ true }
-    requires stage { stage < 32 }
     requires start { start ≡ slice_index plan.now.starts stage }
     ensures stage { IfOk result (IsBuiltStage program.now entries.now plan.now stage) }
     ensures memory { IsOkUnless result NoFit.NoMemory }

@@ -3,7 +3,6 @@
 ghost use Rattle.std.specs.Prelude.{◌≡◌, ◌*◌, ◌≤◌, ℕ, AllPairs};
 ghost use Rattle.rmt_pack.specs.Placements.{quanta_in as quanta_of};
 ghost use Rattle.rmt_place.specs.Placing.{AreTwo};
-ghost use Rattle.rmt_refine.specs.Units.{last_stage as last_of};
 ghost use Rattle.rmt_build.specs.Plans.{parts_before as parts_up_to, quanta_before as quanta_up_to};
 
 use rmt_pack::placement::Part;
@@ -50,17 +49,4 @@ pub fn parts_before(parts: &[Part], node: u32, stage: u32) -> u8
         }
     }
     count
-}
-
-/// The last stage in which a node stands.
-pub fn last_stage(parts: &[Part], node: u32) -> u32
-    ensures { result ≡ last_of parts.now node }
-{
-    let mut last = 0;
-    for part in parts {
-        if part.node == node {
-            last = last.max(part.stage);
-        }
-    }
-    last
 }

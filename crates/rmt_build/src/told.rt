@@ -5,18 +5,18 @@ ghost use Rattle.rmt_ast.specs.EntryLists.{AreEntries};
 ghost use Rattle.rmt_ast.specs.WellFormed.{IsProgram};
 ghost use Rattle.rmt_refine.specs.Units.{table_at};
 ghost use Rattle.rmt_build.specs.Planned.{cells_planned, node_planned, part_planned};
-ghost use Rattle.rmt_build.specs.Plans.{IsPlan};
+ghost use Rattle.rmt_build.specs.Plans.{IsPlan, IsPlanned};
 ghost use Rattle.rmt_build.specs.Told.{cell_told};
 
-use crate::formats::applied;
-use crate::numbers::numbers_of;
 use crate::parts::quanta_in;
-use crate::plan::{Plan, PlannedStage};
+use crate::tables::applied;
 use crate::units::stands_in;
 use rmt_ast::entry::EntryLists;
 use rmt_ast::program::{Program, Table};
 use rmt_bits::sequence::Sequence;
 use rmt_config::config::CellNumber;
+use rmt_filling::numbers::numbers_of;
+use rmt_filling::plan::{Plan, PlannedStage};
 use rmt_refine::map::CellOf;
 use std::alloc::{AllocError, Global};
 
@@ -46,12 +46,9 @@ fn push_part(
     table: &Table,
     node: u32,
 ) -> Result<(), AllocError>
-    requires program { IsProgram planned.now.program.now }
-    requires entries { AreEntries planned.now.program.now planned.now.entries.now }
-    requires plan { IsPlan planned.now.program.now planned.now.entries.now planned.now.plan.now }
+    requires planned { IsPlanned planned.now.program.now planned.now.entries.now planned.now.plan.now planned.now.stage }
     requires table { table_at planned.now.program.now node ≡ Some table.now }
     requires node { node < length planned.now.program.now.nodes }
-    requires stage { planned.now.stage < 32 }
     ensures { OnOk result (cells.new ≡ cells.old
         ++ part_planned planned.now.program.now planned.now.entries.now planned.now.plan.now table.now node planned.now.stage) }
 {

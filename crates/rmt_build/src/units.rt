@@ -5,26 +5,27 @@ ghost use Rattle.std.specs.List.{AllZip};
 ghost use Rattle.rmt_ast.specs.declared.entry.Entry.{Entry};
 ghost use Rattle.rmt_ast.specs.declared.program.Guard.{Guard};
 ghost use Rattle.rmt_ast.specs.declared.program.What.TheVariants as what;
-ghost use Rattle.rmt_ast.specs.EntryLists.{AreEntries};
 ghost use Rattle.rmt_ast.specs.WellFormed.{IsProgram};
 ghost use Rattle.rmt_pack.specs.declared.placement.Part.{Part};
 ghost use Rattle.rmt_phv.specs.Places.{KeepsApart};
 ghost use Rattle.rmt_refine.specs.Units.{UnitCarried, guard_of as guard_of_node, nodes_in, table_at};
 ghost use Rattle.rmt_build.specs.BuiltStage.{HaveParts, SmallGuard, SmallUnit};
-ghost use Rattle.rmt_build.specs.Memories.{memory_for};
-ghost use Rattle.rmt_build.specs.Plans.{AreParts, IsPlan, formats_of, need_in, stands_of_part, taken_upto};
+ghost use Rattle.rmt_filling.specs.Memories.{memory_for};
+ghost use Rattle.rmt_build.specs.Plans.{IsPlanned, need_in, stands_of_part, taken_upto};
 
-use crate::cells::cells_of;
 use crate::lanes::{gate_tests, high_first};
-use crate::memory::{PartNeed, Taken, memory_of};
-use crate::numbers::numbers_of;
-use crate::parts::{last_stage, parts_before, quanta_before, quanta_in};
-use crate::plan::{Plan, PlannedStage};
-use crate::stands::{Stands, stands_from};
+use crate::parts::{parts_before, quanta_before, quanta_in};
 use rmt_ast::program::{Guard, Kind, Program, Table, Test, What};
 use rmt_bits::sequence::Sequence;
 use rmt_config::config::{GateUnit, Memory, SlotUnit, Unit, UnitGuard};
-use rmt_pack::need::{data_bits, key_bits};
+use rmt_filling::cells::cells_of;
+use rmt_filling::held::held_bits;
+use rmt_filling::last_part::stands_last;
+use rmt_filling::memory::{PartNeed, Taken, memory_of};
+use rmt_filling::numbers::numbers_of;
+use rmt_filling::plan::{Plan, PlannedStage};
+use rmt_filling::stands::{Stands, stands_from};
+use rmt_pack::need::key_bits;
 use std::alloc::{AllocError, Global};
 
 /// The guard of a node's units.
@@ -69,22 +70,18 @@ fn gate_of(
 
 /// What the memory of a table's part in a stage has to hold.
 fn need_of(planned: &PlannedStage, table: &Table, node: u32) -> PartNeed
-    requires program { IsProgram planned.now.program.now }
-    requires parts { AreParts planned.now.program.now planned.now.plan.now.placement.parts }
-    requires formats { planned.now.plan.now.formats ≡ formats_of planned.now.program.now }
+    requires planned { IsPlanned planned.now.program.now planned.now.entries.now planned.now.plan.now planned.now.stage }
     requires table { table_at planned.now.program.now node ≡ Some table.now }
     requires key { table.now.kind ≢ Kind.Keyless }
-    requires stage { planned.now.stage < 32 }
     ensures { result ≡ need_in planned.now.program.now planned.now.plan.now.placement.parts table.now node planned.now.stage }
 {
     let parts = planned.plan.placement.parts.as_slice();
-    let held = data_bits(planned.program, table) as u16;
     PartNeed {
         format: planned.plan.formats.as_slice()[node as usize],
         quanta: quanta_in(parts, node, planned.stage) as u8,
         before: parts_before(parts, node, planned.stage),
         key: key_bits(planned.program, table),
-        held,
+        held: held_bits(planned.program, table),
         counted: table.counted,
     }
 }
@@ -97,11 +94,8 @@ fn slot_memory(
     table: &Table,
     node: u32,
 ) -> Result<Memory, AllocError>
-    requires program { IsProgram planned.now.program.now }
-    requires parts { AreParts planned.now.program.now planned.now.plan.now.placement.parts }
-    requires formats { planned.now.plan.now.formats ≡ formats_of planned.now.program.now }
+    requires planned { IsPlanned planned.now.program.now planned.now.entries.now planned.now.plan.now planned.now.stage }
     requires table { table_at planned.now.program.now node ≡ Some table.now }
-    requires stage { planned.now.stage < 32 }
     requires taken { taken.old ≡ taken_upto planned.now.program.now planned.now.plan.now.placement.parts planned.now.stage node }
     ensures memory { IfOk result (λ memory. memory ≡
         memory_for table.now.kind (need_in planned.now.program.now planned.now.plan.now.placement.parts table.now node planned.now.stage) taken.old) }
@@ -121,11 +115,8 @@ pub fn stands_in(
     table: &Table,
     node: u32,
 ) -> Result<Stands, AllocError>
-    requires program { IsProgram planned.now.program.now }
-    requires parts { AreParts planned.now.program.now planned.now.plan.now.placement.parts }
-    requires formats { planned.now.plan.now.formats ≡ formats_of planned.now.program.now }
+    requires planned { IsPlanned planned.now.program.now planned.now.entries.now planned.now.plan.now planned.now.stage }
     requires table { table_at planned.now.program.now node ≡ Some table.now }
-    requires stage { planned.now.stage < 32 }
     requires stands { node < length planned.now.plan.now.stands }
     ensures { IfOk result (λ own. own ≡ stands_of_part planned.now.program.now planned.now.plan.now table.now node planned.now.stage) }
 {
@@ -148,12 +139,9 @@ fn slot_of(
     table: &Table,
     node: u32,
 ) -> Result<Unit, AllocError>
-    requires program { IsProgram planned.now.program.now }
-    requires entries { AreEntries planned.now.program.now planned.now.entries.now }
-    requires plan { IsPlan planned.now.program.now planned.now.entries.now planned.now.plan.now }
+    requires planned { IsPlanned planned.now.program.now planned.now.entries.now planned.now.plan.now planned.now.stage }
     requires table { table_at planned.now.program.now node ≡ Some table.now }
     requires node { node < length planned.now.program.now.nodes }
-    requires stage { planned.now.stage < 32 }
     requires taken { taken.old ≡ taken_upto planned.now.program.now planned.now.plan.now.placement.parts planned.now.stage node }
     ensures unit { IfOk result (UnitCarried planned.now.program.now planned.now.plan.now.places planned.now.plan.now.placement.parts planned.now.stage node) }
     ensures parts { IfOk result (λ unit. HaveParts planned.now.program.now planned.now.entries.now planned.now.plan.now planned.now.stage (unit ∷ [])) }
@@ -165,14 +153,13 @@ fn slot_of(
     let stands = stands_in(alloc, planned, table, node)?;
     let list = planned.entries.as_slice()[node as usize].as_slice();
     let numbers = numbers_of(alloc, stands.as_slice(), list)?;
-    let data = data_bits(planned.program, table) as u16;
     Ok(Unit::Slot(SlotUnit {
         node: node as u8,
         guard: guard_of(planned.program.nodes.as_slice()[node as usize].guard),
         counted: table.counted,
         actions: table.actions.len() as u8,
-        last: planned.stage == last_stage(planned.plan.placement.parts.as_slice(), node),
-        held: data,
+        last: stands_last(planned.plan.placement.parts.as_slice(), node, planned.stage),
+        held: held_bits(planned.program, table),
         keys,
         memory,
         numbers,
@@ -186,11 +173,8 @@ fn unit_of(
     taken: &mut Taken,
     node: u32,
 ) -> Result<Unit, AllocError>
-    requires program { IsProgram planned.now.program.now }
-    requires entries { AreEntries planned.now.program.now planned.now.entries.now }
-    requires plan { IsPlan planned.now.program.now planned.now.entries.now planned.now.plan.now }
+    requires planned { IsPlanned planned.now.program.now planned.now.entries.now planned.now.plan.now planned.now.stage }
     requires node { node < length planned.now.program.now.nodes }
-    requires stage { planned.now.stage < 32 }
     requires taken { taken.old ≡ taken_upto planned.now.program.now planned.now.plan.now.placement.parts planned.now.stage node }
     ensures unit { IfOk result (UnitCarried planned.now.program.now planned.now.plan.now.places planned.now.plan.now.placement.parts planned.now.stage node) }
     ensures parts { IfOk result (λ unit. HaveParts planned.now.program.now planned.now.entries.now planned.now.plan.now planned.now.stage (unit ∷ [])) }
@@ -217,10 +201,7 @@ fn unit_of(
 
 /// The units of a stage: one for each node that stands there, by number.
 pub fn units_of(alloc: Global, planned: &PlannedStage) -> Result<Sequence<Unit>, AllocError>
-    requires program { IsProgram planned.now.program.now }
-    requires entries { AreEntries planned.now.program.now planned.now.entries.now }
-    requires plan { IsPlan planned.now.program.now planned.now.entries.now planned.now.plan.now }
-    requires stage { planned.now.stage < 32 }
+    requires planned { IsPlanned planned.now.program.now planned.now.entries.now planned.now.plan.now planned.now.stage }
     ensures units { IfOk result (AllZip (UnitCarried planned.now.program.now planned.now.plan.now.places planned.now.plan.now.placement.parts planned.now.stage)
         (nodes_in planned.now.program.now planned.now.plan.now.placement.parts planned.now.stage)) }
     ensures parts { IfOk result (HaveParts planned.now.program.now planned.now.entries.now planned.now.plan.now planned.now.stage) }

@@ -14,9 +14,9 @@ use Rattle.rmt_config.specs.declared.config.Unit.TheVariants.{Gate, Slot}
 use Rattle.rmt_config.specs.Cells.{Found}
 use Rattle.rmt_config.specs.Instructions.{first_code, unit_instructions}
 use Rattle.rmt_config.specs.Life.{Look, Words, Acts, Running, Counted, unit_acts, slot_acts, code_at}
-use Rattle.rmt_chip.specs.declared.looked.Looked.{Looked}
+use Rattle.rmt_memory.specs.declared.looked.Looked.{Looked}
 use Rattle.rmt_chip.specs.declared.ran.Ran.{Ran}
-use Rattle.rmt_chip.specs.Looked.{Finds, LookedFor, AllLooked}
+use Rattle.rmt_memory.specs.Looked.{Finds, LookedFor, AllLooked}
 use Rattle.rmt_chip.specs.Counting.{hits_made}
 use Rattle.rmt_chip.specs.Ran.{held_of, running_of, all_running, CountsAlso, HaveDone}
 

@@ -8,7 +8,7 @@ use Rattle.rmt_chip.specs.Types.{UnitGuard, Vliw}
 use Rattle.rmt_config.specs.LaneForm.{bits_of_lanes}
 use Rattle.rmt_config.specs.BlockCounts.{divided_up}
 use Rattle.rmt_config.specs.Life.{guarded, runs, key_of}
-use Rattle.rmt_chip.specs.declared.looked.Looked.{Looked}
+use Rattle.rmt_memory.specs.declared.looked.Looked.{Looked}
 use Rattle.rmt_bits.specs.Counting.{counted}
 use Rattle.rmt_chip.specs.Counting.{hits_made}
 use Rattle.rmt_chip.specs.Ran.{held_of, running_of, all_running}

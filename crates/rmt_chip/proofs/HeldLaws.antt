@@ -9,10 +9,10 @@ use Rattle.rmt_chip.specs.Types.{Stage}
 use Rattle.rmt_config.specs.Life.{Look, Words, Acts, Running, life_of, acts_of, word_after}
 use Rattle.rmt_chip.specs.declared.packet_slot.PacketSlot.{PacketSlot}
 use Rattle.rmt_chip.specs.declared.pending.Pending.{Pending}
-use Rattle.rmt_chip.specs.declared.looked.Looked.{Looked}
+use Rattle.rmt_memory.specs.declared.looked.Looked.{Looked}
 use Rattle.rmt_chip.specs.declared.ran.Ran.{Ran}
 use Rattle.rmt_chip.specs.declared.write.Write.{Write}
-use Rattle.rmt_chip.specs.Looked.{AllLooked}
+use Rattle.rmt_memory.specs.Looked.{AllLooked}
 use Rattle.rmt_chip.specs.Ran.{all_running}
 use Rattle.rmt_chip.specs.Runnable.{start_of}
 use Rattle.rmt_chip.specs.Lives.{upto, acts_at}

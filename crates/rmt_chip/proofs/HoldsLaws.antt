@@ -6,8 +6,8 @@ use Rattle.rmt_chip.specs.Types.{Config, Stage, Unit as ChipUnit}
 use Rattle.rmt_config.specs.declared.config.Unit.TheVariants.{Gate, Slot}
 use Rattle.rmt_config.specs.Cells.{Found}
 use Rattle.rmt_config.specs.Life.{Look, Words, has_memory, key_of}
-use Rattle.rmt_chip.specs.declared.looked.Looked.{Looked}
-use Rattle.rmt_chip.specs.Looked.{AllLooked, Finds, LookedFor}
+use Rattle.rmt_memory.specs.declared.looked.Looked.{Looked}
+use Rattle.rmt_memory.specs.Looked.{AllLooked, Finds, LookedFor}
 use Rattle.rmt_config.specs.Parser.{Parse, Short, Reject, Accept, parse, put}
 use Rattle.rmt_chip.specs.declared.packet_slot.PacketSlot.{PacketSlot}
 use Rattle.rmt_chip.specs.Runnable.{start_of}

@@ -26,7 +26,8 @@ use Rattle.rmt_config.specs.RunCells.{RunCells, as_slot, emptied, found_at, foun
 use Rattle.rmt_config.specs.RunInputs.{Input, Idle, Enters, Writes, Turns, after_input, cells_at, hits_from, look_from, numbers_brought, packet_of, start_of as start_in}
 use Rattle.rmt_chip.specs.Counting.{AreAmong}
 use Rattle.rmt_chip.specs.PacketsInFlight.{cells_after, numbers_after}
-use Rattle.rmt_chip.proofs.CandidateLaws.{stands-at, slot-formed, slot-within, occupied-listed}
+use Rattle.rmt_memory.proofs.CandidateLaws.{slot-formed, slot-within, occupied-listed}
+use Rattle.rmt_memory.proofs.MemoriesLaws.{slot_place}
 use Rattle.rmt_bits.proofs.TestLaws.{either}
 
 -- ---- the numbers of cells
@@ -58,18 +59,18 @@ among-given f (y ∷ ys) (suc i) x n at there = Contains-append_right (f y) (fla
 
 own-known : (c : Config) → Formed c → AreKnown c (counted_numbers c) (own_cells c)
 own-known c formed k place n slot is counted lt occupied =
-    let at = stands-at c k place slot is in
+    let at = slot_place c.stages k place slot is in
     let has = slot-formed c formed k place slot at in
     let content : own_content c k place n ≡ content_of at.stage slot n =
-    ap (λ (o : Option Stage). unwrap_or (option_and_then (λ (x : Stage). option_map (λ (y : SlotUnit). content_of x y n) (option_and_then as_slot (slice_get x.units place))) o) no_content) at.stage_is
-    ∙ ap (λ (o : Option ChipUnit). unwrap_or (option_map (λ (y : SlotUnit). content_of at.stage y n) (option_and_then as_slot o)) no_content) at.slot_is in
+    ap (λ (o : Option Stage). unwrap_or (option_and_then (λ (x : Stage). option_map (λ (y : SlotUnit). content_of x y n) (option_and_then as_slot (slice_get x.units place))) o) no_content) at.at
+    ∙ ap (λ (o : Option ChipUnit). unwrap_or (option_map (λ (y : SlotUnit). content_of at.stage y n) (option_and_then as_slot o)) no_content) at.there in
     let number : (own_cells c).number k place n ≡ number_of_cell slot.numbers n = ap (λ (o : Option SlotUnit). unwrap_or (option_map (λ (y : SlotUnit). number_of_cell y.numbers n) o) 0) is in
     let listed = number-listed slot.numbers n (occupied-listed has.visible at.stage has.first slot has.holds n lt (ap (λ (x : Content). is_occupied x.head) (sym content) ∙ occupied)) in
     let of_unit : Contains (unit_numbers (Slot slot)) (number_of_cell slot.numbers n) =
     subst (λ (b : Bool). Contains (cond b (map (λ (x : CellNumber). x.number) slot.numbers) []) (number_of_cell slot.numbers n)) (sym counted) listed in
     subst (Contains (counted_numbers c)) (sym number)
-    (among-given (λ (stage : Stage). flat_map unit_numbers stage.units) c.stages k at.stage (number_of_cell slot.numbers n) at.stage_is
-    (among-given unit_numbers at.stage.units place (Slot slot) (number_of_cell slot.numbers n) at.slot_is of_unit))
+    (among-given (λ (stage : Stage). flat_map unit_numbers stage.units) c.stages k at.stage (number_of_cell slot.numbers n) at.at
+    (among-given unit_numbers at.stage.units place (Slot slot) (number_of_cell slot.numbers n) at.there of_unit))
 
 known-more : (c : Config) (numbers more : List ℕ) (cells : RunCells) → AreKnown c numbers cells → AreKnown c (numbers ++ more) cells
 known-more c numbers more cells known k place n slot is counted lt occupied = Contains-append_left numbers more (cells.number k place n) (known k place n slot is counted lt occupied)

@@ -10,8 +10,8 @@ use Rattle.rmt_bits.specs.declared.lane.Lane.{Lane}
 use Rattle.rmt_chip.specs.Types.{Stage, Unit}
 use Rattle.rmt_config.specs.LaneForm.{bits_of_lanes}
 use Rattle.rmt_config.specs.Life.{Look, Words, lane_of, key_of}
-use Rattle.rmt_chip.specs.declared.looked.Looked.{Looked}
-use Rattle.rmt_chip.specs.Looked.{HasRoom, HaveRoom, LookedFor}
+use Rattle.rmt_memory.specs.declared.looked.Looked.{Looked}
+use Rattle.rmt_memory.specs.Looked.{HasRoom, HaveRoom, LookedFor}
 
 -- a key has no more bits than its lanes
 joined : (n x b len : ℕ) → n < 2 ^ b → x < 2 ^ len → 2 ^ len * n + x < 2 ^ (b + len)
@@ -66,7 +66,3 @@ looked_more look k words units xs i new u inside within here before j v d lt =
     set_each (λ (m : ℕ) (l : Looked). (w : Unit) → LookedFor look k m words (get_or units m w) l) xs i new (i + 1) within
     (λ w. subst (λ (x : Unit). LookedFor look k i words x new) (get_or_default units i u w inside) here)
     (λ m e below apart w. before m w e (omega arith)) j d lt v
-
--- a unit that was read from the list of its stage
-pub unit_at : (units read : List Unit) (i : ℕ) (unit : Unit) → read ≡ units → i < length read → unit ≡ get_or read i unit → (i < length units) × (get_or units i unit ≡ unit)
-unit_at units read i unit same lt is = (subst (λ (us : List Unit). i < length us) same lt, sym (is ∙ ap (λ (us : List Unit). get_or us i unit) same))

@@ -14,7 +14,8 @@ use Rattle.rmt_config.specs.CellForm.{SlotHolds, StageHolds, Coded, cells_of, co
 use Rattle.rmt_config.specs.ChipRun.{own_look, slot_look}
 use Rattle.rmt_config.specs.Form.{Formed, visible_with}
 use Rattle.rmt_config.specs.RunCells.{as_slot, found_at, found_in_slot, has_bit, is_hit, look_in, own_cells, own_content, sees, slot_at}
-use Rattle.rmt_chip.proofs.CandidateLaws.{StandsAt, occupied-listed, slot-within, stands-at}
+use Rattle.rmt_memory.proofs.CandidateLaws.{occupied-listed, slot-within}
+use Rattle.rmt_memory.proofs.MemoriesLaws.{SlotPlace, slot_place}
 use Rattle.rmt_bits.proofs.FindLaws.{find-alike}
 use Rattle.rmt_config.proofs.RunCellLaws.{content_is, same_found}
 
@@ -31,10 +32,10 @@ slot-coded P ((Slot s) ∷ units) first zero slot at all =
 slot-coded P ((Slot s) ∷ units) first (suc place) slot at all =
     slot-coded P units (first + s.actions + 1) place slot at (All-tail P (record { first = first; slot = s }) (coded_from (first + s.actions + 1) units) all)
 
-slot-holds : (c : Config) → Formed c → (k place : ℕ) (slot : SlotUnit) → (at : StandsAt c k place slot) → (first : ℕ) × SlotHolds (visible_with c.names) at.stage first slot
+slot-holds : (c : Config) → Formed c → (k place : ℕ) (slot : SlotUnit) → (at : SlotPlace c.stages k place slot) → (first : ℕ) × SlotHolds (visible_with c.names) at.stage first slot
 slot-holds c formed k place slot at =
-    slot-coded (λ (x : Coded). SlotHolds (visible_with c.names) at.stage x.first x.slot) at.stage.units 0 place slot at.slot_is
-    (All-slice_get (StageHolds (visible_with c.names)) c.stages k at.stage formed.whole.memory at.stage_is)
+    slot-coded (λ (x : Coded). SlotHolds (visible_with c.names) at.stage x.first x.slot) at.stage.units 0 place slot at.there
+    (All-slice_get (StageHolds (visible_with c.names)) c.stages k at.stage formed.whole.memory at.at)
 
 -- what all of a list pass, one of it does
 passed : (p : ℕ → Bool) (xs : List ℕ) (n : ℕ) → list_any (λ m. m == n) xs ≡ true → list_all p xs ≡ true → p n ≡ true
@@ -64,17 +65,17 @@ both-with c = elim c.names as (λ o. is_some o ≡ true → visible_with o ≡ 3
 ]
 
 module _ (c : Config) (formed : Formed c) (version k place : ℕ) (slot : SlotUnit) (is : slot_at c k place ≡ Some slot) where
-  at : StandsAt c k place slot
-  at = stands-at c k place slot is
+  at : SlotPlace c.stages k place slot
+  at = slot_place c.stages k place slot is
 
   unit-is : option_and_then as_slot (slice_get at.stage.units place) ≡ Some slot
-  unit-is = ap (option_and_then as_slot) at.slot_is
+  unit-is = ap (option_and_then as_slot) at.there
 
   content-is : (n : ℕ) → own_content c k place n ≡ content_of at.stage slot n
-  content-is = content_is c k place at.stage slot at.stage_is unit-is
+  content-is = content_is c k place at.stage slot at.at unit-is
 
   found-is : (n : ℕ) → found_at (own_cells c) k place n ≡ found_in slot.numbers n (content_of at.stage slot n)
-  found-is = same_found c k place at.stage slot at.stage_is unit-is
+  found-is = same_found c k place at.stage slot at.at unit-is
 
   shown : (b : Bool) → is_some c.names ≡ b → (n : ℕ) → n < cells_in slot.memory → is_occupied (content_of at.stage slot n).head ≡ true → (not b || has_bit version (content_of at.stage slot n).head) ≡ true
   shown false e n lt occupied = refl
@@ -110,8 +111,8 @@ module _ (c : Config) (formed : Formed c) (version k place : ℕ) (slot : SlotUn
 
   own-is : (key : ℕ) → own_look c k place key ≡ look_up c.seed at.stage slot key
   own-is key =
-      ap (λ (o : Option Stage). option_and_then (λ (stage : Stage). slot_look c.seed stage (slice_get stage.units place) key) o) at.stage_is
-      ∙ ap (λ (o : Option ChipUnit). slot_look c.seed at.stage o key) at.slot_is
+      ap (λ (o : Option Stage). option_and_then (λ (stage : Stage). slot_look c.seed stage (slice_get stage.units place) key) o) at.at
+      ∙ ap (λ (o : Option ChipUnit). slot_look c.seed at.stage o key) at.there
 
 -- where no slot is nothing is found
 none-own : (c : Config) (k place key : ℕ) → slot_at c k place ≡ None → own_look c k place key ≡ None

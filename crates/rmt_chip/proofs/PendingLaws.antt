@@ -5,7 +5,7 @@ use Rattle.rmt_chip.specs.Types.{Stage, Unit}
 use Rattle.rmt_config.specs.declared.config.Unit.TheVariants.{Gate, Slot}
 use Rattle.rmt_config.specs.Life.{Look, Words, acts_of}
 use Rattle.std.proofs.lemmas.Bool.{cases_eq, false≢true}
-use Rattle.rmt_chip.specs.declared.looked.Looked.{Looked}
+use Rattle.rmt_memory.specs.declared.looked.Looked.{Looked}
 use Rattle.rmt_chip.specs.declared.pending.Pending.{Pending}
 use Rattle.rmt_chip.specs.declared.packet_slot.PacketSlot.{PacketSlot}
 use Rattle.rmt_chip.specs.declared.ran.Ran.{Ran}
@@ -17,7 +17,7 @@ use Rattle.rmt_chip.specs.Hits.{CountedBy}
 use Rattle.rmt_chip.specs.Ran.{CountsAlso}
 use Rattle.rmt_chip.specs.Pending.{HasRoomFor, HaveRoomFor, looked_at, running_at, due_at}
 use Rattle.std.proofs.lemmas.List.{length-set}
-use Rattle.rmt_chip.specs.Looked.{HaveRoom, AllLooked, held_bytes}
+use Rattle.rmt_memory.specs.Looked.{HaveRoom, AllLooked, held_bytes}
 use Rattle.rmt_chip.specs.Runnable.{StageFits, data_bits}
 
 -- records of at most 8,192 bytes

@@ -16,7 +16,7 @@ use Rattle.rmt_config.specs.Parser.{Parse, Short, Reject, Accept, parse}
 use Rattle.rmt_config.specs.ChipRun.{counted_numbers, latency_of, words_from}
 use Rattle.rmt_config.specs.RunCells.{RunCells, own_cells}
 use Rattle.rmt_config.specs.RunInputs.{Input, Turns, after_input, answer_in, hits_from, input_of as input_with, numbers_brought, packet_of}
-use Rattle.rmt_chip.specs.declared.memory.SlotMemory.{SlotMemory}
+use Rattle.rmt_memory.specs.declared.memory.SlotMemory.{SlotMemory}
 use Rattle.rmt_chip.specs.declared.moment.Moment.{Moment}
 use Rattle.rmt_chip.specs.declared.packet_slot.PacketSlot.{PacketSlot}
 use Rattle.rmt_chip.specs.declared.chip.Chip.{Chip}
@@ -28,12 +28,12 @@ use Rattle.rmt_chip.specs.Inputs.{entered_at, input_of, packets_of}
 use Rattle.rmt_chip.specs.Leaving.{AnswersIf}
 use Rattle.rmt_chip.specs.Cycles.{Cycles}
 use Rattle.rmt_chip.specs.PacketsInFlight.{InFlight, Precedes, cells_after, numbers_after}
-use Rattle.rmt_chip.specs.StageMemories.{MemoriesHold}
+use Rattle.rmt_memory.specs.StageMemories.{MemoriesHold}
 use Rattle.rmt_chip.specs.Stands.{Stands, Took, Turned, Shows, in_flight}
 use Rattle.rmt_chip.specs.declared.frames.Frames.{Frames}
 use Rattle.rmt_chip.specs.Ring.{ring_after, now, next, AllHold, FramesAre}
 use Rattle.rmt_bits.specs.Counts.{Counters}
-use Rattle.rmt_chip.proofs.MemoriesLaws.{memories_turned}
+use Rattle.rmt_memory.proofs.MemoriesLaws.{memories_turned}
 use Rattle.rmt_bits.proofs.OptionLaws.{None-from_is_none}
 
 -- ---- the inputs with one more
@@ -98,6 +98,21 @@ turn_right c numbers inputs input frame old new answer bytes ring is same_config
 
 -- ---- what the cycle's input changes
 
+-- the same packets are in flight in another chip, whose counters may be those of other numbers
+flies_on : (c : Config) (numbers numbers' : List ℕ) (inputs later : List Input) (old new : Chip) → new.newest ≡ old.newest → new.places ≡ old.places → new.frames ≡ old.frames
+    → (old.counters.counts ≡ counts numbers (hits_from c (inputs ++ later) 0 inputs) → new.counters.counts ≡ counts numbers' (hits_from c (inputs ++ later) 0 inputs))
+    → InFlight c numbers inputs later old.newest old.places.items (frames_of old.frames) old.counters.counts
+    → InFlight c numbers' inputs later new.newest new.places.items (frames_of new.frames) new.counters.counts
+flies_on c numbers numbers' inputs later old new newest places frames counted was =
+    let item = entered_at c (inputs ++ later) (length inputs) in
+    record {
+      places_hold = subst (λ (n : ℕ). AllHold c item now now now next n new.places.items) (sym newest)
+          (subst (λ (ps : Vec PacketSlot Global). AllHold c item now now now next old.newest ps.items) (sym places) was.places_hold);
+      frames_stand = subst (λ (n : ℕ). FramesAre item n (frames_of new.frames)) (sym newest)
+          (subst (λ (fs : Frames). FramesAre item old.newest (frames_of fs)) (sym frames) was.frames_stand);
+      counters_are = counted was.counters_are;
+    }
+
 pub stands_next : (c : Config) (numbers : List ℕ) (inputs : List Input) (input : Input) (turned chip : Chip) → Turned c numbers inputs input turned
     → chip.config ≡ turned.config → chip.entered ≡ turned.entered → chip.newest ≡ turned.newest → chip.places ≡ turned.places → chip.frames ≡ turned.frames → chip.counters ≡ turned.counters
     → MemoriesHold c (after_input c (cells_after c inputs) input) chip.memories.items
@@ -114,16 +129,9 @@ stands_next c numbers inputs input turned chip t config entered newest places fr
       seed_is = seed ∙ sym (ap (λ (x : RunCells). x.seed) cells);
       version_is = version ∙ sym (ap (λ (x : RunCells). x.version) cells);
       in_flight = λ later.
-          let was = t.in_flight later in
-          let item = entered_at c (all ++ later) (length all) in
-          record {
-            places_hold = subst (λ (n : ℕ). AllHold c item now now now next n chip.places.items) (sym newest)
-                (subst (λ (ps : Vec PacketSlot Global). AllHold c item now now now next turned.newest ps.items) (sym places) was.places_hold);
-            frames_stand = subst (λ (n : ℕ). FramesAre item n (frames_of chip.frames)) (sym newest)
-                (subst (λ (fs : Frames). FramesAre item turned.newest (frames_of fs)) (sym frames) was.frames_stand);
-            counters_are = ap (λ (x : Counters). x.counts) counters ∙ was.counters_are
-                ∙ ap (λ ns. counts ns (hits_from c (all ++ later) 0 all)) (known ∙ sym (numbers_push c inputs input));
-          };
+          flies_on c numbers (numbers_after c all) all later turned chip newest places frames
+          (λ are. ap (λ (x : Counters). x.counts) counters ∙ are ∙ ap (λ ns. counts ns (hits_from c (all ++ later) 0 all)) (known ∙ sym (numbers_push c inputs input)))
+          (t.in_flight later);
     }
 
 -- no number is brought
@@ -162,16 +170,7 @@ took_counting c numbers numbers' inputs old new config memories entered seed ver
   entered_is = entered ∙ s.entered_is;
   seed_is = seed ∙ s.seed_is;
   version_is = version ∙ s.version_is;
-  in_flight = λ later.
-      let was = s.in_flight later in
-      let item = entered_at c (inputs ++ later) (length inputs) in
-      record {
-        places_hold = subst (λ (n : ℕ). AllHold c item now now now next n new.places.items) (sym newest)
-            (subst (λ (ps : Vec PacketSlot Global). AllHold c item now now now next old.newest ps.items) (sym places) was.places_hold);
-        frames_stand = subst (λ (n : ℕ). FramesAre item n (frames_of new.frames)) (sym newest)
-            (subst (λ (fs : Frames). FramesAre item old.newest (frames_of fs)) (sym frames) was.frames_stand);
-        counters_are = counted later was.counters_are;
-      };
+  in_flight = λ later. flies_on c numbers numbers' inputs later old new newest places frames (counted later) (s.in_flight later);
 }
 
 -- ---- what is seen

@@ -10,7 +10,7 @@ use Rattle.rmt_config.specs.ChipRun.{Outcome, latency_of, outcome_of}
 use Rattle.rmt_config.specs.RunCells.{RunCells}
 use Rattle.rmt_config.specs.RunInputs.{Input, hits_from}
 use Rattle.rmt_chip.specs.declared.frame.Frame.{Frame}
-use Rattle.rmt_chip.specs.declared.memory.SlotMemory.{SlotMemory}
+use Rattle.rmt_memory.specs.declared.memory.SlotMemory.{SlotMemory}
 use Rattle.rmt_chip.specs.declared.moment.Moment.{Moment}
 use Rattle.rmt_chip.specs.declared.packet_slot.PacketSlot.{PacketSlot}
 use Rattle.rmt_chip.specs.Held.{Entered, HoldsIf, EntersIf, FrameIs}

@@ -4,7 +4,7 @@ use Rattle.std.specs.Prelude.{find, option_map, unwrap_or, slice_index, slice_ge
 use Rattle.std.proofs.lemmas.List.{take_more, map_more, reverse-append, get_or-set_same, get_or-set_other, length-set, get_or-map}
 use Rattle.std.proofs.lemmas.Bool.Decides.{nat_tests}
 use Rattle.rmt_chip.specs.Types.{Vliw, Operation}
-use Rattle.rmt_chip.specs.declared.looked.Looked.{Looked}
+use Rattle.rmt_memory.specs.declared.looked.Looked.{Looked}
 use Rattle.rmt_chip.specs.declared.ran.Ran.{Ran}
 use Rattle.rmt_chip.specs.Ran.{running_of, all_running}
 use Rattle.rmt_config.specs.declared.config.OpKind.TheVariants as kind

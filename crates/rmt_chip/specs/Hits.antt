@@ -9,7 +9,7 @@ use Rattle.rmt_config.specs.Parser.{Parse, Short, Reject, Accept, parse, put}
 use Rattle.rmt_chip.specs.Counting.{hits_made}
 use Rattle.rmt_chip.specs.declared.packet_slot.PacketSlot.{PacketSlot}
 use Rattle.rmt_chip.specs.Held.{Entered, is_accepted}
-use Rattle.rmt_chip.specs.Looked.{AllLooked}
+use Rattle.rmt_memory.specs.Looked.{AllLooked}
 use Rattle.rmt_chip.specs.Pending.{looked_at}
 use Rattle.rmt_chip.specs.Ran.{CountsAlso}
 use Rattle.rmt_chip.specs.Lives.{acts_at}

@@ -10,10 +10,10 @@ use Rattle.rmt_config.specs.RunCells.{RunCells, own_cells}
 use Rattle.rmt_config.specs.RunInputs.{Input, after_input, hits_from, numbers_brought, packet_of}
 use Rattle.rmt_chip.specs.declared.packet_slot.PacketSlot.{PacketSlot}
 use Rattle.rmt_chip.specs.declared.frame.Frame.{Frame}
-use Rattle.rmt_chip.specs.declared.memory.SlotMemory.{SlotMemory}
+use Rattle.rmt_memory.specs.declared.memory.SlotMemory.{SlotMemory}
 use Rattle.rmt_chip.specs.declared.moment.Moment.{Moment}
 use Rattle.rmt_chip.specs.Inputs.{entered_at, input_of, packets_of}
-use Rattle.rmt_chip.specs.StageMemories.{MemoriesHold}
+use Rattle.rmt_memory.specs.StageMemories.{MemoriesHold}
 use Rattle.rmt_chip.specs.Ring.{ring_after, now, next, AllHold, FramesAre}
 
 -- the numbers that have counters: those of the configuration, and those that changed cells brought

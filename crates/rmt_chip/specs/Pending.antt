@@ -2,10 +2,10 @@
 use Rattle.std.specs.Prelude.{◌≡◌, ℕ, ◌*◌, ◌≤◌, List, [], length, Some, option_map, unwrap_or, slice_get, vec_len, vec_capacity}
 use Rattle.rmt_chip.specs.Types.{Stage}
 use Rattle.rmt_chip.specs.declared.pending.Pending.{Pending}
-use Rattle.rmt_chip.specs.declared.looked.Looked.{Looked}
+use Rattle.rmt_memory.specs.declared.looked.Looked.{Looked}
 use Rattle.rmt_chip.specs.declared.ran.Ran.{Ran}
 use Rattle.rmt_chip.specs.declared.write.Write.{Write}
-use Rattle.rmt_chip.specs.Looked.{HaveRoom}
+use Rattle.rmt_memory.specs.Looked.{HaveRoom}
 use Rattle.rmt_chip.specs.Writes.{most_ops}
 
 -- room for what each unit of a stage finds, for an instruction of each, and for the words that these write

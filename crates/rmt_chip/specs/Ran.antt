@@ -5,7 +5,7 @@ use Rattle.rmt_bits.specs.Counts.{Hit, counts}
 use Rattle.rmt_bits.specs.declared.answer.Count.{Count}
 use Rattle.rmt_chip.specs.Types.{Stage, Vliw}
 use Rattle.rmt_config.specs.Life.{Running, Acts}
-use Rattle.rmt_chip.specs.declared.looked.Looked.{Looked}
+use Rattle.rmt_memory.specs.declared.looked.Looked.{Looked}
 use Rattle.rmt_chip.specs.declared.ran.Ran.{Ran}
 use Rattle.rmt_chip.specs.Counting.{hits_made}
 

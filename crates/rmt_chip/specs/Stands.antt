@@ -10,7 +10,7 @@ use Rattle.rmt_chip.specs.FrameList.{frames_of}
 use Rattle.rmt_chip.specs.Held.{Entered}
 use Rattle.rmt_chip.specs.Inputs.{entered_at, packets_of}
 use Rattle.rmt_chip.specs.Ring.{oldest_below}
-use Rattle.rmt_chip.specs.StageMemories.{MemoriesHold}
+use Rattle.rmt_memory.specs.StageMemories.{MemoriesHold}
 use Rattle.rmt_chip.specs.PacketsInFlight.{InFlight, cells_after, numbers_after}
 
 -- a chip with this configuration has taken these inputs, whatever comes later, and counts for these numbers

@@ -8,15 +8,13 @@ ghost use Rattle.rmt_config.specs.Limits.{limit_hit};
 ghost use Rattle.rmt_chip.specs.declared.packet_slot.PacketSlot.{PacketSlot as PlaceOf};
 ghost use Rattle.rmt_chip.specs.FrameList.{frames_of};
 ghost use Rattle.rmt_chip.specs.Pending.{HaveRoomFor};
-ghost use Rattle.rmt_chip.specs.StageMemories.{MemoriesOf};
+ghost use Rattle.rmt_memory.specs.StageMemories.{MemoriesOf};
 
 use crate::counters::{bring, first_counters};
 use crate::cycle::{cycle, latency};
 use crate::fault::ChipFault;
 use crate::frame::Frame;
 use crate::frames::Frames;
-use crate::lay::{lay_all, write_cell};
-use crate::memory::SlotMemory;
 use crate::moment::Moment;
 use crate::open::all_places;
 use crate::out::Out;
@@ -28,6 +26,8 @@ use rmt_bits::answer::Verdict;
 use rmt_bits::counts::Counts;
 use rmt_config::cell_write::CellWrite;
 use rmt_config::config::Config;
+use rmt_memory::memory::SlotMemory;
+use rmt_memory::stages::{lay_all, write_cell};
 use std::alloc::Global;
 
 /// The chip: its configuration with the memories laid out for reading, and a ring of slots for the packets in flight.
@@ -63,7 +63,7 @@ impl Chip {
     ghost use Rattle.rmt_chip.specs.Inputs.{input_of, input_from, MayEnter};
     ghost use Rattle.rmt_chip.specs.Leaving.{AnswersIf};
     ghost use Rattle.rmt_chip.specs.Stands.{Stands, Took, Turned, Shows, entered_of, spare_of, version_of, in_flight, oldest_in_flight};
-    ghost use Rattle.rmt_chip.specs.Writable.{IsTaken};
+    ghost use Rattle.rmt_memory.specs.Writable.{IsTaken};
 
     /// A chip in which no packet is. It takes all memory that the chip ever needs but room for counters
     /// of numbers that changed cells bring, and can only be refused for memory.

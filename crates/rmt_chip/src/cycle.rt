@@ -10,13 +10,12 @@ ghost use Rattle.rmt_chip.specs.Inputs.{MayEnter};
 ghost use Rattle.rmt_chip.specs.Cycles.{Cycles};
 ghost use Rattle.rmt_chip.specs.Pending.{HaveRoomFor};
 ghost use Rattle.rmt_chip.specs.Runnable.{IsRunnable, StagesFit};
-ghost use Rattle.rmt_chip.specs.StageMemories.{MemoriesOf};
+ghost use Rattle.rmt_memory.specs.StageMemories.{MemoriesOf};
 
 use crate::emit::leave;
 use crate::enter::enter_if;
 use crate::frame::Frame;
 use crate::frames::Frames;
-use crate::memory::SlotMemory;
 use crate::moment::Moment;
 use crate::out::Out;
 use crate::packet_slot::PacketSlot;
@@ -24,6 +23,7 @@ use crate::ring::{place_of, read_keys, read_operands, set_outcomes, write_words}
 use rmt_bits::answer::Verdict;
 use rmt_bits::counts::Counts;
 use rmt_config::config::{Config, Stage};
+use rmt_memory::memory::SlotMemory;
 
 /// The age at which a packet leaves: 12 cycles behind the last start, or 0 where there is no stage.
 pub fn latency(stages: &[Stage]) -> u16

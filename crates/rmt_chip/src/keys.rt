@@ -7,25 +7,25 @@ ghost use Rattle.rmt_config.specs.LaneForm.{bits_of_lanes};
 ghost use Rattle.rmt_config.specs.BlockCounts.{divided_up};
 ghost use Rattle.rmt_config.specs.RunCells.{RunCells, found_in_slot};
 ghost use Rattle.rmt_config.specs.Life.{Look, lane_of, key_of, gate_passes, has_memory as memory_is_there};
-ghost use Rattle.rmt_chip.specs.declared.looked.Looked.{Looked};
-ghost use Rattle.rmt_chip.specs.Looked.{Finds, LookedFor, HasRoom, HaveRoom, AllLooked};
+ghost use Rattle.rmt_memory.specs.declared.looked.Looked.{Looked};
+ghost use Rattle.rmt_memory.specs.Looked.{Finds, LookedFor, HasRoom, HaveRoom, AllLooked};
 ghost use Rattle.rmt_chip.specs.Held.{LookedBy};
 ghost use Rattle.rmt_chip.specs.Pending.{HaveRoomFor};
 ghost use Rattle.rmt_chip.specs.Runnable.{LaneFits, UnitReads, StageReads, StageFits};
-ghost use Rattle.rmt_chip.specs.Memories.{FitsSlot};
-ghost use Rattle.rmt_chip.specs.Memory.{HoldsCells, MemoryFits, MemoriesFit, UnitHeld, StageHeld};
+ghost use Rattle.rmt_memory.specs.Memories.{FitsSlot};
+ghost use Rattle.rmt_memory.specs.Memory.{HoldsCells, MemoryFits, MemoriesFit, UnitHeld, StageHeld};
 ghost use Rattle.rmt_chip.specs.Looks.{LooksAt, LooksInto};
 
 use crate::accepted::is_accepted;
 use crate::key::put_together;
 use crate::lanes::lane;
-use crate::looked::Looked;
-use crate::memory::SlotMemory;
-use crate::memory::sight::Sight;
 use crate::packet_slot::PacketSlot;
 use rmt_config::config::{GateTest, Memory, SlotUnit, Stage, Unit};
 use rmt_config::form::lane::key_bits;
 use rmt_config::vector::Vector;
+use rmt_memory::looked::Looked;
+use rmt_memory::memory::SlotMemory;
+use rmt_memory::sight::Sight;
 
 /// Whether a test passes.
 fn passes(vector: &Vector, test: GateTest) -> bool

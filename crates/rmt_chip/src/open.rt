@@ -8,10 +8,10 @@ ghost use Rattle.rmt_chip.specs.Writes.{most_ops};
 
 use crate::packet_slot::PacketSlot;
 use crate::pending::Pending;
-use crate::room::room;
 use rmt_config::config::{Stage, Vliw};
 use rmt_config::tails::Tails;
 use rmt_config::vector::Vector;
+use rmt_memory::room::room;
 use rmt_ptcam::parse::Parsed;
 use std::alloc::{AllocError, Global};
 

@@ -3,7 +3,7 @@
 ghost use Rattle.std.specs.Prelude.{◌≡◌, ◌+◌, ◌*◌, ◌<◌, ◌≤◌, [], ℕ, length, All, Some, slice_get, option_map, slice_index, if◌then◌else◌, vec_len, vec_capacity};
 ghost use Rattle.rmt_bits.specs.Bits.{number_of};
 ghost use Rattle.rmt_config.specs.Life.{written as written_of, op_on, or_else, word_after};
-ghost use Rattle.rmt_chip.specs.declared.looked.Looked.{Looked as LookedOf};
+ghost use Rattle.rmt_memory.specs.declared.looked.Looked.{Looked as LookedOf};
 ghost use Rattle.rmt_chip.specs.Ran.{held_of, running_of, all_running};
 ghost use Rattle.rmt_chip.specs.Held.{ReadBy};
 ghost use Rattle.rmt_chip.specs.Pending.{HasRoomFor, HaveRoomFor};
@@ -13,13 +13,13 @@ ghost use Rattle.rmt_chip.specs.Writes.{last_on, most_ops};
 
 use crate::accepted::is_accepted;
 use crate::compute::written;
-use crate::looked::Looked;
 use crate::packet_slot::PacketSlot;
 use crate::pending::Pending;
 use crate::ran::Ran;
 use crate::write::Write;
 use rmt_config::config::{Stage, Vliw};
 use rmt_config::vector::Vector;
+use rmt_memory::looked::Looked;
 
 /// The record that an instruction reads: no bytes where it reads none.
 fn record<'a>(looked: &'a [Looked], ran: Ran) -> &'a [u8]

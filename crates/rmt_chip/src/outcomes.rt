@@ -7,20 +7,20 @@ ghost use Rattle.rmt_config.specs.declared.config.Unit.{Unit};
 ghost use Rattle.rmt_config.specs.Cells.{Found};
 ghost use Rattle.rmt_config.specs.Instructions.{first_code, unit_instructions};
 ghost use Rattle.rmt_config.specs.Life.{Look, Words, Acts, guarded, runs, slot_acts, unit_acts, acts_of};
-ghost use Rattle.rmt_chip.specs.declared.looked.Looked.{Looked};
+ghost use Rattle.rmt_memory.specs.declared.looked.Looked.{Looked};
 ghost use Rattle.rmt_chip.specs.Held.{DecidedBy};
 ghost use Rattle.rmt_chip.specs.Hits.{CountedBy};
-ghost use Rattle.rmt_chip.specs.Looked.{Finds, LookedFor, AllLooked};
+ghost use Rattle.rmt_memory.specs.Looked.{Finds, LookedFor, AllLooked};
 ghost use Rattle.rmt_chip.specs.Pending.{HaveRoomFor};
 ghost use Rattle.rmt_chip.specs.Ran.{HaveDone, CountsAlso};
 ghost use Rattle.rmt_chip.specs.Runnable.{StageFits};
 
 use crate::accepted::is_accepted;
-use crate::looked::Looked;
 use crate::packet_slot::PacketSlot;
 use crate::ran::Ran;
 use rmt_bits::counts::Counts;
 use rmt_config::config::{GateUnit, SlotUnit, Stage, Unit, UnitGuard};
+use rmt_memory::looked::Looked;
 
 /// Where a unit stands in its stage: its number there, and that of its first instruction.
 #[derive(Clone, Copy, Debug)]

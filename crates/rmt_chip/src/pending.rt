@@ -1,8 +1,8 @@
 //! What a stage has read for a packet and not used yet.
 
-use crate::looked::Looked;
 use crate::ran::Ran;
 use crate::write::Write;
+use rmt_memory::looked::Looked;
 
 /// What a stage keeps for one packet. All room is made when the chip is opened.
 #[derive(Drop)]

@@ -10,14 +10,14 @@ ghost use Rattle.rmt_chip.specs.Ran.{CountsAlso};
 ghost use Rattle.rmt_chip.specs.Ring.{ring_at, ring_after, now, past, next, IsRing, AllHold, LooksNow, oldest_below};
 ghost use Rattle.rmt_chip.specs.Runnable.{StagesFit, start_of};
 ghost use Rattle.rmt_config.specs.declared.config.Config.{Config as ConfigOf};
-ghost use Rattle.rmt_chip.specs.StageMemories.{MemoriesOf, MemoriesHold};
+ghost use Rattle.rmt_memory.specs.StageMemories.{MemoriesOf, MemoriesHold};
 
-use crate::memory::SlotMemory;
-use crate::memory::sight::Sight;
 use crate::packet_slot::PacketSlot;
 use crate::{keys, operands, outcomes, words};
 use rmt_bits::counts::Counts;
 use rmt_config::config::Config;
+use rmt_memory::memory::SlotMemory;
+use rmt_memory::sight::Sight;
 
 /// The place of the packet of this age, counted back from the newest place of a ring of so many.
 pub fn place_of(size: usize, newest: usize, age: usize) -> usize

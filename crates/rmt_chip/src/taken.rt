@@ -4,7 +4,7 @@ ghost use Rattle.std.specs.Prelude.{◌≡◌, ◌<◌, ◌≤◌, ◌^◌, true
 ghost use Rattle.rmt_config.specs.LaneForm.{bits_of_lanes};
 ghost use Rattle.rmt_config.specs.Cells.{cells_in};
 ghost use Rattle.rmt_chip.specs.Runnable.{StageFits};
-ghost use Rattle.rmt_chip.specs.Writable.{AreBits, EntryTaken, IsTaken, MaskTaken, WriteTaken};
+ghost use Rattle.rmt_memory.specs.Writable.{AreBits, EntryTaken, IsTaken, MaskTaken, WriteTaken};
 
 use rmt_config::cell_write::CellWrite;
 use rmt_config::config::{Memory, SlotUnit, Stage, Unit};

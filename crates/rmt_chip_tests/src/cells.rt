@@ -138,7 +138,7 @@ fn run(rt: &impl Abort, alloc: Global, count: u32, rows: &[Row]) -> Result<(), F
     let mut kept = Vec::new(alloc);
     for (step, free) in rows {
         act(rt, alloc, &mut cells, &mut kept, *step)?;
-        assert_eq!(rt; cells.free(), *free);
+        assert!(rt; cells.free() == *free);
         assert!(rt; all_read(alloc, &cells, kept.as_slice())?);
     }
     Ok(())

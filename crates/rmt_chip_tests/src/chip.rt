@@ -7,11 +7,11 @@ mod taken;
 mod versions;
 mod writes;
 
-use crate::chip::fixture::{Look, NOTHING, Row, SENT, TWO_BYTES, open, replay, step};
+use crate::chip::fixture::{Look, NOTHING, Row, SENT, TWO_BYTES, open, replay_new, step};
 use rmt_bits::answer::Verdict;
+use rmt_chip::chip::Chip;
 use rmt_chip::out::Out;
 use rmt_image_tests::fixtures::image_texts::NO_ROWS;
-use std::alloc::{AllocError, Global};
 use std::process::Abort;
 use std::test::*;
 
@@ -23,8 +23,8 @@ fn one_packet(
     frame: &[u8],
     bytes: &[u8],
 ) -> Result<(), Fail> {
-    let mut chip = open(rt, texts)?;
-    replay(rt, &mut chip, latency, &[(0, frame, SENT, bytes)], &[])
+    replay_new(rt, texts, latency, &[(0, frame, SENT, bytes)], &[])?;
+    Ok(())
 }
 
 /// The second stage reads word 2 before the first has written it, the third reads what both have written, and the fourth
@@ -107,8 +107,8 @@ const ENTERING: [Row; 6] = [
 /// All four stages have several packets in the chip at once.
 #[test]
 fn stages_overlap(rt: HostRuntime) -> Result<(), Fail> {
-    let mut chip = open(&rt, &[OVERLAPPING])?;
-    replay(&rt, &mut chip, 28, &ENTERING, &OVERLAPPED)
+    replay_new(&rt, &[OVERLAPPING], 28, &ENTERING, &OVERLAPPED)?;
+    Ok(())
 }
 
 /// Three bytes in words 2 to 4, and two stages: the first adds 16 to word 2 and sets the low half of word 4.
@@ -145,14 +145,10 @@ const DISTANCES: [(u16, &str, [u8; 3]); 5] = [
 
 #[test]
 fn distances(rt: HostRuntime) -> Result<(), Fail> {
-    for (apart, start, bytes) in &DISTANCES {
-        one_packet(
-            &rt,
-            &[FIRST_OF_TWO, start, SECOND_OF_TWO],
-            apart.saturating_add(12),
-            &[1, 0, 0xa3],
-            bytes,
-        )?;
+    for &(apart, start, bytes) in &DISTANCES {
+        let texts = [FIRST_OF_TWO, start, SECOND_OF_TWO];
+        let latency = apart.saturating_add(12);
+        one_packet(&rt, &texts, latency, &[1, 0, 0xa3], &bytes)?;
     }
     Ok(())
 }
@@ -195,8 +191,8 @@ const UNITS: [(&[&str], [u8; 2]); 5] = [
 /// Units of one stage on one word: the last one's word stands, with the old bits around its lane.
 #[test]
 fn units_on_one_word(rt: HostRuntime) -> Result<(), Fail> {
-    for (texts, bytes) in &UNITS {
-        one_packet(&rt, texts, 12, &[0xa3, 0x11], bytes)?;
+    for &(texts, bytes) in &UNITS {
+        one_packet(&rt, texts, 12, &[0xa3, 0x11], &bytes)?;
     }
     Ok(())
 }
@@ -266,24 +262,18 @@ const KINDS: [(&str, u32, u32, u32); 24] = [
 ];
 
 /// The words 160 to 162 of a packet.
-fn three_words(alloc: Global, left: u32, right: u32) -> Result<Vec<u8>, AllocError> {
-    let mut frame = Vec::from_slice(alloc, &left.to_be_bytes())?;
-    frame.extend_from_slice(&right.to_be_bytes())?;
-    frame.extend_from_slice(&[0x80, 0, 0, 2])?;
-    Ok(frame)
+fn three_words(left: u32, right: u32) -> [u8; 12] {
+    let [a, b, c, d] = left.to_be_bytes();
+    let [e, f, g, h] = right.to_be_bytes();
+    [a, b, c, d, e, f, g, h, 0x80, 0, 0, 2]
 }
 
 #[test]
 fn kinds_of_operations(rt: HostRuntime) -> Result<(), Fail> {
-    for (operation, left, right, result) in &KINDS {
-        let frame = three_words(rt.alloc(), *left, *right)?;
-        one_packet(
-            &rt,
-            &[WIDE, operation, NO_ROWS],
-            12,
-            frame.as_slice(),
-            &result.to_be_bytes(),
-        )?;
+    for &(operation, left, right, result) in &KINDS {
+        let texts = [WIDE, operation, NO_ROWS];
+        let frame = three_words(left, right);
+        one_packet(&rt, &texts, 12, &frame, &result.to_be_bytes())?;
     }
     Ok(())
 }
@@ -314,8 +304,8 @@ const SEEN: [Look; 4] = [
 /// Without a stage a packet leaves in the cycle in which it enters.
 #[test]
 fn no_stage(rt: HostRuntime) -> Result<(), Fail> {
-    let mut chip = open(&rt, &[NO_STAGE])?;
-    replay(&rt, &mut chip, 0, &SWAPPED, &SEEN)
+    replay_new(&rt, &[NO_STAGE], 0, &SWAPPED, &SEEN)?;
+    Ok(())
 }
 
 /// A header of one byte, a state, no entry and no stage.
@@ -334,8 +324,8 @@ const ZEROS: [Look; 2] = [(0, 0, 2, Some((0, 0))), (0, 0, 64, Some((0, 0)))];
 /// Without an entry of the parser a packet is rejected, and travels with all words 0.
 #[test]
 fn no_entry(rt: HostRuntime) -> Result<(), Fail> {
-    let mut chip = open(&rt, &[NO_ENTRY])?;
-    replay(&rt, &mut chip, 0, &REJECTED, &ZEROS)
+    replay_new(&rt, &[NO_ENTRY], 0, &REJECTED, &ZEROS)?;
+    Ok(())
 }
 
 /// What enters a cycle of `longest_flight`: a packet in each of the first 800.
@@ -346,13 +336,13 @@ fn early(cycle: u16, frame: &[u8]) -> Option<(u16, &[u8])> {
 /// The answer in a cycle of `longest_flight`: the packet of 384 cycles before, if one entered.
 fn late(rt: &impl Abort, cycle: u16, verdict: Option<Verdict>, bytes: &[u8]) {
     if cycle < 384 || cycle >= 1184 {
-        assert_eq!(rt; verdict, None, "cycle {cycle}");
+        assert!(rt; verdict == None, "cycle {cycle}");
     } else {
         let [high, low] = (cycle - 384).to_be_bytes();
         let a = low.wrapping_add(1);
         let b = a.wrapping_add(high);
-        assert_eq!(rt; verdict, Some(Verdict::Sent { port: 0 }), "cycle {cycle}");
-        assert_eq!(rt; bytes, [a, b, high].as_slice(), "cycle {cycle}");
+        assert!(rt; verdict == Some(Verdict::Sent { port: 0 }), "cycle {cycle}");
+        assert!(rt; bytes == [a, b, high].as_slice(), "cycle {cycle}");
     }
 }
 
@@ -367,17 +357,22 @@ const FAR_APART: &str = "
 00000000 00000000
 ";
 
-/// 800 packets in 800 cycles, each 384 cycles in flight: every place of the ring is used again.
-#[test]
-fn longest_flight(rt: HostRuntime) -> Result<(), Fail> {
-    let mut chip = open(&rt, &[TWO_BYTES, FAR_APART])?;
-    let mut out = Out::new(rt.alloc())?;
-    assert_eq!(rt; chip.latency(), 384);
+/// Clocks a chip through the cycles of `longest_flight`.
+fn fly(rt: &impl Abort, chip: &mut Chip, out: &mut Out) {
+    assert!(rt; chip.latency() == 384);
     for cycle in 0..1200u16 {
         let [high, low] = cycle.to_be_bytes();
         let frame = [low, high, high];
-        let verdict = step(&rt, &mut chip, &mut out, early(cycle, &frame));
-        late(&rt, cycle, verdict, out.bytes());
+        let verdict = step(rt, chip, out, early(cycle, &frame));
+        late(rt, cycle, verdict, out.bytes());
     }
+}
+
+/// 800 packets in 800 cycles, each 384 cycles in flight: every place of the ring is used again.
+#[test]
+fn longest_flight(rt: HostRuntime) -> Result<(), Fail> {
+    let mut out = Out::new(rt.alloc())?;
+    let mut chip = open(&rt, &[TWO_BYTES, FAR_APART])?;
+    fly(&rt, &mut chip, &mut out);
     Ok(())
 }

@@ -63,7 +63,7 @@ fn bad_groups(rt: HostRuntime) -> Result<(), Fail> {
         assert!(rt; text.len() <= 1_048_576);
         match groups(rt.alloc(), text.as_bytes()) {
             Ok(_) => assert!(rt; false, "a text with a bad line was read"),
-            Err(fault) => assert_eq!(rt; fault, GroupFault::At { code: 8, line }),
+            Err(fault) => assert!(rt; fault == GroupFault::At { code: 8, line }),
         }
     }
     Ok(())
@@ -73,8 +73,8 @@ fn bad_groups(rt: HostRuntime) -> Result<(), Fail> {
 fn good_groups(rt: HostRuntime) -> Result<(), Fail> {
     let groups = groups(rt.alloc(), GOOD_GROUPS.as_bytes())?;
     for &(number, ports) in &PORTS {
-        assert_eq!(rt; groups.ports(number), ports);
-        assert_eq!(rt; groups.has(number), !ports.is_empty());
+        assert!(rt; groups.ports(number) == ports);
+        assert!(rt; groups.has(number) == !ports.is_empty());
     }
     let none = Groups::none(rt.alloc())?;
     assert!(rt; !none.has(300));
@@ -340,8 +340,8 @@ fn runs(rt: HostRuntime) -> Result<(), Fail> {
     for &(image, lines, every, frames, counts, files) in &ROWS {
         let file = capture_of(rt.alloc(), frames)?;
         let switched = switch(&rt, image, lines, every, file.as_slice())?;
-        assert_eq!(rt; counted(&switched.counts), counts);
-        assert_eq!(rt; switched.files.len(), files.len());
+        assert!(rt; counted(&switched.counts) == counts);
+        assert!(rt; switched.files.len() == files.len());
         for (port, len) in files {
             let found = switched
                 .files
@@ -367,8 +367,8 @@ fn in_turn(alloc: Global) -> Result<Vec<u8>, AllocError> {
 fn cells_short(rt: HostRuntime) -> Result<(), Fail> {
     let file = in_turn(rt.alloc())?;
     let switched = switch(&rt, AS_SAID, "", 999_999, file.as_slice())?;
-    assert_eq!(rt; counted(&switched.counts), [512, 0, 451, 0, 0, 61]);
-    assert_eq!(rt; switched.files.len(), 8);
+    assert!(rt; counted(&switched.counts) == [512, 0, 451, 0, 0, 61]);
+    assert!(rt; switched.files.len() == 8);
     Ok(())
 }
 
@@ -380,10 +380,7 @@ fn no_record(rt: HostRuntime) -> Result<(), Fail> {
     let switched = switch(&rt, TO_ONE, "", 1, file.as_slice())?;
     assert!(rt; switched.files.is_empty());
     let line = switch_line(rt.alloc(), &switched.counts)?;
-    assert_eq!(rt;
-        line.as_str(),
-        "switch packets 0 skipped 1 out 0 drop 0 queue 0 cells 0\n"
-    );
+    assert!(rt; line.as_str() == "switch packets 0 skipped 1 out 0 drop 0 queue 0 cells 0\n");
     Ok(())
 }
 
@@ -393,7 +390,7 @@ fn two_copies(rt: HostRuntime) -> Result<(), Fail> {
     let file = capture_of(rt.alloc(), &[(0, 3, 1)])?;
     let switched = switch(&rt, TO_300, "300 2 1", 1, file.as_slice())?;
     for made in switched.files.as_slice() {
-        assert_eq!(rt; made.bytes.as_slice(), file.as_slice());
+        assert!(rt; made.bytes.as_slice() == file.as_slice());
     }
     Ok(())
 }

@@ -4,5 +4,6 @@ mod by_hand;
 mod compiled;
 mod faults;
 mod improved;
+mod texts;
 mod verified;
 mod words;

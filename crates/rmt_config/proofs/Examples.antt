@@ -9,7 +9,7 @@ use Rattle.rmt_config.specs.declared.config.OpKind.TheVariants as kind
 use Rattle.rmt_config.specs.declared.config.Source.TheVariants.{Word, Constant}
 use Rattle.rmt_config.specs.Parser.{parse, begin, Accept, Reject}
 use Rattle.rmt_config.specs.ChipRun.{answer_at, inputs_of, outcomes_of, own_look, cycles_of, flight_of, words_at, packet_at, number_at}
-use Rattle.rmt_config.proofs.ExamplesParts.{packet, lane, sent, copy, instruction, plain_slot, plain_stage, one_header, one_byte}
+use Rattle.rmt_config.proofs.ExamplesParts.{packet, lane, sent, copy, instruction, plain_slot, plain_stage, one_header, one_byte, two_headers_of}
 
 -- header h { f : 8; }, and one table whose default does out_port = 1
 abbrev pub smallest : Config
@@ -143,24 +143,13 @@ gate_of_gate = refl
 
 -- state 0 looks at the first byte: 1 goes on to a header of 2 bytes, 255 is rejected, and all else is accepted
 abbrev pub two_headers : Config
-two_headers = record {
-  seed = 0;
-  in_port = lane 64 0 9;
-  out_port = lane 65 0 9;
-  drop = lane 0 0 1;
-  headers = record { valid = lane 0 1 1; bytes = 1; pieces = lane 1 0 8 ∷ [] } ∷ record { valid = lane 0 2 1; bytes = 2; pieces = lane 66 0 16 ∷ [] } ∷ [];
-  parser = record {
-    states = record { lookups = 0 ∷ [] } ∷ record { lookups = [] } ∷ [];
-    entries =
-        record { state = 0; value = 0x01000000; mask = 0xff000000; need = 1; advance = 1; next = next.State 1; extracts = One (lane 0 1 1) ∷ Bits 0 (lane 1 0 8) ∷ [] }
-        ∷ record { state = 0; value = 0xff000000; mask = 0xff000000; need = 1; advance = 1; next = next.Reject; extracts = [] }
-        ∷ record { state = 0; value = 0; mask = 0; need = 1; advance = 1; next = next.Accept; extracts = One (lane 0 1 1) ∷ Bits 0 (lane 1 0 8) ∷ [] }
-        ∷ record { state = 1; value = 0; mask = 0; need = 2; advance = 2; next = next.Accept; extracts = One (lane 0 2 1) ∷ Bits 0 (lane 66 0 16) ∷ [] } ∷ [];
-    tails = [];
-  };
-  stages = [];
-  names = None;
-}
+two_headers =
+    two_headers_of 2 (lane 66 0 16)
+    (record { state = 0; value = 0x01000000; mask = 0xff000000; need = 1; advance = 1; next = next.State 1; extracts = One (lane 0 1 1) ∷ Bits 0 (lane 1 0 8) ∷ [] }
+    ∷ record { state = 0; value = 0xff000000; mask = 0xff000000; need = 1; advance = 1; next = next.Reject; extracts = [] }
+    ∷ record { state = 0; value = 0; mask = 0; need = 1; advance = 1; next = next.Accept; extracts = One (lane 0 1 1) ∷ Bits 0 (lane 1 0 8) ∷ [] }
+    ∷ record { state = 1; value = 0; mask = 0; need = 2; advance = 2; next = next.Accept; extracts = One (lane 0 2 1) ∷ Bits 0 (lane 66 0 16) ∷ [] } ∷ [])
+    []
 
 -- both headers and a byte of payload; a cut second header; a reject; the first header alone
 pub two_headers_run : outcomes_of two_headers (packet 0 (1 ∷ 2 ∷ 3 ∷ 4 ∷ []) ∷ packet 0 (1 ∷ 2 ∷ []) ∷ packet 0 (255 ∷ []) ∷ packet 0 (6 ∷ 2 ∷ []) ∷ [])

@@ -1,5 +1,5 @@
 -- Stages whose rows and cells keep the rules of form, and stages that break one each.
-use Rattle.std.specs.Prelude.{◌≡◌, ℕ, ◌+◌, ◌*◌, ◌-◌, ◌^◌, Bool, List, [], ◌∷◌, None, true, false, refl}
+use Rattle.std.specs.Prelude.{◌≡◌, ℕ, ◌+◌, ◌*◌, ◌-◌, ◌^◌, Bool, List, [], ◌∷◌, true, false, refl}
 use Rattle.std.proofs.Common.{lit<, lit≤, ◌/◌, ◌%◌, arith}
 use Rattle.std.specs.List.{range_with_len}
 use Rattle.std.proofs.lemmas.Bool.{false≢true}
@@ -15,7 +15,7 @@ use Rattle.rmt_config.specs.declared.part_ways.PartWays.{PartWays}
 use Rattle.rmt_config.specs.CellForm.{numbers_are_formed, SlotHolds, StageHolds, Coded, MemoryEnds, exact, ternary}
 use Rattle.rmt_config.specs.StageForm.{rows_are_formed, srow_number, trow_number}
 use Rattle.rmt_config.specs.Layouts.{exact_keys, exact_records, ternary_keys, ternary_records}
-use Rattle.rmt_config.proofs.ExamplesParts.{lane, copy, instruction}
+use Rattle.rmt_config.proofs.ExamplesParts.{lane, copy, instruction, table_slot}
 use Rattle.rmt_config.proofs.SlotLaws.{formed-rows, exact-fits, ternary-fits, exact-slot, ternary-slot}
 use Rattle.rmt_config.proofs.ToldTests.{told-from_test}
 
@@ -23,17 +23,7 @@ use Rattle.rmt_config.proofs.ToldTests.{told-from_test}
 
 -- its numbers: 1 is way 0, row 0, position 1; 9190 is way 1, row 249, position 2; 12289 is way 1, row 1024, position 1, in the second quantum
 abbrev pub exact_slot : List CellNumber → SlotUnit
-exact_slot numbers = record {
-  node = 0;
-  guard = None;
-  counted = false;
-  actions = 2;
-  last = true;
-  held = 9;
-  keys = lane 64 0 16 ∷ [];
-  memory = Exact 1 4 2 0 (range_with_len 0 8) (range_with_len 8 4) [];
-  numbers = numbers;
-}
+exact_slot = table_slot 0 2 9 (lane 64 0 16 ∷ []) (Exact 1 4 2 0 (range_with_len 0 8) (range_with_len 8 4) [])
 
 abbrev pub exact_stage : List CellNumber → List SramRow → Stage
 exact_stage numbers srows = record {
@@ -191,17 +181,7 @@ record_behind_cells holds = at holds.ends
 -- ---- a ternary part of two quanta: a key of 48 bits, two TCAM blocks wide; records of 9 bits and a head, 6 in a row
 
 abbrev pub ternary_slot : List CellNumber → SlotUnit
-ternary_slot numbers = record {
-  node = 0;
-  guard = None;
-  counted = false;
-  actions = 1;
-  last = true;
-  held = 9;
-  keys = lane 160 0 32 ∷ lane 64 0 16 ∷ [];
-  memory = Ternary 2 (range_with_len 0 4) (range_with_len 0 2) [];
-  numbers = numbers;
-}
+ternary_slot = table_slot 0 1 9 (lane 160 0 32 ∷ lane 64 0 16 ∷ []) (Ternary 2 (range_with_len 0 4) (range_with_len 0 2) [])
 
 abbrev pub ternary_stage : List CellNumber → List SramRow → List TcamRow → Stage
 ternary_stage numbers srows trows = record {

@@ -17,7 +17,7 @@ use Rattle.rmt_config.specs.UnitForm.{guard_is_formed, test_is_formed, gate_is_f
 use Rattle.rmt_config.specs.CodeForm.{places_of, source_is_formed, operation_is_formed, vliw_is_formed, code_is_formed}
 use Rattle.rmt_config.specs.StageForm.{srow_fits, trow_fits, stage_is_formed, stages_are_formed, starts_are_formed}
 use Rattle.rmt_config.specs.Form.{items_are_formed}
-use Rattle.rmt_config.proofs.ExamplesParts.{lane, copy, instruction, plain_slot, plain_stage}
+use Rattle.rmt_config.proofs.ExamplesParts.{lane, chip, copy, instruction, table_slot, plain_slot, plain_stage}
 
 -- ---- lanes and ports
 
@@ -48,16 +48,11 @@ lane_of_no_bit = refl
 
 -- a configuration without headers and stages, whose parser accepts each packet
 abbrev pub accepts_all : Config
-accepts_all = record {
-  seed = 255;
-  in_port = lane 64 0 9;
-  out_port = lane 65 7 9;
-  drop = lane 0 7 1;
-  headers = [];
-  parser = record { states = record { lookups = [] } ∷ []; entries = record { state = 0; value = 0; mask = 0; need = 0; advance = 0; next = Accept; extracts = [] } ∷ []; tails = [] };
-  stages = [];
-  names = None;
-}
+accepts_all = record
+    (chip []
+    (record { states = record { lookups = [] } ∷ []; entries = record { state = 0; value = 0; mask = 0; need = 0; advance = 0; next = Accept; extracts = [] } ∷ []; tails = [] })
+    [])
+    { seed = 255; out_port = lane 65 7 9; drop = lane 0 7 1 }
 
 pub accepts_all-formed : items_are_formed accepts_all ≡ true
 accepts_all-formed = refl
@@ -287,7 +282,7 @@ gate_of_wide_node = refl
 -- ---- slots without memory
 
 abbrev bare : SlotUnit
-bare = record { node = 0; guard = None; counted = false; actions = 0; last = true; held = 0; keys = []; memory = Without; numbers = [] }
+bare = table_slot 0 0 0 [] Without []
 
 pub bare-formed : slot_is_formed bare ≡ true
 bare-formed = refl

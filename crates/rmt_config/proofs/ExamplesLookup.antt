@@ -1,40 +1,20 @@
 -- Configurations with memory whose runs are known.
 use Rattle.std.specs.Prelude.{◌≡◌, ℕ, ◌+◌, ◌*◌, ◌^◌, Bool, List, [], ◌∷◌, ◌++◌, Some, None, true, false, replicate, refl}
 use Rattle.std.specs.List.{range_with_len}
+use Rattle.rmt_bits.specs.declared.lane.Lane.{Lane}
 use Rattle.rmt_bits.specs.declared.answer.Verdict.TheVariants as verdict
 use Rattle.rmt_config.specs.Types.{Config, Unit, CellNumber}
 use Rattle.rmt_config.specs.declared.config.Unit.TheVariants.{Gate, Slot}
 use Rattle.rmt_config.specs.declared.config.Memory.TheVariants.{Exact, Ternary}
 use Rattle.rmt_config.specs.declared.config.Extract.TheVariants.{Bits}
-use Rattle.rmt_config.specs.declared.config.Source.TheVariants.{Word, Held, Constant}
+use Rattle.rmt_config.specs.declared.config.Source.TheVariants.{Held, Constant}
 use Rattle.rmt_config.specs.Cells.{sram_row, data_at}
 use Rattle.rmt_config.specs.ChipRun.{outcomes_of, inputs_of, cycles_of, flight_of, chip_counts_of, own_look}
-use Rattle.rmt_config.proofs.ExamplesParts.{packet, lane, sent, copy, instruction, plain_slot, plain_stage, one_header, one_byte}
+use Rattle.rmt_config.proofs.ExamplesParts.{packet, lane, sent, copy, instruction, table_slot, plain_slot, one_header, one_byte, two_stages}
 
--- table a does meta.x = h.f in the first stage; in the second one b is exact on meta.x with the entry `7 go 5`, and c does meta.x = 0
+-- the tables a, b and c, of which a stands in the first stage; the second one starts then
 abbrev pub strict_and_weak : ℕ → Config
-strict_and_weak second =
-    one_byte
-    (plain_stage 0 (plain_slot 0 None ∷ []) (instruction (copy 2 0 8 (Word 1 0) ∷ []) ∷ [])
-    ∷ record {
-      start = second;
-      units =
-          Slot (record {
-            node = 1;
-            guard = None;
-            counted = false;
-            actions = 1;
-            last = true;
-            held = 9;
-            keys = lane 2 0 8 ∷ [];
-            memory = Exact 1 3 1 0 (0 ∷ 1 ∷ 2 ∷ 3 ∷ []) (4 ∷ []) [];
-            numbers = record { cell = 2376; number = 0 } ∷ [];
-          })
-          ∷ plain_slot 2 None ∷ [];
-      code = instruction (copy 65 0 9 (Held 0) ∷ []) ∷ instruction [] ∷ instruction (copy 2 0 8 (Constant 0) ∷ []) ∷ [];
-      srows = record { block = 0; row = 792; bits = 0x701 } ∷ record { block = 4; row = 198; bits = 5 } ∷ [];
-      trows = [];
-    } ∷ [])
+strict_and_weak second = two_stages second false 0x701
 
 pub strict_and_weak_run : outcomes_of (strict_and_weak 12) (packet 0 (7 ∷ []) ∷ packet 0 (8 ∷ []) ∷ []) ≡ sent 5 (7 ∷ []) [] ∷ sent 0 (8 ∷ []) [] ∷ []
 strict_and_weak_run = refl
@@ -49,20 +29,17 @@ strict_and_weak_flight = refl
 pub strict_and_weak_too_early : outcomes_of (strict_and_weak 11) (packet 0 (7 ∷ []) ∷ []) ≡ sent 0 (7 ∷ []) [] ∷ []
 strict_and_weak_too_early = refl
 
+abbrev pub six_lanes : List Lane
+six_lanes = lane 1 0 8 ∷ lane 2 0 8 ∷ lane 3 0 8 ∷ lane 4 0 8 ∷ lane 5 0 8 ∷ lane 6 0 8 ∷ []
+
+abbrev pub seven_lanes : List Lane
+seven_lanes = six_lanes ++ lane 7 0 8 ∷ []
+
 -- a part of a table whose exact key is 56 bits in words 1 to 7, of units 2 blocks wide with 3 entries a row,
 -- and records of 40 bits; one action takes the port from bit 0 of the record, and the other from bit 8
 abbrev pub exact_part : ℕ → ℕ → Bool → List ℕ → List ℕ → List ℕ → List CellNumber → Unit
-exact_part quanta first_way last keys records counters numbers = Slot (record {
-  node = 0;
-  guard = None;
-  counted = true;
-  actions = 2;
-  last = last;
-  held = 40;
-  keys = lane 1 0 8 ∷ lane 2 0 8 ∷ lane 3 0 8 ∷ lane 4 0 8 ∷ lane 5 0 8 ∷ lane 6 0 8 ∷ lane 7 0 8 ∷ [];
-  memory = Exact 2 3 quanta first_way keys records counters;
-  numbers = numbers;
-})
+exact_part quanta first_way last keys records counters numbers =
+    Slot (record (table_slot 0 2 40 seven_lanes (Exact 2 3 quanta first_way keys records counters) numbers) { counted = true; last = last })
 
 -- the table in two parts, of one quantum and of two: in the first part the key fedcba98765432;
 -- in the second one this key again, and the key 0123456789abcd twice; the default of the first part would drop
@@ -70,7 +47,7 @@ abbrev pub exact : Config
 exact = record
     (one_header 7
     (Bits 0 (lane 1 0 8) ∷ Bits 8 (lane 2 0 8) ∷ Bits 16 (lane 3 0 8) ∷ Bits 24 (lane 4 0 8) ∷ Bits 32 (lane 5 0 8) ∷ Bits 40 (lane 6 0 8) ∷ Bits 48 (lane 7 0 8) ∷ [])
-    (lane 1 0 8 ∷ lane 2 0 8 ∷ lane 3 0 8 ∷ lane 4 0 8 ∷ lane 5 0 8 ∷ lane 6 0 8 ∷ lane 7 0 8 ∷ [])
+    seven_lanes
     (record {
       start = 0;
       units = exact_part 1 0 false (range_with_len 0 8) (range_with_len 8 6) (range_with_len 14 12) (record { cell = 4656; number = 5 } ∷ []) ∷ [];
@@ -138,21 +115,14 @@ abbrev pub ternary : Config
 ternary =
     one_header 6
     (Bits 0 (lane 1 0 8) ∷ Bits 8 (lane 2 0 8) ∷ Bits 16 (lane 3 0 8) ∷ Bits 24 (lane 4 0 8) ∷ Bits 32 (lane 5 0 8) ∷ Bits 40 (lane 6 0 8) ∷ [])
-    (lane 1 0 8 ∷ lane 2 0 8 ∷ lane 3 0 8 ∷ lane 4 0 8 ∷ lane 5 0 8 ∷ lane 6 0 8 ∷ [])
+    six_lanes
     (record {
       start = 0;
       units =
-          Slot (record {
-            node = 0;
-            guard = None;
-            counted = true;
-            actions = 2;
-            last = true;
-            held = 9;
-            keys = lane 1 0 8 ∷ lane 2 0 8 ∷ lane 3 0 8 ∷ lane 4 0 8 ∷ lane 5 0 8 ∷ lane 6 0 8 ∷ [];
-            memory = Ternary 1 (0 ∷ 1 ∷ []) (0 ∷ []) (1 ∷ 2 ∷ []);
-            numbers = record { cell = 1; number = 10 } ∷ record { cell = 2; number = 11 } ∷ record { cell = 7; number = 12 } ∷ [];
-          })
+          Slot (record
+          (table_slot 0 2 9 six_lanes (Ternary 1 (0 ∷ 1 ∷ []) (0 ∷ []) (1 ∷ 2 ∷ []))
+          (record { cell = 1; number = 10 } ∷ record { cell = 2; number = 11 } ∷ record { cell = 7; number = 12 } ∷ []))
+          { counted = true })
           ∷ [];
       code = instruction (copy 65 0 9 (Held 0) ∷ []) ∷ instruction (copy 0 0 1 (Constant 1) ∷ []) ∷ instruction (copy 65 0 9 (Constant 4) ∷ []) ∷ [];
       srows = record { block = 0; row = 0; bits = 0x101 * 2 ^ 17 + 0x201 * 2 ^ 34 } ∷ record { block = 0; row = 1; bits = 0x09 * 2 ^ 17 } ∷ [];
@@ -183,17 +153,10 @@ outcomes = one_byte
       units =
           Gate (record { node = 5; guard = None; tests = record { lane = lane 1 0 8; value = 0; mask = 128 } ∷ [] })
           ∷ plain_slot 0 None
-          ∷ Slot (record {
-            node = 1;
-            guard = None;
-            counted = true;
-            actions = 2;
-            last = true;
-            held = 0;
-            keys = lane 1 0 8 ∷ [];
-            memory = Ternary 2 (0 ∷ 1 ∷ []) (0 ∷ 1 ∷ []) (2 ∷ 3 ∷ 4 ∷ 5 ∷ []);
-            numbers = record { cell = 0; number = 0 } ∷ record { cell = 1; number = 1 } ∷ record { cell = 2053; number = 2 } ∷ [];
-          })
+          ∷ Slot (record
+          (table_slot 1 2 0 (lane 1 0 8 ∷ []) (Ternary 2 (0 ∷ 1 ∷ []) (0 ∷ 1 ∷ []) (2 ∷ 3 ∷ 4 ∷ 5 ∷ []))
+          (record { cell = 0; number = 0 } ∷ record { cell = 1; number = 1 } ∷ record { cell = 2053; number = 2 } ∷ []))
+          { counted = true })
           ∷ plain_slot 2 (Some (record { parent = 1; mask = 4 }))
           ∷ plain_slot 3 (Some (record { parent = 1; mask = 8 }))
           ∷ plain_slot 4 (Some (record { parent = 1; mask = 2 })) ∷ [];

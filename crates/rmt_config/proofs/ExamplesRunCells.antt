@@ -2,8 +2,8 @@
 use Rattle.std.specs.Prelude.{◌≡◌, ℕ, ◌+◌, ◌*◌, ◌^◌, Bool, List, [], ◌∷◌, ◌++◌, Some, None, true, false, codes, replicate, refl}
 use Rattle.rmt_config.specs.Types.{Config}
 use Rattle.rmt_config.specs.declared.config.Unit.TheVariants.{Slot}
-use Rattle.rmt_config.specs.declared.config.Memory.TheVariants.{Exact, Ternary}
-use Rattle.rmt_config.specs.declared.config.Source.TheVariants.{Word, Held, Constant}
+use Rattle.rmt_config.specs.declared.config.Memory.TheVariants.{Ternary}
+use Rattle.rmt_config.specs.declared.config.Source.TheVariants.{Held}
 use Rattle.rmt_config.specs.Cells.{Content}
 use Rattle.rmt_config.specs.declared.cell_write.CellWrite.{CellWrite}
 use Rattle.rmt_config.specs.RunCells.{RunCells, look_in, own_cells, sees, with_version, with_write}
@@ -11,7 +11,7 @@ use Rattle.rmt_config.specs.RunInputs.{Enters, Idle, Input, Turns, Writes, answe
 use Rattle.rmt_ast.specs.declared.names.Names.{Names}
 use Rattle.rmt_ast.specs.declared.program.Kind.TheVariants as kind
 use Rattle.rmt_config.proofs.ExamplesNames.{its_names}
-use Rattle.rmt_config.proofs.ExamplesParts.{packet, lane, sent, copy, instruction, plain_slot, plain_stage, one_byte}
+use Rattle.rmt_config.proofs.ExamplesParts.{packet, lane, sent, copy, instruction, table_slot, one_byte, two_stages}
 
 -- ---- which cells are seen
 
@@ -26,32 +26,9 @@ seen_where_occupied = (refl, refl, refl, refl, refl)
 
 -- ---- an exact table
 
--- table a does meta.x = h.f in the first stage; in the second one b is exact on meta.x, is counted where that is said, and has the entry `7 go 5` in cell 2376
--- with both visible bits; c does meta.x = 0
+-- the tables a, b and c, of which b is counted where that is said, and its entry has both visible bits
 abbrev pub strict_and_weak : Bool → Config
-strict_and_weak counted = record
-    (one_byte
-    (plain_stage 0 (plain_slot 0 None ∷ []) (instruction (copy 2 0 8 (Word 1 0) ∷ []) ∷ [])
-    ∷ record {
-      start = 12;
-      units =
-          Slot (record {
-            node = 1;
-            guard = None;
-            counted = counted;
-            actions = 1;
-            last = true;
-            held = 9;
-            keys = lane 2 0 8 ∷ [];
-            memory = Exact 1 3 1 0 (0 ∷ 1 ∷ 2 ∷ 3 ∷ []) (4 ∷ []) [];
-            numbers = record { cell = 2376; number = 0 } ∷ [];
-          })
-          ∷ plain_slot 2 None ∷ [];
-      code = instruction (copy 65 0 9 (Held 0) ∷ []) ∷ instruction [] ∷ instruction (copy 2 0 8 (Constant 0) ∷ []) ∷ [];
-      srows = record { block = 0; row = 792; bits = 0x707 } ∷ record { block = 4; row = 198; bits = 5 } ∷ [];
-      trows = [];
-    } ∷ []))
-    { names = Some its_names }
+strict_and_weak counted = record (two_stages 12 counted 0x707) { names = Some its_names }
 
 -- cell n of b with the entry `7 go PORT` of a number
 abbrev pub seven : ℕ → ℕ → ℕ → ℕ → CellWrite
@@ -160,17 +137,7 @@ ternary = record
     (record {
       start = 0;
       units =
-          Slot (record {
-            node = 0;
-            guard = None;
-            counted = true;
-            actions = 1;
-            last = true;
-            held = 9;
-            keys = lane 1 0 8 ∷ [];
-            memory = Ternary 1 (0 ∷ []) (0 ∷ []) (1 ∷ 2 ∷ []);
-            numbers = record { cell = 1; number = 0 } ∷ record { cell = 2; number = 1 } ∷ [];
-          })
+          Slot (record (table_slot 0 1 9 (lane 1 0 8 ∷ []) (Ternary 1 (0 ∷ []) (0 ∷ []) (1 ∷ 2 ∷ [])) (record { cell = 1; number = 0 } ∷ record { cell = 2; number = 1 } ∷ [])) { counted = true })
           ∷ [];
       code = instruction (copy 65 0 9 (Held 0) ∷ []) ∷ instruction [] ∷ [];
       srows = record { block = 0; row = 0; bits = 0x107 * 2 ^ 17 + 0x207 * 2 ^ 34 } ∷ [];

@@ -6,7 +6,7 @@ use Rattle.rmt_config.specs.declared.config.Next.TheVariants as next
 use Rattle.rmt_config.specs.declared.config.Extract.TheVariants.{Bits, One}
 use Rattle.rmt_config.specs.Parser.{parse, entry_of, tail_of, tail_length, no_tail, Accept, Reject, Short}
 use Rattle.rmt_config.specs.ChipRun.{outcomes_of}
-use Rattle.rmt_config.proofs.ExamplesParts.{packet, lane, sent, one_byte}
+use Rattle.rmt_config.proofs.ExamplesParts.{packet, lane, sent, one_byte, two_headers_of}
 
 -- a length that is above 0, one of 0, and one that would be below
 pub tail_length_above : tail_length 2 4 4 ≡ Some 4
@@ -62,23 +62,12 @@ tail_of_byte entry header = record { entry = entry; header = header; from = 0; l
 
 -- two headers of a byte in words 1 and 2, with valid bits 1 and 2 of word 0, one behind the other, and these tails
 abbrev two_tails : List TailOf → Config
-two_tails tails = record {
-  seed = 0;
-  in_port = lane 64 0 9;
-  out_port = lane 65 0 9;
-  drop = lane 0 0 1;
-  headers = record { valid = lane 0 1 1; bytes = 1; pieces = lane 1 0 8 ∷ [] } ∷ record { valid = lane 0 2 1; bytes = 1; pieces = lane 2 0 8 ∷ [] } ∷ [];
-  parser = record {
-    states = record { lookups = 0 ∷ [] } ∷ record { lookups = [] } ∷ [];
-    entries =
-        record { state = 0; value = 0xff000000; mask = 0xff000000; need = 1; advance = 1; next = next.Accept; extracts = Bits 0 (lane 1 0 8) ∷ [] }
-        ∷ record { state = 0; value = 0; mask = 0; need = 1; advance = 1; next = next.State 1; extracts = One (lane 0 1 1) ∷ Bits 0 (lane 1 0 8) ∷ [] }
-        ∷ record { state = 1; value = 0; mask = 0; need = 1; advance = 1; next = next.Accept; extracts = One (lane 0 2 1) ∷ Bits 0 (lane 2 0 8) ∷ [] } ∷ [];
-    tails = tails;
-  };
-  stages = [];
-  names = None;
-}
+two_tails tails =
+    two_headers_of 1 (lane 2 0 8)
+    (record { state = 0; value = 0xff000000; mask = 0xff000000; need = 1; advance = 1; next = next.Accept; extracts = Bits 0 (lane 1 0 8) ∷ [] }
+    ∷ record { state = 0; value = 0; mask = 0; need = 1; advance = 1; next = next.State 1; extracts = One (lane 0 1 1) ∷ Bits 0 (lane 1 0 8) ∷ [] }
+    ∷ record { state = 1; value = 0; mask = 0; need = 1; advance = 1; next = next.Accept; extracts = One (lane 0 2 1) ∷ Bits 0 (lane 2 0 8) ∷ [] } ∷ [])
+    tails
 
 -- the second entry is the first that matches, and its number finds its tail
 pub two_tails_entry : entry_of (two_tails []).parser 0 0x02000000 ≡ Some 1

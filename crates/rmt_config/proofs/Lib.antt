@@ -26,6 +26,8 @@ pub mod RowTold
 pub mod HeldRows
 pub mod HeadBits
 pub mod CellLayouts
+pub mod LayoutLaws
+pub mod OrderLaws
 pub mod MemoryLaws
 pub mod HeadRows
 pub mod RowForm

@@ -9,7 +9,7 @@ use Rattle.rmt_check.specs.Means.{Outcome}
 use Rattle.rmt_entries.specs.declared.fault.EntryFault.{EntryFault}
 use Rattle.rmt_entries.specs.declared.fault.EntryFault.TheVariants.{NoMemory, At}
 use Rattle.rmt_entries.specs.Entries.{entries_of}
-use Rattle.rmt_image.specs.declared.fault.ImageFault.{ImageFault}
+use Rattle.rmt_items.specs.declared.fault.ImageFault.{ImageFault}
 use Rattle.rmt_packets.specs.PacketText.{BadLine}
 use Rattle.rmt_pcap.specs.declared.capture.Capture.{Capture}
 use Rattle.rmt_pcap.specs.Captures.{capture_of}

@@ -5,8 +5,8 @@ use Rattle.std.specs.List.{starts_with}
 use Rattle.rmt_core.specs.Types.{Config}
 use Rattle.rmt_config.specs.Form.{Formed}
 use Rattle.rmt_config.specs.Limits.{IsWithinLimits}
-use Rattle.rmt_image.specs.declared.fault.ReadFault.{ReadFault}
-use Rattle.rmt_image.specs.declared.fault.ReadFault.TheVariants.{Short, Form}
+use Rattle.rmt_items.specs.declared.fault.ReadFault.{ReadFault}
+use Rattle.rmt_items.specs.declared.fault.ReadFault.TheVariants.{Short, Form}
 use Rattle.rmt_image.specs.Reading.{Answers, ConfigAnswers, EndAnswers, MagicAnswers, VersionAnswers, image_at, version_told}
 
 end_formed : (c d : Config) (rest : List ℕ) → EndAnswers (c, rest) (Ok d) → Formed d × IsWithinLimits d

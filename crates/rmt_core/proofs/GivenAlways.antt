@@ -13,10 +13,10 @@ use Rattle.rmt_config.specs.declared.limits.LimitHit.{LimitHit}
 use Rattle.rmt_config.specs.Form.{Formed}
 use Rattle.rmt_config.specs.Limits.{IsWithinLimits, limit_hit}
 use Rattle.rmt_bits.specs.Lines.{numbered_lines}
-use Rattle.rmt_image.specs.declared.fault.ImageFault.{ImageFault}
-use Rattle.rmt_image.specs.declared.fault.ImageFault.TheVariants as image
-use Rattle.rmt_image.specs.declared.fault.ReadFault.{ReadFault}
-use Rattle.rmt_image.specs.declared.fault.ReadFault.TheVariants.{Short, Form}
+use Rattle.rmt_items.specs.declared.fault.ImageFault.{ImageFault}
+use Rattle.rmt_items.specs.declared.fault.ImageFault.TheVariants as image
+use Rattle.rmt_items.specs.declared.fault.ReadFault.{ReadFault}
+use Rattle.rmt_items.specs.declared.fault.ReadFault.TheVariants.{Short, Form}
 use Rattle.rmt_image.specs.Reading.{Answers, ConfigAnswers, EndAnswers, MagicAnswers, VersionAnswers, WholeAnswers, image_at, version_told}
 use Rattle.rmt_pcap.specs.declared.capture.Capture.{Capture}
 use Rattle.rmt_pcap.specs.Captures.{capture_of}

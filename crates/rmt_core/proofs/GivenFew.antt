@@ -8,7 +8,7 @@ use Rattle.rmt_check.specs.Means.{Outcome}
 use Rattle.rmt_entries.specs.declared.fault.EntryFault.{EntryFault}
 use Rattle.rmt_entries.specs.declared.fault.EntryFault.TheVariants.{NoMemory, At}
 use Rattle.rmt_entries.specs.Entries.{entries_of}
-use Rattle.rmt_image.specs.declared.fault.ImageFault.{ImageFault}
+use Rattle.rmt_items.specs.declared.fault.ImageFault.{ImageFault}
 use Rattle.rmt_refine.specs.declared.map.Map.{Map}
 use Rattle.rmt_verify.specs.declared.map_file.MapFile.{MapFile}
 use Rattle.rmt_core.specs.declared.placer.Placer.{Placer}

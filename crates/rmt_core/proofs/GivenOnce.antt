@@ -15,7 +15,7 @@ use Rattle.rmt_entries.specs.Entries.{entries_of}
 use Rattle.rmt_cuckoo.specs.declared.layout.Ways.{Ways}
 use Rattle.rmt_cuckoo.specs.Loading.{IsLoading, IsOverfull}
 use Rattle.rmt_config.specs.ChipRun.{cycles_of, inputs_of, latency_of}
-use Rattle.rmt_image.specs.declared.fault.ImageFault.{ImageFault}
+use Rattle.rmt_items.specs.declared.fault.ImageFault.{ImageFault}
 use Rattle.rmt_image.specs.Reading.{Answers as ImageAnswers}
 use Rattle.rmt_image.proofs.Whole.{answered_once}
 use Rattle.rmt_deps.specs.Edges.{field_edges}

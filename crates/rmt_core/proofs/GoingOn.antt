@@ -6,8 +6,8 @@ use Rattle.rmt_check.specs.Means.{Means}
 use Rattle.rmt_config.specs.Spells.{Spells}
 use Rattle.rmt_entries.specs.declared.fault.EntryFault.{EntryFault}
 use Rattle.rmt_entries.specs.Entries.{entries_of}
-use Rattle.rmt_image.specs.declared.fault.ImageFault.{ImageFault}
-use Rattle.rmt_image.specs.declared.fault.ImageFault.TheVariants.{NoMemory, Magic, Version, Short, Form, Trailing, Limit}
+use Rattle.rmt_items.specs.declared.fault.ImageFault.{ImageFault}
+use Rattle.rmt_items.specs.declared.fault.ImageFault.TheVariants.{NoMemory, Magic, Version, Short, Form, Trailing, Limit}
 use Rattle.rmt_image.specs.Reading.{Answers}
 use Rattle.rmt_drive.specs.declared.status.Status.{Status}
 use Rattle.rmt_drive.specs.declared.status.Status.TheVariants as status

@@ -32,11 +32,11 @@ use Rattle.rmt_core.specs.MapFiles.{HasMapFile, map_file}
 use Rattle.rmt_core.proofs.ImageSize.{numbered}
 use Rattle.rmt_core.proofs.size.Distinct.{new_few}
 use Rattle.rmt_core.proofs.size.Joins.{joins_fit}
-use Rattle.rmt_image.proofs.size.Lists.{flat_map_short}
+use Rattle.rmt_items.proofs.size.Lists.{flat_map_short}
 use Rattle.rmt_core.proofs.size.Numbers.{numbers_below}
 use Rattle.rmt_core.proofs.size.Parts.{parts_few, parts_fit, placed_keeps}
 use Rattle.rmt_core.proofs.size.Places.{are_lanes, lanes_few, places_few}
-use Rattle.rmt_image.proofs.size.Stages.{stage_parts}
+use Rattle.rmt_items.proofs.size.Stages.{stage_parts}
 use Rattle.rmt_core.proofs.size.Told.{cells_few, cells_fit}
 
 -- how many items a map has at most

@@ -3,7 +3,7 @@ use Rattle.std.proofs.Common.{◌≡◌, ◌≢◌, ◌⊎◌, inl, inr, ⊎_eli
 use Rattle.std.specs.Prelude.{IsTrue}
 use Rattle.rmt_io.specs.Outside.{ShelfState, SinkState, OnlyRead, ReadingFailed}
 use Rattle.rmt_io.proofs.OutsideLaws.{only_printed_refl, reading_failed_later, tells_later, writing_failed_later}
-use Rattle.rmt_image.specs.declared.fault.ImageFault.TheVariants as image_fault
+use Rattle.rmt_items.specs.declared.fault.ImageFault.TheVariants as image_fault
 use Rattle.rmt_pcap.specs.declared.capture.Capture.{Capture as Said}
 use Rattle.rmt_pcap.specs.declared.fault.CaptureFault.TheVariants as capture_fault
 use Rattle.rmt_pcap.specs.Captures.{capture_of}

@@ -10,7 +10,7 @@ use Rattle.rmt_drive.specs.Runs.{run_status}
 use Rattle.rmt_core.specs.Texts.{bad_entries_line, bad_program_line}
 use Rattle.rmt_core.specs.Verifying.{answer_line}
 use Rattle.rmt_core.specs.ImageFaults.{bad_image_line}
-use Rattle.rmt_image.specs.declared.fault.ImageFault.TheVariants.{Limit}
+use Rattle.rmt_items.specs.declared.fault.ImageFault.TheVariants.{Limit}
 
 pub a_bad_program : bad_program_line 8 1 8 ≡ codes "bad program 8 line 1 column 8\n"
 unfolding digits

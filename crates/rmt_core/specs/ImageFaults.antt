@@ -1,8 +1,8 @@
 -- The last line that tells why bytes are no image.
 use Rattle.std.specs.Prelude.{ℕ, List, [], ◌++◌, codes}
 use Rattle.std.specs.Fmt.{decimal}
-use Rattle.rmt_image.specs.declared.fault.ImageFault.{ImageFault}
-use Rattle.rmt_image.specs.declared.fault.ImageFault.TheVariants as fault
+use Rattle.rmt_items.specs.declared.fault.ImageFault.{ImageFault}
+use Rattle.rmt_items.specs.declared.fault.ImageFault.TheVariants as fault
 
 -- `bad image CODE`, and for a limit `bad image 6 limit L stage K sum S need N`
 abbrev pub bad_image_line : ImageFault → List ℕ

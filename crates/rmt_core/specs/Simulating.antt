@@ -1,7 +1,7 @@
 -- What `sim` and `probe` give.
 use Rattle.std.specs.Prelude.{◌≡◌, ℕ, List, Result, Ok, Err}
 use Rattle.rmt_core.specs.Types.{Config}
-use Rattle.rmt_image.specs.declared.fault.ImageFault.{ImageFault}
+use Rattle.rmt_items.specs.declared.fault.ImageFault.{ImageFault}
 use Rattle.rmt_image.specs.Reading.{Answers}
 use Rattle.rmt_drive.specs.declared.status.Status.TheVariants.{BadImage}
 use Rattle.rmt_drive.specs.declared.watch.Watch.{Watch}

@@ -1,7 +1,7 @@
 -- What the three files of `switch` say, and why they say nothing.
 use Rattle.std.specs.Prelude.{◌≡◌, ◌≢◌, ⊤, ℕ, List, [], Ok, Err}
 use Rattle.rmt_config.specs.Spells.{Spells}
-use Rattle.rmt_image.specs.declared.fault.ImageFault.TheVariants as image_fault
+use Rattle.rmt_items.specs.declared.fault.ImageFault.TheVariants as image_fault
 use Rattle.rmt_image.specs.Reading.{Answers}
 use Rattle.rmt_io.specs.Outside.{ShelfState}
 use Rattle.rmt_pcap.specs.declared.fault.CaptureFault.TheVariants as capture_fault

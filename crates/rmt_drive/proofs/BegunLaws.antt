@@ -6,8 +6,8 @@ use Rattle.rmt_config.specs.RunCells.{RunCells, own_cells}
 use Rattle.rmt_chip.specs.declared.chip.Chip.{Chip}
 use Rattle.rmt_io.specs.Outside.{SinkState}
 use Rattle.rmt_update.specs.BookStands.{BookStands}
-use Rattle.rmt_update.specs.Running.{Running}
-use Rattle.rmt_update.specs.Stands.{Stands as ListsStand}
+use Rattle.rmt_lists.specs.Running.{Running}
+use Rattle.rmt_lists.specs.Stands.{Stands as ListsStand}
 use Rattle.rmt_config.specs.declared.config.Config.{Config}
 use Rattle.rmt_drive.specs.CommitsOf.{AreCommitsOf}
 use Rattle.rmt_drive.specs.EventText.{EventReading}

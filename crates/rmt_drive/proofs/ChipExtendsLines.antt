@@ -15,7 +15,7 @@ use Rattle.rmt_packets.specs.declared.line_kind.LineKind.{LineKind}
 use Rattle.rmt_packets.specs.declared.line_kind.LineKind.TheVariants as line
 use Rattle.rmt_packets.specs.LineKinds.{kind_of}
 use Rattle.rmt_packets.specs.PacketText.{packet_of}
-use Rattle.rmt_update.specs.Running.{Running, line_change}
+use Rattle.rmt_lists.specs.Running.{Running, line_change}
 use Rattle.rmt_update.proofs.MadeCommits.{IsDone, IsUnplaced, commit_decided}
 use Rattle.rmt_drive.specs.ChipEvents.{Comes, arrived, commit_cycles, turned, lists_in, names_in}
 use Rattle.rmt_drive.specs.ChipReading.{commits_in, read_by, with_chip_line}

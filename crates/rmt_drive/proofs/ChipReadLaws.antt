@@ -13,7 +13,7 @@ use Rattle.rmt_packets.specs.PacketText.{BadLine, packet_of}
 use Rattle.rmt_packets.specs.Pieces.{front_of}
 use Rattle.rmt_packets.proofs.Fronts.{packet_of_front}
 use Rattle.rmt_packets.proofs.KindLaws.{kind_of_front}
-use Rattle.rmt_update.specs.Running.{Running, line_change}
+use Rattle.rmt_lists.specs.Running.{Running, line_change}
 use Rattle.rmt_runs.specs.TextLines.{fronts_of}
 use Rattle.rmt_drive.specs.ChipReading.{chip_reads_on, commits_in, read_by, unread_by, with_chip_commit, with_chip_line}
 use Rattle.rmt_drive.specs.EventText.{EventReading, with_bad, with_change, with_commit, with_packet}

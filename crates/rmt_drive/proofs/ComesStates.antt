@@ -28,7 +28,7 @@ use Rattle.rmt_plain.specs.Stands.{entries_after}
 use Rattle.rmt_plain.proofs.EventLaws.{entries_after-append}
 use Rattle.rmt_update.specs.Fitting.{AreFit}
 use Rattle.rmt_update.specs.Following.{AreBelow, IsNextAbove}
-use Rattle.rmt_update.specs.Running.{Running, added_to, begins as begins_with, holds, key_of_entry, key_of_name, line_change, refusal_of, unless, with_entry, with_one, without_key, without_one}
+use Rattle.rmt_lists.specs.Running.{Running, added_to, begins as begins_with, holds, key_of_entry, key_of_name, line_change, refusal_of, unless, with_entry, with_one, without_key, without_one}
 use Rattle.rmt_update.proofs.BookLaws.{names-fit}
 use Rattle.rmt_update.proofs.FitMakes.{makes_fit, version_fit}
 use Rattle.rmt_update.proofs.FitOwn.{own_fit}

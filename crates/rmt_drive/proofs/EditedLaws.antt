@@ -28,7 +28,7 @@ use Rattle.rmt_refine.specs.Fit.{AreFitChanges, CanBeAdded, CanBeMade, has_once}
 use Rattle.rmt_refine.specs.Units.{table_at}
 use Rattle.rmt_refine.proofs.FitLaws.{commit_follows, first_below}
 use Rattle.rmt_refine.proofs.NamedLaws.{keyed_terms, terms_named_is}
-use Rattle.rmt_update.specs.Running.{Running, added_to, begins, holds, key_of_entry, key_of_name, line_change, refusal_of, unless, with_entry, with_one, without_key, without_one}
+use Rattle.rmt_lists.specs.Running.{Running, added_to, begins, holds, key_of_entry, key_of_name, line_change, refusal_of, unless, with_entry, with_one, without_key, without_one}
 use Rattle.rmt_drive.specs.EventText.{EventReading, added_by, change_said, removed_by, unread, with_change, with_commit, with_packet}
 use Rattle.rmt_drive.specs.PlainRunning.{IsEdited, committed_by}
 

@@ -17,7 +17,7 @@ use Rattle.rmt_packets.specs.Pieces.{front_of, front_size}
 use Rattle.rmt_packets.proofs.Fronts.{packet_of_front}
 use Rattle.rmt_packets.proofs.KindLaws.{kind_of_front}
 use Rattle.rmt_packets.proofs.StandsLaws.{front_size_is}
-use Rattle.rmt_update.specs.Running.{Running, begins, is_change, line_change}
+use Rattle.rmt_lists.specs.Running.{Running, begins, is_change, line_change}
 use Rattle.rmt_runs.specs.TextLines.{fronts_of}
 use Rattle.rmt_drive.specs.EventText.{EventReading, events_of, read_on, unread, with_change, with_line, with_packet}
 

@@ -11,7 +11,7 @@ use Rattle.rmt_bits.proofs.AllLaws.{All-find, All-slice_get}
 use Rattle.rmt_bits.proofs.ListLaws.{find-passes}
 use Rattle.rmt_bits.proofs.MemberLaws.{Contains-first, Contains-later, Contains-unmap, flat_from, from_flat_map}
 use Rattle.rmt_pack.proofs.EntryLaws.{AllPairs-unmap}
-use Rattle.rmt_pack.proofs.LayoutLaws.{memory_formed}
+use Rattle.rmt_config.proofs.LayoutLaws.{memory_formed}
 use Rattle.rmt_ast.specs.declared.entry.Entry.{Entry}
 use Rattle.rmt_ast.specs.declared.names.Names.{Names}
 use Rattle.rmt_ast.specs.declared.names.TableName.{TableName}
@@ -39,7 +39,7 @@ use Rattle.rmt_update.proofs.PartOrder.{IsPartOf, nodes-apart, parts-own, rooms-
 use Rattle.rmt_update.proofs.PlacedLaws.{zip-pairs}
 use Rattle.rmt_update.proofs.RoomNumbers.{IsNumber, IsRows, RowAt, row-at, total}
 use Rattle.rmt_update.proofs.TableRules.{entries-at, rows-of}
-use Rattle.rmt_update.proofs.ToldEntryLaws.{PartFacts, all-facts}
+use Rattle.rmt_book.proofs.ToldEntryLaws.{PartFacts, all-facts}
 use Rattle.rmt_update.proofs.ZipLaws.{zip-all-right, zip-gives}
 use Rattle.rmt_drive.proofs.HeldCells.{EachHasCell, HasCell}
 

@@ -14,8 +14,8 @@ use Rattle.rmt_packets.specs.declared.line_kind.LineKind.{LineKind}
 use Rattle.rmt_packets.specs.declared.line_kind.LineKind.TheVariants as line
 use Rattle.rmt_packets.specs.LineKinds.{kind_of}
 use Rattle.rmt_packets.specs.PacketText.{packet_of}
-use Rattle.rmt_update.specs.Running.{Running, line_change}
-use Rattle.rmt_update.specs.Stands.{StandsFor}
+use Rattle.rmt_lists.specs.Running.{Running, line_change}
+use Rattle.rmt_lists.specs.Stands.{StandsFor}
 use Rattle.rmt_update.specs.declared.book.plan.Plan.{Plan}
 use Rattle.rmt_runs.specs.declared.fault.RunFault.{RunFault}
 use Rattle.rmt_runs.specs.declared.fault.RunFault.TheVariants as fault

@@ -15,9 +15,9 @@ use Rattle.rmt_packets.specs.PacketText.{BadLine}
 use Rattle.rmt_plain.specs.declared.plain.Plain.{Plain}
 use Rattle.rmt_plain.specs.Stands.{FollowOn, HasMet, HasTaken, entries_after, meets}
 use Rattle.rmt_plain.proofs.EventLaws.{answers-append, follows_on, taken_commit, taken_packet}
-use Rattle.rmt_update.specs.declared.lists.Lists.{Lists}
-use Rattle.rmt_update.specs.Running.{Running, line_change}
-use Rattle.rmt_update.specs.Stands.{Stands, StandsFor}
+use Rattle.rmt_lists.specs.declared.lists.Lists.{Lists}
+use Rattle.rmt_lists.specs.Running.{Running, line_change}
+use Rattle.rmt_lists.specs.Stands.{Stands, StandsFor}
 use Rattle.rmt_drive.specs.declared.plain_run.PlainRun.{PlainRun}
 use Rattle.rmt_runs.specs.declared.fault.Bad.{Bad}
 use Rattle.rmt_runs.specs.declared.fault.RunFault.{RunFault}

@@ -7,12 +7,12 @@ use Rattle.rmt_config.specs.Commits.{RunState}
 use Rattle.rmt_config.specs.RunCells.{RunCells}
 use Rattle.rmt_config.specs.RunInputs.{Input}
 use Rattle.rmt_update.specs.declared.book.plan.Plan.{Plan}
-use Rattle.rmt_update.specs.declared.fault.UpdateFault.{UpdateFault}
-use Rattle.rmt_update.specs.declared.fault.UpdateFault.TheVariants.{NoMemory, LoadFull}
-use Rattle.rmt_update.specs.declared.lists.Changes.{Changes}
+use Rattle.rmt_lists.specs.declared.fault.UpdateFault.{UpdateFault}
+use Rattle.rmt_lists.specs.declared.fault.UpdateFault.TheVariants.{NoMemory, LoadFull}
+use Rattle.rmt_lists.specs.declared.lists.Changes.{Changes}
 use Rattle.rmt_update.specs.Planned.{IsPlanned, IsUnplanned, MayChange, changed_lists}
-use Rattle.rmt_update.specs.Running.{AreChanges, commit_of}
-use Rattle.rmt_update.specs.Stands.{Stands}
+use Rattle.rmt_lists.specs.Running.{AreChanges, commit_of}
+use Rattle.rmt_lists.specs.Stands.{Stands}
 use Rattle.rmt_update.proofs.FitMakes.{makes_fit}
 use Rattle.rmt_update.proofs.FollowLaws.{lists_are, may_change}
 use Rattle.rmt_drive.specs.declared.running.commits.Commits.{Commits}

@@ -12,7 +12,7 @@ use Rattle.rmt_packets.specs.LineKinds.{kind_of}
 use Rattle.rmt_packets.specs.PacketText.{BadLine, packet_of}
 use Rattle.rmt_runs.specs.TextLines.{lines_within}
 use Rattle.rmt_runs.proofs.LineLaws.{whole_more}
-use Rattle.rmt_update.specs.Running.{Running, line_change}
+use Rattle.rmt_lists.specs.Running.{Running, line_change}
 use Rattle.rmt_drive.specs.ChipReading.{by_chip, chip_reads_on, commits_in, finds_none, read_by, unread_by, with_chip_commit, with_chip_line}
 use Rattle.rmt_drive.specs.ChipRuns.{bad_within, told_of}
 use Rattle.rmt_drive.specs.EventText.{EventReading, with_bad, with_change, with_commit, with_packet}

@@ -34,7 +34,7 @@ use Rattle.rmt_refine.specs.EventRuns.{EventsAreAnswered, outcomes_in}
 use Rattle.rmt_refine.specs.Fit.{AreFit}
 use Rattle.rmt_refine.specs.Named.{NamesCarried}
 use Rattle.rmt_refine.specs.RunsAs.{told_by_answer, told_by_outcome}
-use Rattle.rmt_update.specs.Running.{Running, line_change}
+use Rattle.rmt_lists.specs.Running.{Running, line_change}
 use Rattle.rmt_update.proofs.BookLaws.{names-fit}
 use Rattle.rmt_drive.specs.declared.watch.Watch.TheVariants.{Answers}
 use Rattle.rmt_drive.specs.ChipEvents.{Comes, empty_cycles, lists_in, names_in}

@@ -4,7 +4,7 @@ use Rattle.std.specs.Prelude.{All, Contains}
 use Rattle.std.proofs.lemmas.Bool.{ne_eqb}
 use Rattle.std.proofs.lemmas.List.Elements.{All-contains_itself, All-weaker, All-contains}
 use Rattle.rmt_bits.specs.Bits.{number_of}
-use Rattle.rmt_chip.specs.Writable.{EntryTaken, IsTaken, MaskTaken}
+use Rattle.rmt_memory.specs.Writable.{EntryTaken, IsTaken, MaskTaken}
 use Rattle.rmt_config.specs.declared.cell_write.CellWrite.{CellWrite}
 use Rattle.rmt_config.specs.declared.config.Config.{Config}
 use Rattle.rmt_config.specs.declared.config.Memory.{Memory}
@@ -15,7 +15,7 @@ use Rattle.rmt_config.specs.Commits.{AreWrites}
 use Rattle.rmt_config.specs.LaneForm.{bits_of_lanes}
 use Rattle.rmt_config.specs.RunCells.{RunCells, emptied, written_content, written_mask}
 use Rattle.rmt_update.specs.Fitting.{AreFit, HasEntry, IsFitting, MaskFits}
-use Rattle.rmt_update.specs.Kept.{AreBytesOf, mask_bytes}
+use Rattle.rmt_book.specs.Kept.{AreBytesOf, mask_bytes}
 use Rattle.rmt_update.specs.Planned.{HasLengths}
 use Rattle.rmt_update.proofs.FitWrites.{written_fits}
 use Rattle.rmt_update.proofs.WritesLaws.{said_number}

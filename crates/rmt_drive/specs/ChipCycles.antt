@@ -9,7 +9,7 @@ use Rattle.rmt_config.specs.RunInputs.{Idle, Input, Turns, Writes, flight_in}
 use Rattle.rmt_chip.specs.declared.chip.Chip.{Chip}
 use Rattle.rmt_chip.specs.Inputs.{MayEnter, input_from}
 use Rattle.rmt_chip.specs.Stands.{Stands, entered_of, spare_of, version_of}
-use Rattle.rmt_chip.specs.Writable.{IsTaken}
+use Rattle.rmt_memory.specs.Writable.{IsTaken}
 use Rattle.rmt_packets.specs.AnswerLine.{answer_line}
 use Rattle.rmt_refine.specs.EventRuns.{outcomes_in}
 use Rattle.rmt_drive.specs.declared.running.state.Run.{Run}

@@ -6,7 +6,7 @@ use Rattle.rmt_packets.specs.declared.line_kind.LineKind.{LineKind}
 use Rattle.rmt_packets.specs.declared.line_kind.LineKind.TheVariants as line
 use Rattle.rmt_packets.specs.LineKinds.{kind_of}
 use Rattle.rmt_packets.specs.PacketText.{BadLine, packet_of}
-use Rattle.rmt_update.specs.Running.{fresh, line_change}
+use Rattle.rmt_lists.specs.Running.{fresh, line_change}
 use Rattle.rmt_drive.specs.EventText.{EventReading, most_additions, with_bad, with_change, with_commit, with_packet}
 use Rattle.rmt_drive.specs.Runs.{Way}
 use Rattle.rmt_drive.specs.ChipEvents.{lists_in, names_in}

@@ -2,8 +2,8 @@
 use Rattle.std.specs.Prelude.{◌≡◌, Option, Some, None}
 use Rattle.rmt_config.specs.RunCells.{own_cells}
 use Rattle.rmt_update.specs.BookStands.{BookStands}
-use Rattle.rmt_update.specs.Running.{fresh}
-use Rattle.rmt_update.specs.Stands.{Stands}
+use Rattle.rmt_lists.specs.Running.{fresh}
+use Rattle.rmt_lists.specs.Stands.{Stands}
 use Rattle.rmt_config.specs.declared.config.Config.{Config}
 use Rattle.rmt_drive.specs.declared.running.commits.Commits.{Commits}
 use Rattle.rmt_drive.specs.ChipEvents.{lists_in, names_in}

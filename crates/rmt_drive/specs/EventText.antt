@@ -13,7 +13,7 @@ use Rattle.rmt_packets.specs.declared.line_kind.LineKind.{LineKind}
 use Rattle.rmt_packets.specs.declared.line_kind.LineKind.TheVariants as line
 use Rattle.rmt_packets.specs.LineKinds.{kind_of}
 use Rattle.rmt_packets.specs.PacketText.{BadLine, packet_of}
-use Rattle.rmt_update.specs.Running.{Running, begins, commit_of, fresh, key_of_name, line_change}
+use Rattle.rmt_lists.specs.Running.{Running, begins, commit_of, fresh, key_of_name, line_change}
 use Rattle.rmt_drive.specs.Runs.{Way}
 
 -- how many additions a packet text may have

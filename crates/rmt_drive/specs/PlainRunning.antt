@@ -9,7 +9,7 @@ use Rattle.rmt_ast.specs.Events.{Event, answers_of_events}
 use Rattle.rmt_ast.specs.Naming.{names_of}
 use Rattle.rmt_plain.specs.Stands.{HasTaken, entries_after, entries_in}
 use Rattle.rmt_refine.specs.Fit.{AreFitChanges}
-use Rattle.rmt_update.specs.Stands.{Stands}
+use Rattle.rmt_lists.specs.Stands.{Stands}
 use Rattle.rmt_runs.specs.Cuts.{Cut}
 use Rattle.rmt_runs.specs.declared.fault.RunFault.{RunFault}
 use Rattle.rmt_drive.specs.declared.plain_run.PlainRun.{PlainRun}

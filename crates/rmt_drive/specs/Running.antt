@@ -11,16 +11,16 @@ use Rattle.rmt_config.specs.RunCells.{RunCells, own_cells}
 use Rattle.rmt_config.specs.RunInputs.{Input}
 use Rattle.rmt_chip.specs.declared.chip.Chip.{Chip}
 use Rattle.rmt_chip.specs.Stands.{entered_of, version_of}
-use Rattle.rmt_chip.specs.Writable.{IsTaken}
+use Rattle.rmt_memory.specs.Writable.{IsTaken}
 use Rattle.rmt_packets.specs.declared.line_kind.LineKind.TheVariants as line
 use Rattle.rmt_packets.specs.LineKinds.{kind_of}
 use Rattle.rmt_packets.specs.PacketText.{BadLine}
 use Rattle.rmt_update.specs.BookStands.{BookStands}
-use Rattle.rmt_update.specs.Running.{fresh}
-use Rattle.rmt_update.specs.Stands.{Stands as ListsStand}
+use Rattle.rmt_lists.specs.Running.{fresh}
+use Rattle.rmt_lists.specs.Stands.{Stands as ListsStand}
 use Rattle.rmt_update.specs.declared.book.plan.Plan.{Plan}
-use Rattle.rmt_update.specs.declared.fault.UpdateFault.{UpdateFault}
-use Rattle.rmt_update.specs.declared.fault.UpdateFault.TheVariants.{NoMemory, LoadFull}
+use Rattle.rmt_lists.specs.declared.fault.UpdateFault.{UpdateFault}
+use Rattle.rmt_lists.specs.declared.fault.UpdateFault.TheVariants.{NoMemory, LoadFull}
 use Rattle.rmt_runs.specs.declared.fault.RunFault.{RunFault}
 use Rattle.rmt_runs.specs.declared.fault.RunFault.TheVariants as fault
 use Rattle.rmt_drive.specs.declared.running.commits.Commits.{Commits}

@@ -7,7 +7,7 @@ use crate::reader::{Reader, Step};
 use std::alloc::{AllocError, Global};
 
 /// A field as a text names it.
-#[derive(Clone, Copy, Debug)]
+#[derive(Clone, Copy)]
 pub struct FieldName<'t> {
     /// The header's name, or `meta`; nothing where the field is one word.
     pub owner: &'t [u8],
@@ -15,7 +15,7 @@ pub struct FieldName<'t> {
 }
 
 /// Where a name is declared, and how wide it is.
-#[derive(Clone, Copy, Debug)]
+#[derive(Clone, Copy)]
 pub struct Width {
     /// The position of its declaration in the text; none where it needs no declaration.
     pub position: Option<usize>,
@@ -24,7 +24,7 @@ pub struct Width {
 }
 
 /// A parameter of an action.
-#[derive(Clone, Copy, Debug)]
+#[derive(Clone, Copy)]
 pub struct Parameter<'t> {
     pub name: &'t [u8],
     pub width: Width,

@@ -7,7 +7,7 @@ use rmt_bits::digits::is_digit;
 use std::alloc::Global;
 
 /// A place in the grammar, before a token: of the text, then those of headers, actions, tables and `control`.
-#[derive(Clone, Copy, Debug)]
+#[derive(Clone, Copy)]
 pub enum Want {
     Top,
     End,

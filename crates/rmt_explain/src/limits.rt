@@ -1,7 +1,7 @@
 //! The limits of the chip, by the numbers that an image's fault and a refusal tell.
 
 /// A limit of the chip.
-#[derive(Clone, Copy, Debug)]
+#[derive(Clone, Copy)]
 pub struct Limit {
     /// Its number.
     pub number: u64,

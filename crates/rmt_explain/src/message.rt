@@ -14,7 +14,7 @@ const WORD_LIMIT: usize = 80;
 const CUT: &str = "..";
 
 /// A message. Want of memory is kept, and told at the end.
-#[derive(Debug, Drop)]
+#[derive(Drop)]
 pub struct Message {
     alloc: Global,
     bytes: Vec<u8>,

@@ -5,7 +5,7 @@ use crate::scan::{Token, token_from};
 use std::alloc::Global;
 
 /// A token, and what might stand in its place.
-#[derive(Clone, Copy, Debug)]
+#[derive(Clone, Copy)]
 pub struct Step<'t> {
     pub want: Want,
     pub token: Token<'t>,

@@ -3,7 +3,7 @@
 use rmt_bits::digits::{is_digit, is_hex};
 
 /// A token of a text.
-#[derive(Clone, Copy, Debug)]
+#[derive(Clone, Copy)]
 pub struct Token<'a> {
     /// Its bytes.
     pub word: &'a [u8],

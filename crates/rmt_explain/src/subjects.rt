@@ -8,7 +8,7 @@ use crate::scan::token_from;
 use std::alloc::Global;
 
 /// What a place stands beside.
-#[derive(Clone, Copy, Debug)]
+#[derive(Clone, Copy)]
 pub struct Subject<'t> {
     /// The field that is assigned or compared.
     pub field: FieldName<'t>,
@@ -94,7 +94,7 @@ pub fn subject_at<'t>(alloc: Global, text: &'t [u8], position: usize) -> Option<
 }
 
 /// What stands at a place where an operand may.
-#[derive(Clone, Copy, Debug)]
+#[derive(Clone, Copy)]
 pub enum Operand<'t> {
     Number(&'t [u8]),
     Field(FieldName<'t>, Width),

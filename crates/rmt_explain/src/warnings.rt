@@ -17,7 +17,7 @@ use std::alloc::{AllocError, Global};
 const MOST: usize = 20;
 
 /// What is wrong with a program that can be compiled.
-#[derive(Clone, Copy, Debug)]
+#[derive(Clone, Copy)]
 enum Cause {
     /// A header to which no header before it goes on.
     Header,
@@ -32,7 +32,7 @@ enum Cause {
 }
 
 /// A warning: what, and where.
-#[derive(Clone, Copy, Debug)]
+#[derive(Clone, Copy)]
 struct Warning {
     cause: Cause,
     /// The position of the word in the text.

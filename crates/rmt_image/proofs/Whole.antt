@@ -18,19 +18,19 @@ use Rattle.rmt_config.specs.Limits.{IsWithinLimits}
 use Rattle.rmt_config.specs.Spelling.{two_bytes, spelled_list8, spelled_list16, spelled_lane, spelled_header, spelled_parser, spelled_stage, spelled_ports, spelled_config}
 use Rattle.rmt_config.specs.ImageSpelling.{spelled_table, spelled_tail, spelled_names, spelled_tails, version_with, version_of, spelled_image}
 use Rattle.rmt_config.specs.Spells.{Spells}
-use Rattle.rmt_image.specs.declared.fault.ImageFault.{ImageFault}
-use Rattle.rmt_image.specs.declared.fault.ImageFault.TheVariants as image
-use Rattle.rmt_image.specs.declared.fault.ReadFault.{ReadFault}
-use Rattle.rmt_image.specs.declared.fault.ReadFault.TheVariants.{Short, Form}
+use Rattle.rmt_items.specs.declared.fault.ImageFault.{ImageFault}
+use Rattle.rmt_items.specs.declared.fault.ImageFault.TheVariants as image
+use Rattle.rmt_items.specs.declared.fault.ReadFault.{ReadFault}
+use Rattle.rmt_items.specs.declared.fault.ReadFault.TheVariants.{Short, Form}
 use Rattle.rmt_image.specs.declared.reading.config.Ports.{Ports}
-use Rattle.rmt_image.specs.Readers.{at_least}
+use Rattle.rmt_items.specs.Readers.{at_least}
 use Rattle.rmt_image.specs.Reading.{ports_of_parts, ports_at, config_of_parts, config_at, config_with_names, named_at, config_with_tails, tailed_at, image_at, version_told, WholeAnswers, EndAnswers, ConfigAnswers, VersionAnswers, MagicAnswers, Answers}
-use Rattle.rmt_image.proofs.Codec.{Codec, codec_behind, codec_made, codec_made_known, byte_codec}
-use Rattle.rmt_image.proofs.Items.{lane_of_codec, headers_codec, parser_codec}
-use Rattle.rmt_image.proofs.Stages.{stages_codec}
-use Rattle.rmt_image.proofs.NameItems.{NamesKeep, names_codec}
-use Rattle.rmt_image.proofs.TailItems.{tails_codec, tails_keep}
-use Rattle.rmt_image.proofs.NamesCounts.{names_keep}
+use Rattle.rmt_items.proofs.Codec.{Codec, codec_behind, codec_made, codec_made_known, byte_codec}
+use Rattle.rmt_items.proofs.Items.{lane_of_codec, headers_codec, parser_codec}
+use Rattle.rmt_items.proofs.Stages.{stages_codec}
+use Rattle.rmt_items.proofs.NameItems.{NamesKeep, names_codec}
+use Rattle.rmt_items.proofs.TailItems.{tails_codec, tails_keep}
+use Rattle.rmt_items.proofs.NamesCounts.{names_keep}
 use Rattle.rmt_bits.proofs.ListLaws.{begins}
 
 -- ---- the configuration

@@ -1,8 +1,3 @@
 pub mod Types
-pub mod CountsFit
-pub mod Readers
-pub mod ReadingNames
-pub mod ReadingTails
 pub mod Reading
 pub mod Size
-pub mod Formats

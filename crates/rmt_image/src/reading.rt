@@ -3,26 +3,14 @@
 ghost use Rattle.std.specs.Prelude.{◌≡◌, ◌≢◌, ℕ, List, Result, IfOk, Ok, Err};
 ghost use Rattle.rmt_config.specs.Spells.{Spells};
 ghost use Rattle.rmt_config.specs.declared.config.Config.{Config};
-ghost use Rattle.rmt_image.specs.declared.fault.ImageFault.{ImageFault};
+ghost use Rattle.rmt_items.specs.declared.fault.ImageFault.{ImageFault};
 ghost use Rattle.rmt_image.specs.Reading.{WholeAnswers, ConfigAnswers, image_at, version_told, Answers};
 
 mod config;
-mod gate;
-mod header;
-mod items;
-mod lane;
-mod memory;
-mod names;
-mod number;
-mod parser;
-mod slot;
-mod stage;
-mod tails;
-mod vliw;
 
-use crate::fault::{ImageFault, ReadError, ReadFault};
 use config::image_of;
 use rmt_config::config::Config;
+use rmt_items::fault::{ImageFault, ReadError, ReadFault};
 use std::alloc::Global;
 
 /// The rules on the whole configuration, and then the limits.

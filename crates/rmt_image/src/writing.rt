@@ -6,22 +6,13 @@ ghost use Rattle.rmt_config.specs.ImageSpelling.{spelled_image, version_of};
 ghost use Rattle.rmt_config.specs.Form.{Formed};
 ghost use Rattle.rmt_config.specs.Limits.{IsWithinLimits};
 
-mod lane;
-mod names;
-mod parser;
-mod slot;
-mod spelled;
-mod stage;
-mod tails;
-mod vliw;
-
-use crate::fault::ImageFault;
-use names::put_names;
-use parser::put_parser;
 use rmt_config::config::Config;
-use spelled::{Spelled, put_list8, put_two};
+use rmt_items::fault::ImageFault;
+use rmt_items::writing::names::put_names;
+use rmt_items::writing::parser::put_parser;
+use rmt_items::writing::spelled::{Spelled, put_list8, put_two};
+use rmt_items::writing::tails::put_tails;
 use std::alloc::{AllocError, Global};
-use tails::put_tails;
 
 fn put_ports(out: &mut Vec<u8>, config: &Config) -> Result<(), AllocError>
     ensures { OnOk result (out.new.items ≡ out.old.items ++ spelled_ports config.now) }

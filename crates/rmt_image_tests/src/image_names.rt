@@ -311,10 +311,8 @@ fn compare(
     cases: &[Case],
 ) -> Result<(), Fail> {
     let image = changed(rt.alloc(), image, names)?;
-    assert_eq!(rt;
-        first_wrong(rt.alloc(), image.as_slice(), cases)?,
-        cases.len()
-    );
+    let wrong = first_wrong(rt.alloc(), image.as_slice(), cases)?;
+    assert!(rt; wrong == cases.len(), "row {wrong}");
     Ok(())
 }
 
@@ -364,10 +362,12 @@ fn cut_short(rt: HostRuntime) -> Result<(), Fail> {
     let named = changed(rt.alloc(), &STRICT_AND_WEAK, &NAMES)?;
     let tail: [Splice; 2] = [(244, 0, &[0, 1, 0, 0, 0, 0, 0, 4, 4, 4]), (5, 1, &[3])];
     let whole = changed(rt.alloc(), named.as_slice(), &tail)?;
-    assert_eq!(rt; read(rt.alloc(), whole.as_slice()).0, 0);
-    assert_eq!(rt; first_not_cut(rt.alloc(), whole.as_slice()), whole.len());
+    assert!(rt; read(rt.alloc(), whole.as_slice()).0 == 0);
+    let cut = first_not_cut(rt.alloc(), whole.as_slice());
+    assert!(rt; cut == whole.len(), "{cut} bytes");
     let ranked = changed(rt.alloc(), &GATED, &RANKS)?;
-    assert_eq!(rt; first_not_cut(rt.alloc(), ranked.as_slice()), ranked.len());
+    let cut = first_not_cut(rt.alloc(), ranked.as_slice());
+    assert!(rt; cut == ranked.len(), "{cut} bytes");
     Ok(())
 }
 

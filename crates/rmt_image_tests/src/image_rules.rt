@@ -197,16 +197,16 @@ const CHANGES_OF_GATED: [Change; 39] = [
 
 #[test]
 fn read_whole(rt: HostRuntime) {
-    assert_eq!(rt; read(rt.alloc(), &STRICT_AND_WEAK), (0, 0, 0, 0));
-    assert_eq!(rt; read(rt.alloc(), &WITHOUT_ENTRIES), (0, 0, 0, 0));
-    assert_eq!(rt; read(rt.alloc(), &GATED), (0, 0, 0, 0));
+    assert!(rt; read(rt.alloc(), &STRICT_AND_WEAK) == (0, 0, 0, 0));
+    assert!(rt; read(rt.alloc(), &WITHOUT_ENTRIES) == (0, 0, 0, 0));
+    assert!(rt; read(rt.alloc(), &GATED) == (0, 0, 0, 0));
 }
 
 /// Compares what is read of an image with each of these changes.
 fn compare(rt: &(impl Abort + AllocGlobal), image: &[u8], changes: &[Change]) -> Result<(), Fail> {
     for (number, (splices, wanted)) in changes.iter().enumerate() {
         let image = changed(rt.alloc(), image, splices)?;
-        assert_eq!(rt; read(rt.alloc(), &image), *wanted, "row {number}");
+        assert!(rt; read(rt.alloc(), &image) == *wanted, "row {number}");
     }
     Ok(())
 }
@@ -226,20 +226,19 @@ fn changes_of_gated(rt: HostRuntime) -> Result<(), Fail> {
 fn a_doubled_block(rt: HostRuntime) {
     let mut image = WITHOUT_ENTRIES;
     image[116] = 0;
-    assert_eq!(rt; read(rt.alloc(), &image), (6, 17, 1, 2));
+    assert!(rt; read(rt.alloc(), &image) == (6, 17, 1, 2));
 }
 
 /// Cut short behind the version, an image ends inside an item.
 #[test]
 fn cut_short(rt: HostRuntime) {
     for len in 6..STRICT_AND_WEAK.len() {
-        assert_eq!(rt;
-            read(rt.alloc(), &STRICT_AND_WEAK[..len]).0,
-            3,
+        assert!(rt;
+            read(rt.alloc(), &STRICT_AND_WEAK[..len]).0 == 3,
             "{len} bytes"
         );
     }
     for len in 6..GATED.len() {
-        assert_eq!(rt; read(rt.alloc(), &GATED[..len]).0, 3, "{len} bytes");
+        assert!(rt; read(rt.alloc(), &GATED[..len]).0 == 3, "{len} bytes");
     }
 }

@@ -93,7 +93,7 @@ pub fn read(alloc: Global, image: &[u8]) -> (u8, u8, u8, u32) {
 
 #[test]
 fn smallest(rt: HostRuntime) {
-    assert_eq!(rt; read(rt.alloc(), &IMAGE).0, 0);
+    assert!(rt; read(rt.alloc(), &IMAGE).0 == 0);
 }
 
 #[test]
@@ -102,7 +102,10 @@ fn broken_bytes(rt: HostRuntime) {
         let mut image = IMAGE;
         assert!(rt; place < 95);
         image[place] = byte;
-        assert_eq!(rt; read(rt.alloc(), &image).0, code, "byte {place} is {byte}");
+        assert!(rt;
+            read(rt.alloc(), &image).0 == code,
+            "byte {place} is {byte}"
+        );
     }
 }
 
@@ -112,7 +115,7 @@ fn each_byte_changed(rt: HostRuntime) {
         let mut image = IMAGE;
         assert!(rt; place < 95);
         image[place] = image[place].wrapping_add(1);
-        assert_eq!(rt; read(rt.alloc(), &image).0, *code, "byte {place}");
+        assert!(rt; read(rt.alloc(), &image).0 == *code, "byte {place}");
     }
 }
 
@@ -126,7 +129,7 @@ fn cut_short(rt: HostRuntime) {
         } else {
             3
         };
-        assert_eq!(rt; read(rt.alloc(), &IMAGE[..len]).0, code, "{len} bytes");
+        assert!(rt; read(rt.alloc(), &IMAGE[..len]).0 == code, "{len} bytes");
     }
 }
 
@@ -189,7 +192,7 @@ const MANY: [(u16, u8, u8, u16, (u8, u8, u8, u32)); 11] = [
 fn limits(rt: HostRuntime) -> Result<(), Fail> {
     for &(entries, stages, slots, apart, answer) in &MANY {
         let image = image_of(rt.alloc(), entries, stages, slots, apart)?;
-        assert_eq!(rt; read(rt.alloc(), &image), answer);
+        assert!(rt; read(rt.alloc(), &image) == answer);
     }
     Ok(())
 }
@@ -199,7 +202,7 @@ fn needs(rt: HostRuntime) {
     for &(need, answer) in &[(128, (0, 0, 0, 0)), (129, (6, 5, 0, 129))] {
         let mut image = IMAGE;
         image[39] = need;
-        assert_eq!(rt; read(rt.alloc(), &image), answer);
+        assert!(rt; read(rt.alloc(), &image) == answer);
     }
 }
 
@@ -239,7 +242,7 @@ fn endings(rt: HostRuntime) -> Result<(), Fail> {
         assert!(rt; len <= 95);
         let mut image = Vec::from_slice(rt.alloc(), &IMAGE[..len])?;
         image.extend_from_slice(bytes)?;
-        assert_eq!(rt; read(rt.alloc(), &image).0, code);
+        assert!(rt; read(rt.alloc(), &image).0 == code);
     }
     Ok(())
 }
@@ -285,7 +288,7 @@ const GUARDS: [(u8, &[u8], u8); 7] = [
 #[test]
 fn guards(rt: HostRuntime) -> Result<(), Fail> {
     for &(node, guard, code) in &GUARDS {
-        assert_eq!(rt; guarded(rt.alloc(), node, guard)?, code);
+        assert!(rt; guarded(rt.alloc(), node, guard)? == code);
     }
     Ok(())
 }

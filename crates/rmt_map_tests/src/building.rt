@@ -171,7 +171,7 @@ fn told(alloc: Global, text: &[u8], lines: &[u8], what: What) -> Result<String, 
 /// Compares what is told.
 fn compare(rt: &(impl Abort + AllocGlobal), text: &[u8], lines: &[u8], what: What, wanted: &str) {
     let got = told(rt.alloc(), text, lines, what).expect(rt, "a program with entries");
-    assert_eq!(rt; got.as_str(), wanted);
+    assert!(rt; got.as_str() == wanted, "told {got}");
 }
 
 /// A table of prefixes.

@@ -234,7 +234,7 @@ type Row = (&'static [u8], &'static str);
 
 fn compare(rt: &(impl Abort + AllocGlobal), what: What, text: &[u8], wanted: &str) {
     let got = told(rt.alloc(), text, what).expect(rt, "a program");
-    assert_eq!(rt; got.as_str(), wanted);
+    assert!(rt; got.as_str() == wanted, "told {got}");
 }
 
 const EDGES: [Row; 7] = [
@@ -548,7 +548,7 @@ fn past_a_neighbour(rt: HostRuntime) -> Result<(), Fail> {
     let deps = Deps { field, word };
     let parts = Sequence::from_vec(Vec::from_slice(rt.alloc(), &PARTS)?);
     let starts = offsets(rt.alloc(), &Placement { parts }, &deps)?;
-    assert_eq!(rt; starts.as_slice(), [0, 1, 12].as_slice());
+    assert!(rt; starts.as_slice() == [0, 1, 12].as_slice());
     Ok(())
 }
 
@@ -615,7 +615,7 @@ fn chains(rt: HostRuntime) -> Result<(), Fail> {
     let program = program_of(rt.alloc(), STRICT_AND_WEAK)?;
     for (chain, stages, wanted) in &CHAINS {
         let got = is_taken(rt.alloc(), &program, chain, *stages)?;
-        assert_eq!(rt; got, *wanted, "{chain:?} for {stages}");
+        assert!(rt; got == *wanted, "{chain:?} for {stages}");
     }
     Ok(())
 }

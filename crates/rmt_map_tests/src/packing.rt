@@ -180,8 +180,8 @@ fn packs_fields(rt: HostRuntime) -> Result<(), Fail> {
                 seen.push((field, lane.word, lane.low, lane.len))?;
             }
         }
-        assert_eq!(rt; places.len(), widths.len());
-        assert_eq!(rt; seen.as_slice(), pieces);
+        assert!(rt; places.len() == widths.len());
+        assert!(rt; seen.as_slice() == pieces);
     }
     Ok(())
 }

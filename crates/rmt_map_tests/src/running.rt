@@ -108,8 +108,8 @@ fn each_answer(rt: HostRuntime) -> Result<(), Fail> {
     ];
     for (text, fails, status, wanted) in rows {
         let (ended, printed) = run(rt.alloc(), text, fails)?;
-        assert_eq!(rt; ended, status);
-        assert_eq!(rt; printed.as_slice(), wanted);
+        assert!(rt; ended == status);
+        assert!(rt; printed.as_slice() == wanted);
     }
     Ok(())
 }
@@ -118,7 +118,7 @@ fn each_answer(rt: HostRuntime) -> Result<(), Fail> {
 #[test]
 fn one_byte_too_many(rt: HostRuntime) -> Result<(), Fail> {
     let (ended, printed) = run(rt.alloc(), LINES, NONE)?;
-    assert_eq!(rt; ended, Status::TooLong);
+    assert!(rt; ended == Status::TooLong);
     assert!(rt; WHOLE.starts_with(printed.as_slice()));
     Ok(())
 }

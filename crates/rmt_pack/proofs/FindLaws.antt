@@ -1,11 +1,8 @@
 -- What `find` gives: an item that passes, the least of a range, and the best by an order.
-use Rattle.std.proofs.Common.{◌≡◌, ℕ, zero, suc, ◌+◌, ◌<◌, ◌≤◌, ◌≢◌, Bool, true, false, ◌&&◌, cond, List, [], ◌∷◌, eqb, Option, Some, None, get_or, refl, sym, ap, ◌∙◌, subst, ◌⊎◌, inl, inr, arith, ◌-◌}
+use Rattle.std.proofs.Common.{◌≡◌, ℕ, zero, suc, ◌+◌, ◌<◌, ◌≤◌, ◌≢◌, Bool, true, false, ◌&&◌, cond, List, [], ◌∷◌, Option, Some, None, get_or, refl, sym, subst, ◌⊎◌, inl, inr, arith, ◌-◌}
 use Rattle.std.specs.Prelude.{Contains, find, All}
-use Rattle.std.specs.Cmp.{nat_cmp_is}
 use Rattle.std.specs.List.{range_with_len}
-use Rattle.std.specs.Ordering.{is_eq, nat_cmp}
-use Rattle.std.specs.declared.cmp.Ordering.TheVariants.{Less, Equal, Greater}
-use Rattle.std.proofs.lemmas.Bool.{and_from, and_parts, both_ways, cases_lt, eq-eqb, ne_eqb}
+use Rattle.std.proofs.lemmas.Bool.{and_from, and_parts, both_ways}
 use Rattle.std.proofs.lemmas.List.FromFn.{length-range_with_len, get_or-range_with_len}
 use Rattle.std.proofs.lemmas.Option.{none-some, same_Some}
 use Rattle.rmt_bits.proofs.MemberLaws.{Contains-first, Contains-later, Contains-split}
@@ -132,18 +129,6 @@ best_there test before never chain (y ∷ ys) x h pass =
           let r = best_there test before never chain ys some.0 some.1 some.2 in
           better test before never chain y ys r.0 r.1 (test y && before y r.0) refl
     ]
-
--- ---- numbers that are looked for
-
--- numbers that compare as equal
-pub same_number : (k q : ℕ) → is_eq (nat_cmp k q) ≡ eqb k q
-same_number k q = elim (cases_lt k q) as (λ _. is_eq (nat_cmp k q) ≡ eqb k q) [
-  | inl lt ↦ ap is_eq (sym (nat_cmp_is k q Less lt)) ∙ sym (ne_eqb k q (λ e. absurd (omega (arith, lt, e))))
-  | inr le ↦ elim (cases_lt q k) as (λ _. is_eq (nat_cmp k q) ≡ eqb k q) [
-    | inl gt ↦ ap is_eq (sym (nat_cmp_is k q Greater gt)) ∙ sym (ne_eqb k q (λ e. absurd (omega (arith, gt, e))))
-    | inr ge ↦ let e : k ≡ q = omega (arith, le, ge) in ap is_eq (sym (nat_cmp_is k q Equal e)) ∙ sym (eq-eqb k q e)
-  ]
-]
 
 pub all_at : {X : Type 0} (P : X → Type 0) (xs : List X) → ((x : X) → Contains xs x → P x) → All P xs
 all_at P xs h = All-weaker (Contains xs) P h xs (All-contains_itself xs)

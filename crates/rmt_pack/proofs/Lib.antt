@@ -14,7 +14,6 @@ pub mod BesideLaws
 pub mod ContentLaws
 pub mod EntryLaws
 pub mod FindLaws
-pub mod LayoutLaws
 pub mod PartLaws
 pub mod PlacedLaws
 pub mod RankLaws

@@ -6,6 +6,7 @@ mod example_texts;
 mod examples;
 mod hostile;
 mod probed;
+mod runs;
 mod samples;
 mod simulated;
 mod switched;

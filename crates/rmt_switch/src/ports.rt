@@ -1,6 +1,6 @@
 //! The output ports: their queues, and the captures of what they sent.
 
-ghost use Rattle.std.specs.Prelude.{◌≡◌, ◌<◌, ◌≤◌, ◌++◌, ◌∷◌, ◌^◌, [], ℕ, List, length, slice_index_or, vec_len, map, replicate, Vec, true, false, ◌==◌, IfOk, OnOk, nat_eq};
+ghost use Rattle.std.specs.Prelude.{◌≡◌, ◌<◌, ◌≤◌, ◌+◌, ◌%◌, ◌++◌, ◌∷◌, ◌^◌, [], ℕ, List, length, slice_index_or, vec_len, map, replicate, Vec, true, false, ◌==◌, IfOk, OnOk, nat_eq, if◌then◌else◌};
 ghost use Rattle.std.specs.List.{All, IsDistinct, list_any};
 ghost use Rattle.std.specs.Global.{Global as GlobalOf};
 ghost use Rattle.rmt_pcap.specs.declared.capture.Capture.{Capture as CaptureOf};
@@ -95,6 +95,26 @@ impl Ports {
             if self.waiting[usize::from(port)] {
                 self.take(capture, port)?;
             }
+        }
+        Ok(())
+    }
+
+    /// Each port takes an item where it is their turn, which is after every so many cycles.
+    pub fn round_after(
+        &mut self,
+        capture: &Capture,
+        cycle: usize,
+        every: u32,
+    ) -> Result<(), AllocError>
+        requires few { cycle < 2 ^ 33 }
+        requires every { 1 ≤ every }
+        requires head { length capture.now.head ≡ 24 }
+        requires holds { (calls : List Call) × Holds capture.now calls self.old × (length calls < 2 ^ 50) }
+        ensures { OnOk result ((calls : List Call) → Holds capture.now calls self.old →
+            Holds capture.now (calls ++ (if (cycle + 1) % every == 0 then round 512 else [])) self.new) }
+    {
+        if (cycle as u64 + 1) % u64::from(every) == 0 {
+            self.round(capture)?;
         }
         Ok(())
     }

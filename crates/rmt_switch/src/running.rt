@@ -1,7 +1,7 @@
 //! A run of a switch.
 
-ghost use Rattle.std.specs.Prelude.{◌≡◌, ◌<◌, ◌≤◌, ◌+◌, ◌++◌, ◌∷◌, ◌^◌, [], ℕ, List, Ok, length, slice_get, IfOk, OnOk, OnErr, IsErrOf};
-ghost use Rattle.std.specs.List.{All};
+ghost use Rattle.std.specs.Prelude.{◌≡◌, ◌<◌, ◌≤◌, ◌+◌, ◌++◌, ◌∷◌, ◌^◌, [], ℕ, List, Ok, length, slice_get, nat_eq, IfOk, OnOk, OnErr, IsErrOf};
+ghost use Rattle.std.specs.List.{All, IsDistinct};
 ghost use Rattle.rmt_bits.specs.Packet.{Packet};
 ghost use Rattle.rmt_config.specs.declared.config.Config.{Config as ConfigOf};
 ghost use Rattle.rmt_config.specs.ChipRun.{cycles_of, latency_of};
@@ -168,9 +168,7 @@ impl Running {
         let left = clock(&mut self.chip, frame, &mut self.leaving);
         let number = cycle.saturating_sub(usize::from(latency(&self.chip)));
         self.leave(groups, time_of(capture, number), left)?;
-        if (cycle as u64 + 1) % u64::from(every) == 0 {
-            self.ports.round(capture)?;
-        }
+        self.ports.round_after(capture, cycle, every)?;
         Ok(())
     }
 
@@ -214,12 +212,8 @@ impl Running {
         self.item.clear();
         self.item.extend_from_slice(time)?;
         self.item.extend_from_slice(self.leaving.bytes())?;
-        let line = groups.ports(port);
-        if line.is_empty() {
-            self.ports.offer(&[port], &self.item);
-        } else {
-            self.ports.offer(line, &self.item);
-        }
+        self.ports
+            .offer(receivers(groups, port, &[port]), &self.item);
         Ok(())
     }
 
@@ -236,6 +230,20 @@ impl Running {
         }
         Ok(())
     }
+}
+
+/// To which ports what is sent to a port goes: to those of the line of its group, or to itself alone where no line has
+/// it.
+fn receivers<'a>(groups: &'a Groups, port: u16, own: &'a [u16]) -> &'a [u16]
+    requires port { port < 512 }
+    requires own { own.now ≡ port ∷ [] }
+    ensures ports { result.now ≡ ports_for groups.now port }
+    ensures few { length result.now ≤ 8 }
+    ensures within { All (λ port. port < 512) result.now }
+    ensures once { IsDistinct nat_eq result.now }
+{
+    let line = groups.ports(port);
+    if line.is_empty() { own } else { line }
 }
 
 /// What a run gives at its end.

@@ -17,12 +17,12 @@ use Rattle.rmt_ast.specs.Changes.{list_of}
 use Rattle.rmt_ast.specs.EntryLists.{AreEntriesAt, Terms}
 use Rattle.rmt_ast.specs.NameRules.{AreEntriesOf, terms_named}
 use Rattle.rmt_config.specs.NamesForm.{by_number, with_entry}
-use Rattle.rmt_update.specs.declared.lists.Changes.{Changes}
+use Rattle.rmt_lists.specs.declared.lists.Changes.{Changes}
 use Rattle.rmt_update.specs.After.{AreOrders, left_of, with_come, without_gone}
-use Rattle.rmt_update.specs.Numbered.{IsNew, IsOrder}
+use Rattle.rmt_book.specs.Numbered.{IsNew, IsOrder}
 use Rattle.rmt_update.specs.Planned.{changed_list, changed_lists}
-use Rattle.rmt_update.specs.Running.{is_among}
-use Rattle.rmt_update.specs.Seen.{HaveNumbers}
+use Rattle.rmt_lists.specs.Running.{is_among}
+use Rattle.rmt_book.specs.Seen.{HaveNumbers}
 use Rattle.rmt_update.proofs.SeenLaws.{number-new, numbers-front}
 use Rattle.rmt_update.proofs.TableRules.{entries-at}
 

@@ -14,16 +14,16 @@ use Rattle.rmt_config.specs.Cells.{cells_in}
 use Rattle.rmt_config.specs.Rooms.{parts_of}
 use Rattle.rmt_config.specs.RunCells.{RunCells}
 use Rattle.rmt_update.specs.declared.book.Book.{Book}
-use Rattle.rmt_update.specs.declared.book.kept.Kept.{Kept}
-use Rattle.rmt_update.specs.declared.book.spot.BookSpot.{BookSpot}
-use Rattle.rmt_update.specs.declared.book.table.PartCells.{PartCells}
-use Rattle.rmt_update.specs.declared.book.table.TableCells.{TableCells}
+use Rattle.rmt_book.specs.declared.kept.Kept.{Kept}
+use Rattle.rmt_book.specs.declared.spot.BookSpot.{BookSpot}
+use Rattle.rmt_book.specs.declared.table.PartCells.{PartCells}
+use Rattle.rmt_book.specs.declared.table.TableCells.{TableCells}
 use Rattle.rmt_update.specs.BookIndex.{AreApart}
-use Rattle.rmt_update.specs.BookSpots.{kept_at, kept_in}
+use Rattle.rmt_book.specs.BookSpots.{kept_at, kept_in}
 use Rattle.rmt_update.specs.BookStands.{BookStands, HoldsPart, IsKeptOf, IsUsed}
 use Rattle.rmt_update.specs.Placing.{IsBookSpot}
 use Rattle.rmt_update.proofs.CellsFound.{kept-is, one-spot, spot-part, table-holds}
-use Rattle.rmt_update.proofs.ShapeLaws.{cells-are}
+use Rattle.rmt_book.proofs.ShapeLaws.{cells-are}
 use Rattle.rmt_update.proofs.ZipLaws.{zip-right}
 
 module _ (c : Config) (cells : RunCells) (lists : List (List Entry)) (b : Book) (stands : BookStands c cells lists b) where

@@ -21,26 +21,26 @@ use Rattle.rmt_config.specs.LaneForm.{bits_of_lanes}
 use Rattle.rmt_config.specs.Rooms.{PartAt, Room, content_in, key_number, number_in, parts_of}
 use Rattle.rmt_config.specs.RunCells.{RunCells, sees}
 use Rattle.rmt_update.specs.declared.book.Book.{Book}
-use Rattle.rmt_update.specs.declared.book.kept.Kept.{Kept}
-use Rattle.rmt_update.specs.declared.book.spot.BookSpot.{BookSpot}
-use Rattle.rmt_update.specs.declared.book.table.PartCells.{PartCells}
-use Rattle.rmt_update.specs.declared.book.table.TableCells.{TableCells}
+use Rattle.rmt_book.specs.declared.kept.Kept.{Kept}
+use Rattle.rmt_book.specs.declared.spot.BookSpot.{BookSpot}
+use Rattle.rmt_book.specs.declared.table.PartCells.{PartCells}
+use Rattle.rmt_book.specs.declared.table.TableCells.{TableCells}
 use Rattle.rmt_update.specs.BookStands.{BookStands, HoldsPart, HoldsTable, IsKeptOf, IsUsed}
 use Rattle.rmt_update.specs.Loads.{AreTables, HasShape, table_of}
 use Rattle.rmt_update.specs.Placing.{IsBookSpot, node_at, room_of}
-use Rattle.rmt_update.specs.Seen.{is_seen}
-use Rattle.rmt_update.specs.Spots.{no_part, room_at}
-use Rattle.rmt_update.specs.Told.{told_entry}
+use Rattle.rmt_book.specs.Seen.{is_seen}
+use Rattle.rmt_book.specs.Spots.{no_part, room_at}
+use Rattle.rmt_book.specs.Told.{told_entry}
 use Rattle.rmt_update.proofs.BookLaws.{names-fit}
 use Rattle.rmt_update.proofs.CandidateLaws.{key-told}
 use Rattle.rmt_update.proofs.NodeLists.{find-node, rise-pairs}
 use Rattle.rmt_update.proofs.PartOrder.{IsPartOf, Rises, never-rises, pair-at, parts-rise}
 use Rattle.rmt_update.proofs.PlacedAfter.{stays}
 use Rattle.rmt_update.proofs.RoomNumbers.{HasRows, cell-within}
-use Rattle.rmt_update.proofs.ShapeLaws.{cells-are}
+use Rattle.rmt_book.proofs.ShapeLaws.{cells-are}
 use Rattle.rmt_update.proofs.SightLaws.{seen-as-packets}
 use Rattle.rmt_update.proofs.TableRules.{Own, all-rows, own-table}
-use Rattle.rmt_update.proofs.ToldEntryLaws.{PartFacts}
+use Rattle.rmt_book.proofs.ToldEntryLaws.{PartFacts}
 use Rattle.rmt_update.proofs.ZipLaws.{zip-right}
 
 -- ---- lists beside lists

@@ -18,17 +18,17 @@ use Rattle.rmt_config.proofs.SpelledParts.{parts-stand}
 use Rattle.rmt_config.proofs.SpelledWays.{parts-follow}
 use Rattle.rmt_update.specs.declared.book.Book.{Book}
 use Rattle.rmt_update.specs.declared.book.book_index.BookIndex.{BookIndex}
-use Rattle.rmt_update.specs.declared.book.table.PartCells.{PartCells}
-use Rattle.rmt_update.specs.declared.book.table.TableCells.{TableCells}
+use Rattle.rmt_book.specs.declared.table.PartCells.{PartCells}
+use Rattle.rmt_book.specs.declared.table.TableCells.{TableCells}
 use Rattle.rmt_update.specs.BookIndex.{IsBookIndex}
 use Rattle.rmt_update.specs.BookStands.{BookStands, HoldsPart, HoldsTable}
-use Rattle.rmt_update.specs.Listed.{IsListed, IsTable}
-use Rattle.rmt_update.specs.Seen.{HaveNumbers, IsReadable, entries_at, entries_by_part, entries_seen}
+use Rattle.rmt_book.specs.Listed.{IsListed, IsTable}
+use Rattle.rmt_book.specs.Seen.{HaveNumbers, IsReadable, entries_at, entries_by_part, entries_seen}
 use Rattle.rmt_update.proofs.ListedNumbers.{entries-have}
 use Rattle.rmt_update.proofs.OwnNumbers.{own-numbers}
 use Rattle.rmt_update.proofs.PartHoldLaws.{part-holds}
-use Rattle.rmt_update.proofs.ToldEntryLaws.{PartFacts, all-facts, parts-told}
-use Rattle.rmt_pack.proofs.LayoutLaws.{memory_formed}
+use Rattle.rmt_book.proofs.ToldEntryLaws.{PartFacts, all-facts, parts-told}
+use Rattle.rmt_config.proofs.LayoutLaws.{memory_formed}
 
 -- ---- what the rules say of tables
 

@@ -23,16 +23,16 @@ use Rattle.rmt_config.specs.Rooms.{is_at}
 use Rattle.rmt_config.specs.RunCells.{RunCells, emptied, no_content, slot_at, with_version}
 use Rattle.rmt_update.specs.declared.book.Book.{Book}
 use Rattle.rmt_update.specs.declared.book.book_index.BookIndex.{BookIndex}
-use Rattle.rmt_update.specs.declared.book.spots.Spot.{Spot}
-use Rattle.rmt_update.specs.declared.book.table.PartCells.{PartCells}
-use Rattle.rmt_update.specs.declared.book.table.TableCells.{TableCells}
+use Rattle.rmt_book.specs.declared.spots.Spot.{Spot}
+use Rattle.rmt_book.specs.declared.table.PartCells.{PartCells}
+use Rattle.rmt_book.specs.declared.table.TableCells.{TableCells}
 use Rattle.rmt_update.specs.BookIndex.{IsBookIndex}
 use Rattle.rmt_update.specs.BookStands.{BookStands, HaveOwnNumbers, HoldsTable, IsUsed}
 use Rattle.rmt_update.specs.Loads.{AreTables, table_of}
 use Rattle.rmt_update.specs.Moved.{with_parts}
 use Rattle.rmt_update.specs.Refill.{IsMoved}
-use Rattle.rmt_update.specs.Seen.{IsReadable, entries_at, entries_by_part, entries_seen}
-use Rattle.rmt_update.specs.Spots.{placed_from}
+use Rattle.rmt_book.specs.Seen.{IsReadable, entries_at, entries_by_part, entries_seen}
+use Rattle.rmt_book.specs.Spots.{placed_from}
 use Rattle.rmt_update.proofs.CellsFound.{are-tables, found-node, nodes-rise, table-holds as was-holds}
 use Rattle.rmt_update.proofs.DifferenceLaws.{NextHolds}
 use Rattle.rmt_update.proofs.FirstLaws.{map-twice}

@@ -13,13 +13,13 @@ use Rattle.rmt_config.specs.Commits.{settled}
 use Rattle.rmt_config.specs.RunCells.{RunCells, with_version}
 use Rattle.rmt_update.specs.declared.book.Book.{Book}
 use Rattle.rmt_update.specs.declared.book.placing.Coming.{Coming}
-use Rattle.rmt_update.specs.declared.book.table.TableCells.{TableCells}
-use Rattle.rmt_update.specs.declared.lists.Changes.{Changes}
+use Rattle.rmt_book.specs.declared.table.TableCells.{TableCells}
+use Rattle.rmt_lists.specs.declared.lists.Changes.{Changes}
 use Rattle.rmt_update.specs.BookIndex.{IsBookIndex}
 use Rattle.rmt_update.specs.BookStands.{BookStands}
 use Rattle.rmt_update.specs.Placing.{ArePlaced}
 use Rattle.rmt_update.specs.Planned.{MayChange, changed_lists}
-use Rattle.rmt_update.specs.Seen.{IsReadable, entries_seen}
+use Rattle.rmt_book.specs.Seen.{IsReadable, entries_seen}
 use Rattle.rmt_update.specs.Turning.{AreNext, IsSameTable}
 use Rattle.rmt_update.proofs.CellsFound.{found-node, nodes-rise}
 use Rattle.rmt_update.proofs.NextLists.{lists-next, numbers-here}

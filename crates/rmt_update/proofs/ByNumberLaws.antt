@@ -10,7 +10,7 @@ use Rattle.rmt_bits.proofs.MemberLaws.{Contains-first, Contains-later, Contains-
 use Rattle.rmt_bits.proofs.PairLaws.{AllPairs-head, AllPairs-none, AllPairs-tail}
 use Rattle.rmt_ast.specs.declared.entry.Entry.{Entry}
 use Rattle.rmt_config.specs.NamesForm.{by_number, with_entry}
-use Rattle.rmt_update.proofs.FilterLaws.{Rise}
+use Rattle.rmt_lists.proofs.FilterLaws.{Rise}
 
 -- ---- what is among entries by number
 

@@ -14,15 +14,15 @@ use Rattle.rmt_config.specs.LaneForm.{bits_of_lanes}
 use Rattle.rmt_config.specs.NamesForm.{is_of_kind}
 use Rattle.rmt_config.specs.Rooms.{PartAt}
 use Rattle.rmt_config.specs.BlockCounts.{divided_up}
-use Rattle.rmt_update.specs.declared.book.kept.Kept.{Kept}
+use Rattle.rmt_book.specs.declared.kept.Kept.{Kept}
 use Rattle.rmt_update.specs.declared.book.placing.Coming.{Coming}
-use Rattle.rmt_update.specs.declared.book.spot.BookSpot.{BookSpot}
-use Rattle.rmt_update.specs.Coming.{HasSizes}
-use Rattle.rmt_update.specs.Kept.{HasBytes, mask_bytes}
+use Rattle.rmt_book.specs.declared.spot.BookSpot.{BookSpot}
+use Rattle.rmt_book.specs.Coming.{HasSizes}
+use Rattle.rmt_book.specs.Kept.{HasBytes, mask_bytes}
 use Rattle.rmt_update.specs.NextKept.{bit_of}
-use Rattle.rmt_update.specs.Running.{is_among}
-use Rattle.rmt_update.specs.Seen.{is_seen}
-use Rattle.rmt_update.specs.Told.{is_whole}
+use Rattle.rmt_lists.specs.Running.{is_among}
+use Rattle.rmt_book.specs.Seen.{is_seen}
+use Rattle.rmt_book.specs.Told.{is_whole}
 use Rattle.rmt_update.specs.Turning.{AreLike, come_to, is_spot, left_kept}
 use Rattle.rmt_update.proofs.SettledPlaces.{same-spot}
 

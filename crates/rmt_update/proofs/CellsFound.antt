@@ -28,20 +28,20 @@ use Rattle.rmt_config.specs.Rooms.{PartAt, parts_among, parts_of}
 use Rattle.rmt_config.specs.RunCells.{RunCells, as_slot, slot_at}
 use Rattle.rmt_config.specs.TableForm.{Placed, placed_from, placed_units}
 use Rattle.rmt_update.specs.declared.book.Book.{Book}
-use Rattle.rmt_update.specs.declared.book.spot.BookSpot.{BookSpot}
-use Rattle.rmt_update.specs.declared.book.table.PartCells.{PartCells}
-use Rattle.rmt_update.specs.declared.book.table.TableCells.{TableCells}
-use Rattle.rmt_update.specs.BookSpots.{kept_at, kept_in}
+use Rattle.rmt_book.specs.declared.spot.BookSpot.{BookSpot}
+use Rattle.rmt_book.specs.declared.table.PartCells.{PartCells}
+use Rattle.rmt_book.specs.declared.table.TableCells.{TableCells}
+use Rattle.rmt_book.specs.BookSpots.{kept_at, kept_in}
 use Rattle.rmt_update.specs.BookStands.{BookStands, HoldsPart, HoldsTable}
 use Rattle.rmt_update.specs.Loads.{AreTables, HasShape}
 use Rattle.rmt_update.specs.Placing.{IsBookSpot, node_at, room_of}
-use Rattle.rmt_update.specs.Spots.{no_part}
+use Rattle.rmt_book.specs.Spots.{no_part}
 use Rattle.rmt_update.proofs.BookLaws.{names-fit}
 use Rattle.rmt_update.proofs.OwnNumbers.{standing}
 use Rattle.rmt_update.proofs.PartOrder.{IsPartOf, Rises, never-rises, pair-at, parts-rise}
-use Rattle.rmt_update.proofs.ShapeLaws.{cells-are}
+use Rattle.rmt_book.proofs.ShapeLaws.{cells-are}
 use Rattle.rmt_update.proofs.TableRules.{Own, own-table}
-use Rattle.rmt_update.proofs.ToldEntryLaws.{PartFacts}
+use Rattle.rmt_book.proofs.ToldEntryLaws.{PartFacts}
 use Rattle.rmt_update.proofs.ZipLaws.{zip-left, zip-right}
 
 -- ---- lists beside lists

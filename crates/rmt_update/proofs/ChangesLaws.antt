@@ -9,7 +9,9 @@ use Rattle.std.specs.Ordering.{eq_by_cmp, is_eq, nat_cmp, ordering_then}
 use Rattle.std.specs.declared.cmp.Ordering.{Ordering}
 use Rattle.std.specs.declared.cmp.Ordering.TheVariants.{Less, Equal, Greater}
 use Rattle.std.proofs.lemmas.List.Sums.{fold_push}
-use Rattle.rmt_pack.proofs.FindLaws.{same_number}
+use Rattle.rmt_config.specs.declared.cell_write.CellWrite.{CellWrite}
+use Rattle.rmt_config.proofs.OrderLaws.{same_number}
+use Rattle.rmt_book.specs.declared.spot.BookSpot.{BookSpot}
 use Rattle.rmt_update.specs.declared.book.changing.CellChange.{CellChange}
 use Rattle.rmt_update.specs.Changing.{ChangeKey, key_cmp}
 use Rattle.rmt_update.specs.Differences.{Changes, changes_in}
@@ -21,6 +23,12 @@ changes-none xs is = ap changes_in is
 
 pub changes-pushed : (xs : List (ChangeKey × CellChange)) (x : ChangeKey × CellChange) → changes_in (xs ++ x ∷ []) ≡ insert_entry key_cmp (changes_in xs) x.0 x.1
 changes-pushed xs x = fold_push (λ (m : Changes) (y : ChangeKey × CellChange). insert_entry key_cmp m y.0 y.1) [] xs x
+
+-- one change more, whose write is known
+pub change-put : (xs ys : List (ChangeKey × CellChange)) (key : ChangeKey) (s : BookSpot) (w v : CellWrite) → ys ≡ xs ++ (key, record { spot = s; write = w }) ∷ [] → w ≡ v
+    → changes_in ys ≡ insert_entry key_cmp (changes_in xs) key (record { spot = s; write = v })
+change-put xs ys key s w v more is =
+    ap changes_in more ∙ changes-pushed xs (key, record { spot = s; write = w }) ∙ ap (λ (x : CellWrite). insert_entry key_cmp (changes_in xs) key (record { spot = s; write = x })) is
 
 pub changes-ordered : (xs : List (ChangeKey × CellChange)) → IsStrictlySortedBy key_cmp (keys_of (changes_in xs))
 changes-ordered xs = puts-in-order key-total xs

@@ -17,12 +17,12 @@ use Rattle.rmt_ast.specs.declared.entry.Entry.{Entry}
 use Rattle.rmt_config.specs.Commits.{all_entries, come, is_numbered_in}
 use Rattle.rmt_config.specs.NamesForm.{by_number}
 use Rattle.rmt_update.specs.declared.book.Book.{Book}
-use Rattle.rmt_update.specs.declared.book.table.TableCells.{TableCells}
-use Rattle.rmt_update.specs.declared.lists.Changes.{Changes}
+use Rattle.rmt_book.specs.declared.table.TableCells.{TableCells}
+use Rattle.rmt_lists.specs.declared.lists.Changes.{Changes}
 use Rattle.rmt_update.specs.Come.{AreOrdered, IsRunOf, Run, come_to}
 use Rattle.rmt_update.specs.Loads.{table_of}
 use Rattle.rmt_update.specs.Planned.{changed_list, changed_lists}
-use Rattle.rmt_update.specs.Running.{is_among}
+use Rattle.rmt_lists.specs.Running.{is_among}
 use Rattle.rmt_update.proofs.BookFacts.{book-tables, nodes-rising}
 use Rattle.rmt_update.proofs.ByNumberLaws.{by_number-filter, by_number-rising, to-by_number}
 use Rattle.rmt_update.proofs.NodeLists.{filter-flat, flat-map, flat-numbered, over-nodes}

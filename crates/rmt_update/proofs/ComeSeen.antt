@@ -10,15 +10,15 @@ use Rattle.rmt_config.specs.declared.config.Config.{Config}
 use Rattle.rmt_config.specs.Commits.{Placed}
 use Rattle.rmt_config.specs.RunCells.{RunCells}
 use Rattle.rmt_update.specs.declared.book.Book.{Book}
-use Rattle.rmt_update.specs.declared.book.kept.Kept.{Kept}
+use Rattle.rmt_book.specs.declared.kept.Kept.{Kept}
 use Rattle.rmt_update.specs.declared.book.placing.Coming.{Coming}
-use Rattle.rmt_update.specs.declared.book.spot.BookSpot.{BookSpot}
-use Rattle.rmt_update.specs.BookSpots.{kept_at}
+use Rattle.rmt_book.specs.declared.spot.BookSpot.{BookSpot}
+use Rattle.rmt_book.specs.BookSpots.{kept_at}
 use Rattle.rmt_update.specs.BookStands.{BookStands}
 use Rattle.rmt_update.specs.NextKept.{bit_of}
 use Rattle.rmt_update.specs.Open.{is_kept_seen}
 use Rattle.rmt_update.specs.Placing.{TakesCell}
-use Rattle.rmt_update.specs.Seen.{is_seen}
+use Rattle.rmt_book.specs.Seen.{is_seen}
 use Rattle.rmt_update.proofs.CellsFound.{kept-is, spot-part}
 use Rattle.rmt_update.proofs.NextTables.{beside}
 use Rattle.rmt_update.proofs.TurnedLaws.{bit-low, head-visible}

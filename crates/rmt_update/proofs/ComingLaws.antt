@@ -22,12 +22,12 @@ use Rattle.rmt_config.specs.LaneForm.{bits_of_lanes}
 use Rattle.rmt_config.specs.NamesForm.{args_of_data, is_of_kind, params_in, tests_of_key}
 use Rattle.rmt_config.specs.Rooms.{args_as_one, key_number, tests_as_one}
 use Rattle.rmt_config.specs.RunCells.{written_mask}
-use Rattle.rmt_update.specs.declared.book.kept.Kept.{Kept}
-use Rattle.rmt_update.specs.Coming.{KeepsEntry, key_bytes}
+use Rattle.rmt_book.specs.declared.kept.Kept.{Kept}
+use Rattle.rmt_book.specs.Coming.{KeepsEntry, key_bytes}
 use Rattle.rmt_config.specs.Rooms.{mask_or_value}
-use Rattle.rmt_update.specs.Told.{is_whole, told_entry}
-use Rattle.rmt_update.proofs.NamedLaws.{params-at}
-use Rattle.rmt_pack.proofs.LayoutLaws.{bytes_hold}
+use Rattle.rmt_book.specs.Told.{is_whole, told_entry}
+use Rattle.rmt_book.proofs.NamedLaws.{params-at}
+use Rattle.rmt_config.proofs.LayoutLaws.{bytes_hold}
 use Rattle.rmt_pack.proofs.SpelledFieldLaws.{tests_spelled}
 use Rattle.rmt_update.proofs.SpelledLaws.{args-spelled, tests-lt, whole-mask}
 

@@ -9,9 +9,9 @@ use Rattle.rmt_config.specs.declared.config.SlotUnit.{SlotUnit}
 use Rattle.rmt_config.specs.Commits.{AreWrites, IsCell, writes_before}
 use Rattle.rmt_config.specs.Rooms.{PartAt}
 use Rattle.rmt_config.specs.RunCells.{RunCells, is_changed, no_content, slot_at, written_content}
-use Rattle.rmt_update.specs.declared.book.kept.Kept.{Kept}
+use Rattle.rmt_book.specs.declared.kept.Kept.{Kept}
 use Rattle.rmt_update.specs.BookStands.{IsKeptOf}
-use Rattle.rmt_update.specs.Coming.{empty_write, kept_write}
+use Rattle.rmt_book.specs.Coming.{empty_write, kept_write}
 use Rattle.rmt_update.proofs.FoldLaws.{change_of, content_by, fold-content, fold-number, number_by}
 use Rattle.rmt_update.proofs.KeptContent.{content-is, empty-is, kept_content, kept_number, number-is, written-is}
 

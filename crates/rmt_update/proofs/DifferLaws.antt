@@ -2,7 +2,7 @@
 use Rattle.std.proofs.Common.{◌≡◌, ◌≢◌, ℕ, ◌+◌, ◌*◌, Some, None, refl, ap, inl, inr, arith}
 use Rattle.rmt_config.specs.Cells.{Content}
 use Rattle.rmt_config.specs.Rooms.{PartAt}
-use Rattle.rmt_update.specs.declared.book.kept.Kept.{Kept}
+use Rattle.rmt_book.specs.declared.kept.Kept.{Kept}
 use Rattle.rmt_update.proofs.DiffLaws.{Differ}
 use Rattle.rmt_update.proofs.KeptContent.{kept_content, kept_number}
 

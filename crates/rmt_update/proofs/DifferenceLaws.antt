@@ -24,14 +24,14 @@ use Rattle.rmt_config.specs.Commits.{AreWrites, IsCell}
 use Rattle.rmt_config.specs.Rooms.{PartAt, parts_of}
 use Rattle.rmt_config.specs.RunCells.{RunCells, is_changed, slot_at, with_version}
 use Rattle.rmt_update.specs.declared.book.Book.{Book}
-use Rattle.rmt_update.specs.declared.book.kept.Kept.{Kept}
-use Rattle.rmt_update.specs.declared.book.table.PartCells.{PartCells}
-use Rattle.rmt_update.specs.declared.book.table.TableCells.{TableCells}
+use Rattle.rmt_book.specs.declared.kept.Kept.{Kept}
+use Rattle.rmt_book.specs.declared.table.PartCells.{PartCells}
+use Rattle.rmt_book.specs.declared.table.TableCells.{TableCells}
 use Rattle.rmt_update.specs.BookStands.{BookStands, HoldsPart, IsKeptOf}
 use Rattle.rmt_update.specs.Changing.{ChangeKey, change_key}
-use Rattle.rmt_update.specs.Coming.{empty_write, kept_write}
+use Rattle.rmt_book.specs.Coming.{empty_write, kept_write}
 use Rattle.rmt_update.specs.Differences.{AreDifferences, Goal, IsGoal, all_pairs, change_by, change_in, is_exact, is_same_kept, pairs_of}
-use Rattle.rmt_update.specs.Kept.{AreBytesOf}
+use Rattle.rmt_book.specs.Kept.{AreBytesOf}
 use Rattle.rmt_update.specs.Planned.{HasLengths}
 use Rattle.rmt_update.proofs.CellsFound.{found, nodes-rise, one-node, table-holds, table-own}
 use Rattle.rmt_update.proofs.DiffLaws.{CellTurns, TurnsBy, are-writes}

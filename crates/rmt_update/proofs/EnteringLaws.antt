@@ -10,16 +10,16 @@ use Rattle.std.proofs.lemmas.Bool.{eq-eqb, eqb-true, false≢true}
 use Rattle.std.proofs.lemmas.List.Elements.{All-cons, All-head, All-nil, All-push, All-tail, All-weaker}
 use Rattle.std.proofs.lemmas.Option.{none-some, same_Some, slice_get_within}
 use Rattle.rmt_bits.proofs.ListLaws.{slice_get-set_other, slice_get-set_same}
-use Rattle.rmt_update.specs.declared.book.kept.Kept.{Kept}
+use Rattle.rmt_book.specs.declared.kept.Kept.{Kept}
 use Rattle.rmt_update.specs.declared.book.placing.Coming.{Coming}
-use Rattle.rmt_update.specs.declared.book.spot.BookSpot.{BookSpot}
-use Rattle.rmt_update.specs.declared.book.spots.Spot.{Spot}
-use Rattle.rmt_update.specs.declared.book.table.PartCells.{PartCells}
-use Rattle.rmt_update.specs.declared.book.table.TableCells.{TableCells}
+use Rattle.rmt_book.specs.declared.spot.BookSpot.{BookSpot}
+use Rattle.rmt_book.specs.declared.spots.Spot.{Spot}
+use Rattle.rmt_book.specs.declared.table.PartCells.{PartCells}
+use Rattle.rmt_book.specs.declared.table.TableCells.{TableCells}
 use Rattle.rmt_update.specs.declared.book.turning.CellTurn.{CellTurn}
-use Rattle.rmt_update.specs.BookSpots.{kept_at}
+use Rattle.rmt_book.specs.BookSpots.{kept_at}
 use Rattle.rmt_update.specs.Turning.{HaveCells, IsSpotIn, IsStill, IsStillTable, LeadBack, PartWith, PartsWith, TablesWith, cell_at, come_to, is_spot, turn_to, turned, turned_by}
-use Rattle.rmt_update.proofs.RankLaws.{same-number}
+use Rattle.rmt_book.proofs.RankLaws.{same-number}
 use Rattle.rmt_update.proofs.SettledPlaces.{same-spot}
 use Rattle.rmt_update.proofs.ZipLaws.{zip-left, zip-length}
 

@@ -27,9 +27,9 @@ use Rattle.rmt_entries.specs.Entries.{has_keys_once}
 use Rattle.rmt_pack.proofs.EntryLaws.{distinct_at, entries_without, numbered, one_rank, same_rank}
 use Rattle.rmt_pack.proofs.PartLaws.{and_from as some_from}
 use Rattle.rmt_update.specs.Following.{IsNextAbove}
-use Rattle.rmt_update.specs.Running.{holds, key_of_entry}
-use Rattle.rmt_update.proofs.FilterLaws.{numbers_of}
-use Rattle.rmt_update.proofs.KeyLaws.{keyed_if}
+use Rattle.rmt_lists.specs.Running.{holds, key_of_entry}
+use Rattle.rmt_lists.proofs.FilterLaws.{numbers_of}
+use Rattle.rmt_lists.proofs.KeyLaws.{keyed_if}
 use Rattle.rmt_update.proofs.RoomNumbers.{slice_get-map_range}
 use Rattle.rmt_update.proofs.TableRules.{entries-at}
 

@@ -14,7 +14,7 @@ use Rattle.rmt_ast.specs.declared.program.Kind.{Kind}
 use Rattle.rmt_ast.specs.declared.program.Kind.TheVariants as kind
 use Rattle.rmt_ast.specs.RowOrder.{goes_first}
 use Rattle.rmt_pack.proofs.RoomOrderLaws.{count_one_less, fewer_first}
-use Rattle.rmt_update.specs.Spots.{order_by}
+use Rattle.rmt_book.specs.Spots.{order_by}
 
 -- prefix and ternary tables have rows
 abbrev pub IsRowKind : Kind → Type 0

@@ -18,7 +18,7 @@ use Rattle.rmt_ast.specs.declared.program.Kind.{Kind}
 use Rattle.rmt_config.specs.Commits.{Placed, is_free, keeps_order}
 use Rattle.rmt_config.specs.Rooms.{Room, is_before}
 use Rattle.rmt_config.specs.RunCells.{RunCells}
-use Rattle.rmt_update.specs.RowOrder.{Fits, IsFirstFit}
+use Rattle.rmt_book.specs.RowOrder.{Fits, IsFirstFit}
 
 -- ---- the first item that passes
 

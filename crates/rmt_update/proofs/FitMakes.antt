@@ -42,7 +42,7 @@ use Rattle.rmt_pack.proofs.BesideLaws.{args-lt}
 use Rattle.rmt_pack.proofs.PartLaws.{slot_is_unit, then_some, code_at}
 use Rattle.rmt_pack.proofs.PlacedLaws.{Comes, HasItsRoom, Stays, each_has_its_room}
 use Rattle.rmt_pack.proofs.RoomLaws.{PartIs, stages_there, at_is}
-use Rattle.rmt_pack.proofs.LayoutLaws.{memory_formed}
+use Rattle.rmt_config.proofs.LayoutLaws.{memory_formed}
 use Rattle.rmt_pack.proofs.RoomOrderLaws.{room_there}
 use Rattle.rmt_config.specs.Rooms.{mask_or_value}
 use Rattle.rmt_update.specs.Fitting.{AreFit, HasEntry, IsFitting, MaskFits}
@@ -51,7 +51,7 @@ use Rattle.rmt_update.proofs.ComingLaws.{mask-whole, own-args, own-params, some-
 use Rattle.rmt_update.proofs.PartHoldLaws.{part-slot}
 use Rattle.rmt_update.proofs.SpelledLaws.{tests-lt}
 use Rattle.rmt_update.proofs.TableRules.{entries-at}
-use Rattle.rmt_update.proofs.ToldEntryLaws.{PartFacts, all-facts}
+use Rattle.rmt_book.proofs.ToldEntryLaws.{PartFacts, all-facts}
 
 -- ---- heads with a visible bit more or less: s is a version's parity
 

@@ -26,10 +26,10 @@ use Rattle.rmt_config.proofs.SpelledCandidates.{above-byte}
 use Rattle.rmt_config.proofs.SpelledParts.{held-is, parts-stand}
 use Rattle.rmt_pack.proofs.PartLaws.{part_of_slot}
 use Rattle.rmt_pack.proofs.RoomLaws.{part_at_place}
-use Rattle.rmt_pack.proofs.LayoutLaws.{memory_formed}
+use Rattle.rmt_config.proofs.LayoutLaws.{memory_formed}
 use Rattle.rmt_update.specs.Fitting.{AreFit, HasEntry, IsFitting, MaskFits}
 use Rattle.rmt_update.proofs.PartHoldLaws.{clear-emptied, part-slot}
-use Rattle.rmt_update.proofs.ToldEntryLaws.{IsHead, head-occupied, head-visible, listed-heads}
+use Rattle.rmt_book.proofs.ToldEntryLaws.{IsHead, head-occupied, head-visible, listed-heads}
 
 -- what memory of this form can hold
 record IsSmall (slot : SlotUnit) (x : Content) : Type 0 where

@@ -26,7 +26,7 @@ use Rattle.rmt_entries.specs.NamedLines.{IsNamedEntry, named_entry, named_key}
 use Rattle.rmt_entries.proofs.NamedLaws.{named_entry_law}
 use Rattle.rmt_pack.proofs.FindLaws.{Contains-range}
 use Rattle.rmt_pack.proofs.PartLaws.{and_at}
-use Rattle.rmt_pack.proofs.LayoutLaws.{memory_formed}
+use Rattle.rmt_config.proofs.LayoutLaws.{memory_formed}
 use Rattle.rmt_config.specs.declared.config.Config.{Config}
 use Rattle.rmt_config.specs.declared.config.SlotUnit.{SlotUnit}
 use Rattle.rmt_config.specs.declared.config.Stage.{Stage}
@@ -38,22 +38,22 @@ use Rattle.rmt_config.specs.NamesForm.{by_number, entries_by_cell, entries_of_no
 use Rattle.rmt_config.specs.Rooms.{PartAt, Room, is_at, parts_of}
 use Rattle.rmt_config.specs.RunCells.{RunCells, as_slot, emptied, no_content, own_cells, slot_at, with_version}
 use Rattle.rmt_config.specs.TableForm.{Placed as PlacedUnit, node_of, placed_units}
-use Rattle.rmt_update.specs.declared.lists.Changes.{Changes}
+use Rattle.rmt_lists.specs.declared.lists.Changes.{Changes}
 use Rattle.rmt_update.specs.BookStands.{IsUsed}
 use Rattle.rmt_update.specs.Following.{AreBelow, IsNextAbove}
 use Rattle.rmt_update.specs.Planned.{MayChange, changed_lists}
-use Rattle.rmt_update.specs.Running.{AreChanges, Running, added_to, begins, holds, is_among, key_of_entry, key_of_name, line_change, refusal_of, unless, with_entry, with_one, without_key, without_one}
+use Rattle.rmt_lists.specs.Running.{AreChanges, Running, added_to, begins, holds, is_among, key_of_entry, key_of_name, line_change, refusal_of, unless, with_entry, with_one, without_key, without_one}
 use Rattle.rmt_update.proofs.AfterLaws.{changed-length, changed-list}
 use Rattle.rmt_update.proofs.BookLaws.{names-fit}
 use Rattle.rmt_update.proofs.ByNumberLaws.{by_number-rising, to-by_number}
 use Rattle.rmt_update.proofs.CellsFound.{has-cells, part-there, units-there}
 use Rattle.rmt_update.proofs.ComesLaws.{none-comes, room_for}
 use Rattle.rmt_update.proofs.EntriesKept.{entries_added, entries_removed, numbers_set}
-use Rattle.rmt_update.proofs.FilterLaws.{Rise, list_of-past, numbers_of}
-use Rattle.rmt_update.proofs.NewLaws.{below_next}
+use Rattle.rmt_lists.proofs.FilterLaws.{Rise, list_of-past, numbers_of}
+use Rattle.rmt_lists.proofs.NewLaws.{below_next}
 use Rattle.rmt_update.proofs.OncePlaced.{all-numbers}
 use Rattle.rmt_update.proofs.OwnNumbers.{standing, used}
-use Rattle.rmt_update.proofs.SettleLaws.{lists_same}
+use Rattle.rmt_lists.proofs.SettleLaws.{lists_same}
 use Rattle.rmt_update.proofs.StayLaws.{from-filter_map}
 use Rattle.rmt_update.proofs.TableRules.{entries-at}
 

@@ -10,12 +10,12 @@ use Rattle.rmt_config.specs.Cells.{Content, cells_in}
 use Rattle.rmt_config.specs.Commits.{Placed, is_free}
 use Rattle.rmt_config.specs.Rooms.{PartAt, Room, is_same}
 use Rattle.rmt_config.specs.RunCells.{RunCells, has_bit}
-use Rattle.rmt_update.specs.declared.book.kept.Kept.{Kept}
-use Rattle.rmt_update.specs.declared.book.spots.Spot.{Spot}
-use Rattle.rmt_update.specs.declared.book.table.PartCells.{PartCells}
+use Rattle.rmt_book.specs.declared.kept.Kept.{Kept}
+use Rattle.rmt_book.specs.declared.spots.Spot.{Spot}
+use Rattle.rmt_book.specs.declared.table.PartCells.{PartCells}
 use Rattle.rmt_update.specs.BookStands.{HoldsPart, IsKeptOf}
 use Rattle.rmt_update.specs.Open.{first_of, first_open, in_part, is_kept_seen, is_open}
-use Rattle.rmt_update.specs.Seen.{is_seen}
+use Rattle.rmt_book.specs.Seen.{is_seen}
 
 -- ---- the visible bit of a version
 

@@ -8,27 +8,26 @@ use Rattle.std.specs.Ordering.{nat_cmp}
 use Rattle.std.proofs.lemmas.Bool.{eq-eqb, eqb-true, false≢true, false_from_ne_true, or_parts}
 use Rattle.std.proofs.lemmas.List.{length-set}
 use Rattle.std.proofs.lemmas.Option.{none-some, same_Some, slice_get_within}
-use Rattle.rmt_bits.proofs.ListLaws.{AllZip-slice_get, slice_get-set_other, slice_get-set_same}
+use Rattle.rmt_bits.proofs.ListLaws.{AllZip-slice_get, slice_get-set_other, slice_get-set_same, take-slice_get}
 use Rattle.rmt_ast.specs.RankPairs.{pair_cmp}
 use Rattle.rmt_ast.specs.declared.program.Kind.{Kind}
 use Rattle.rmt_update.specs.declared.book.book_index.BookIndex.{BookIndex}
 use Rattle.rmt_update.specs.declared.book.index.TableIndex.{TableIndex}
 use Rattle.rmt_update.specs.declared.book.index.TableIndex.TheVariants.{Cells, Rows}
-use Rattle.rmt_update.specs.declared.book.kept.Kept.{Kept}
-use Rattle.rmt_update.specs.declared.book.row_order.RowOrder.{RowOrder}
-use Rattle.rmt_update.specs.declared.book.spot.BookSpot.{BookSpot}
-use Rattle.rmt_update.specs.declared.book.table.PartCells.{PartCells}
-use Rattle.rmt_update.specs.declared.book.table.TableCells.{TableCells}
+use Rattle.rmt_book.specs.declared.kept.Kept.{Kept}
+use Rattle.rmt_book.specs.declared.row_order.RowOrder.{RowOrder}
+use Rattle.rmt_book.specs.declared.spot.BookSpot.{BookSpot}
+use Rattle.rmt_book.specs.declared.table.PartCells.{PartCells}
+use Rattle.rmt_book.specs.declared.table.TableCells.{TableCells}
 use Rattle.rmt_update.specs.BookIndex.{AreApart, FindsCells}
-use Rattle.rmt_update.specs.BookSpots.{kept_at, kept_in}
+use Rattle.rmt_book.specs.BookSpots.{kept_at, kept_in}
 use Rattle.rmt_update.specs.RowIndex.{AreRows, HaveOwnRows, IsIndex, IsRowGone, kept_key, or_is, rows_of}
-use Rattle.rmt_update.specs.Running.{is_among}
-use Rattle.rmt_update.specs.Seen.{is_seen}
-use Rattle.rmt_update.specs.Spots.{spot_from}
+use Rattle.rmt_lists.specs.Running.{is_among}
+use Rattle.rmt_book.specs.Seen.{is_seen}
+use Rattle.rmt_book.specs.Spots.{spot_from}
 use Rattle.rmt_update.specs.Turning.{IsSpotIn}
 use Rattle.rmt_update.proofs.RowIndexLaws.{key-number, own-key, same-key}
 use Rattle.rmt_update.proofs.RowNumbers.{one-row, row-cell}
-use Rattle.rmt_update.proofs.SliceLoops.{take-next}
 use Rattle.rmt_update.proofs.ZipLaws.{zip-gives, zip-length, zip-made}
 
 -- ---- one table
@@ -165,7 +164,7 @@ module _ (ts : List TableCells) (old : BookIndex) (apart : AreApart ts) (cells :
 pub leaves-more : (odd : Bool) (gone : List ℕ) (i n : ℕ) (ts : List TableCells) (os : List TableIndex) → slice_get gone i ≡ Some n → AllZip (IsIndex odd (or_is n (is_among (take i gone)))) ts os → AllZip (IsIndex odd (is_among (take (i + 1) gone))) ts os
 leaves-more odd gone i n ts os at zip =
     zip-gives (IsIndex odd (or_is n (is_among (take i gone)))) (IsIndex odd (is_among (take (i + 1) gone)))
-    (index-goes odd (or_is n (is_among (take i gone))) (is_among (take (i + 1) gone)) (λ m. sym (ap (λ ns. is_among ns m) (take-next gone i n at) ∙ joined (take i gone) m))) ts os zip
+    (index-goes odd (or_is n (is_among (take i gone))) (is_among (take (i + 1) gone)) (λ m. sym (ap (λ ns. is_among ns m) (take-slice_get gone i n at) ∙ joined (take i gone) m))) ts os zip
   where
     joined : (ns : List ℕ) (m : ℕ) → is_among (ns ++ n ∷ []) m ≡ (is_among ns m || (n == m))
     joined [] m = one (n == m)

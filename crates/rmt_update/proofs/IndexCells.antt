@@ -14,12 +14,12 @@ use Rattle.std.proofs.lemmas.Option.{none-some, same_Some}
 use Rattle.rmt_bits.proofs.AllLaws.{All-slice_get}
 use Rattle.rmt_bits.proofs.MemberLaws.{Contains-first, Contains-later, Contains-map, Contains-split, Contains-unmap}
 use Rattle.rmt_update.specs.declared.book.book_index.BookIndex.{BookIndex}
-use Rattle.rmt_update.specs.declared.book.kept.Kept.{Kept}
-use Rattle.rmt_update.specs.declared.book.spot.BookSpot.{BookSpot}
-use Rattle.rmt_update.specs.declared.book.table.PartCells.{PartCells}
-use Rattle.rmt_update.specs.declared.book.table.TableCells.{TableCells}
+use Rattle.rmt_book.specs.declared.kept.Kept.{Kept}
+use Rattle.rmt_book.specs.declared.spot.BookSpot.{BookSpot}
+use Rattle.rmt_book.specs.declared.table.PartCells.{PartCells}
+use Rattle.rmt_book.specs.declared.table.TableCells.{TableCells}
 use Rattle.rmt_update.specs.BookIndex.{AreApart, FindsCells, IsRecentAt}
-use Rattle.rmt_update.specs.BookSpots.{kept_at, kept_in}
+use Rattle.rmt_book.specs.BookSpots.{kept_at, kept_in}
 use Rattle.rmt_update.specs.Come.{AreOrdered}
 use Rattle.rmt_update.specs.IndexCells.{HasCells, all_cells, found_in, numbered, part_cells, table_cells}
 use Rattle.rmt_update.specs.Recent.{is_recent}

@@ -29,12 +29,12 @@ use Rattle.rmt_config.specs.NamesForm.{each_later, has_order}
 use Rattle.rmt_config.specs.Rooms.{PartAt, Room, is_same, parts_of}
 use Rattle.rmt_config.specs.RunCells.{has_bit, sees}
 use Rattle.rmt_update.specs.declared.book.Book.{Book}
-use Rattle.rmt_update.specs.declared.book.kept.Kept.{Kept}
-use Rattle.rmt_update.specs.declared.book.row_order.RowOrder.{RowOrder}
-use Rattle.rmt_update.specs.declared.book.spot.BookSpot.{BookSpot}
-use Rattle.rmt_update.specs.declared.book.table.PartCells.{PartCells}
-use Rattle.rmt_update.specs.declared.book.table.TableCells.{TableCells}
-use Rattle.rmt_update.specs.declared.lists.Changes.{Changes}
+use Rattle.rmt_book.specs.declared.kept.Kept.{Kept}
+use Rattle.rmt_book.specs.declared.row_order.RowOrder.{RowOrder}
+use Rattle.rmt_book.specs.declared.spot.BookSpot.{BookSpot}
+use Rattle.rmt_book.specs.declared.table.PartCells.{PartCells}
+use Rattle.rmt_book.specs.declared.table.TableCells.{TableCells}
+use Rattle.rmt_lists.specs.declared.lists.Changes.{Changes}
 use Rattle.rmt_update.specs.BookStands.{HoldsPart}
 use Rattle.rmt_update.specs.Come.{AreOrdered, IsRunOf, Run, staying}
 use Rattle.rmt_update.specs.Loads.{HasShape, table_of}
@@ -42,21 +42,21 @@ use Rattle.rmt_update.specs.Open.{is_kept_seen}
 use Rattle.rmt_update.specs.Placing.{IsBookSpot, StaysAt, room_of}
 use Rattle.rmt_update.specs.Planned.{changed_lists}
 use Rattle.rmt_update.specs.RowIndex.{AreRows, Stays, has_rows, kept_key, rows_of}
-use Rattle.rmt_update.specs.RowOrder.{AreInOrder, entry_key}
-use Rattle.rmt_update.specs.Running.{is_among}
-use Rattle.rmt_update.specs.Seen.{IsReadable, entries_by_part}
-use Rattle.rmt_update.specs.Told.{told_entry}
+use Rattle.rmt_book.specs.RowOrder.{AreInOrder, entry_key}
+use Rattle.rmt_lists.specs.Running.{is_among}
+use Rattle.rmt_book.specs.Seen.{IsReadable, entries_by_part}
+use Rattle.rmt_book.specs.Told.{told_entry}
 use Rattle.rmt_update.proofs.BookFacts.{found-there, holds-there, kept-facts, own-there, spot-facts, zip-shapes}
 use Rattle.rmt_update.proofs.FreeLaws.{kept-bit}
-use Rattle.rmt_update.proofs.NamedLaws.{keys-low}
+use Rattle.rmt_book.proofs.NamedLaws.{keys-low}
 use Rattle.rmt_update.proofs.PartOrder.{IsPartOf, nodes-apart, same-as}
 use Rattle.rmt_update.proofs.RoomNumbers.{IsNumber, offset}
 use Rattle.rmt_update.proofs.RowKeyLaws.{pair-less, prefix-goes}
-use Rattle.rmt_update.proofs.RowOrderLaws.{pair-turned}
+use Rattle.rmt_book.proofs.RowOrderLaws.{pair-turned}
 use Rattle.rmt_update.proofs.RowRise.{rows-rise}
 use Rattle.rmt_update.proofs.RowRooms.{numbered-row, room-there, rooms-long, row-there, row_rooms, rows-long}
 use Rattle.rmt_update.proofs.RowsStand.{IsLow, RowsStand, never-less}
-use Rattle.rmt_update.proofs.ShapeLaws.{cells-are}
+use Rattle.rmt_book.proofs.ShapeLaws.{cells-are}
 use Rattle.rmt_update.proofs.StayLaws.{stay-in_after, stay_placed}
 use Rattle.rmt_update.proofs.TableRules.{Own, entries-at}
 use Rattle.rmt_update.proofs.ZipLaws.{zip-left}

@@ -7,9 +7,9 @@ use Rattle.rmt_config.specs.Cells.{Content}
 use Rattle.rmt_config.specs.LaneForm.{bits_of_lanes}
 use Rattle.rmt_config.specs.Rooms.{PartAt}
 use Rattle.rmt_config.specs.RunCells.{emptied, written_content, written_mask}
-use Rattle.rmt_update.specs.declared.book.kept.Kept.{Kept}
+use Rattle.rmt_book.specs.declared.kept.Kept.{Kept}
 use Rattle.rmt_update.specs.BookStands.{IsKeptOf}
-use Rattle.rmt_update.specs.Coming.{empty_write, kept_write}
+use Rattle.rmt_book.specs.Coming.{empty_write, kept_write}
 
 -- what a cell of a part holds of which this is kept
 abbrev pub kept_content : PartAt → Option Kept → Content

@@ -19,7 +19,7 @@ use Rattle.rmt_bits.proofs.PairLaws.{AllPairs-none}
 use Rattle.rmt_config.specs.declared.cell_write.CellWrite.{CellWrite}
 use Rattle.rmt_config.specs.Commits.{writes_before}
 use Rattle.rmt_config.specs.RunCells.{is_changed}
-use Rattle.rmt_pack.proofs.FindLaws.{same_number}
+use Rattle.rmt_config.proofs.OrderLaws.{same_number}
 use Rattle.rmt_update.specs.declared.book.changing.CellChange.{CellChange}
 use Rattle.rmt_update.specs.Changing.{ChangeKey, change_key, key_cmp}
 

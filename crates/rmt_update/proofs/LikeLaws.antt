@@ -11,10 +11,10 @@ use Rattle.rmt_config.specs.LaneForm.{bits_of_lanes}
 use Rattle.rmt_config.specs.NamesForm.{args_of_data, params_in, tests_of_key}
 use Rattle.rmt_config.specs.Rooms.{PartAt}
 use Rattle.rmt_config.specs.RunCells.{written_mask}
-use Rattle.rmt_update.specs.declared.book.kept.Kept.{Kept}
+use Rattle.rmt_book.specs.declared.kept.Kept.{Kept}
 use Rattle.rmt_update.specs.BookStands.{IsKeptOf}
-use Rattle.rmt_update.specs.Seen.{is_seen}
-use Rattle.rmt_update.specs.Told.{is_whole, told_entry}
+use Rattle.rmt_book.specs.Seen.{is_seen}
+use Rattle.rmt_book.specs.Told.{is_whole, told_entry}
 use Rattle.rmt_update.specs.Turning.{AreLike, IsLike}
 
 pub like-itself : (k : Kept) → IsLike k k

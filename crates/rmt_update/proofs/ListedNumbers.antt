@@ -10,7 +10,7 @@ use Rattle.rmt_ast.specs.declared.names.TableName.{TableName}
 use Rattle.rmt_config.specs.declared.config.Config.{Config}
 use Rattle.rmt_config.specs.CellForm.{entries_are_numbered}
 use Rattle.rmt_config.specs.NamesForm.{entries_by_cell}
-use Rattle.rmt_update.specs.Seen.{HaveNumbers}
+use Rattle.rmt_book.specs.Seen.{HaveNumbers}
 use Rattle.rmt_config.proofs.SpelledRanks.{listed-distinct, entries-numbered}
 
 -- entries whose numbers differ

@@ -27,12 +27,12 @@ use Rattle.rmt_config.specs.Rooms.{PartAt, Room, is_same, key_number, parts_of, 
 use Rattle.rmt_config.specs.BlockCounts.{divided_up}
 use Rattle.rmt_cuckoo.specs.Loading.{IsLoading, candidates as loaded_in}
 use Rattle.rmt_update.specs.declared.book.loading.TableTried.TheVariants as table
-use Rattle.rmt_update.specs.declared.book.spots.Spot.{Spot}
-use Rattle.rmt_update.specs.declared.book.table.PartCells.{PartCells}
-use Rattle.rmt_update.specs.declared.book.table.TableCells.{TableCells}
+use Rattle.rmt_book.specs.declared.spots.Spot.{Spot}
+use Rattle.rmt_book.specs.declared.table.PartCells.{PartCells}
+use Rattle.rmt_book.specs.declared.table.TableCells.{TableCells}
 use Rattle.rmt_update.specs.FirstFull.{keys_of}
 use Rattle.rmt_update.specs.Loads.{AreTables, IsTriedAt, StandBy, layout_in, table_of}
-use Rattle.rmt_update.specs.Spots.{placed_in, spot_from, spots_at}
+use Rattle.rmt_book.specs.Spots.{placed_in, spot_from, spots_at}
 use Rattle.rmt_update.proofs.FirstLaws.{IsRowKind, firsts, firsts-differ, firsts-within, map-twice}
 use Rattle.rmt_update.proofs.PlacedLaws.{FitsHere, NodeStands, StandsAt, none-stand, table-stands, zip-pairs}
 use Rattle.rmt_update.proofs.RoomNumbers.{IsNumber, candidate-of, of-candidate, offset, rooms_in, row-at, spot-of}

@@ -14,7 +14,7 @@ use Rattle.rmt_config.specs.declared.config.Stage.{Stage}
 use Rattle.std.proofs.lemmas.Cmp.{nat_cmp_total}
 use Rattle.rmt_config.specs.Cells.{cells_in}
 use Rattle.rmt_config.specs.declared.config.Unit.TheVariants.{Slot}
-use Rattle.rmt_update.proofs.ToldEntryLaws.{PartFacts}
+use Rattle.rmt_book.proofs.ToldEntryLaws.{PartFacts}
 use Rattle.rmt_ast.specs.declared.entry.Entry.{Entry}
 use Rattle.rmt_ast.specs.declared.names.Names.{Names}
 use Rattle.rmt_config.specs.declared.config.Config.{Config}
@@ -28,19 +28,19 @@ use Rattle.rmt_config.specs.TailForm.{tails_have_headers}
 use Rattle.rmt_update.specs.declared.book.Book.{Book}
 use Rattle.rmt_update.specs.declared.book.loading.Loaded.{Loaded}
 use Rattle.rmt_update.specs.declared.book.plan.Plan.{Plan}
-use Rattle.rmt_update.specs.declared.book.table.PartCells.{PartCells}
-use Rattle.rmt_update.specs.declared.book.table.TableCells.{TableCells}
-use Rattle.rmt_update.specs.declared.fault.UpdateFault.{UpdateFault}
-use Rattle.rmt_update.specs.declared.fault.UpdateFault.TheVariants.{LoadFull, NoMemory}
-use Rattle.rmt_update.specs.declared.lists.Changes.{Changes}
+use Rattle.rmt_book.specs.declared.table.PartCells.{PartCells}
+use Rattle.rmt_book.specs.declared.table.TableCells.{TableCells}
+use Rattle.rmt_lists.specs.declared.fault.UpdateFault.{UpdateFault}
+use Rattle.rmt_lists.specs.declared.fault.UpdateFault.TheVariants.{LoadFull, NoMemory}
+use Rattle.rmt_lists.specs.declared.lists.Changes.{Changes}
 use Rattle.rmt_update.specs.BookStands.{BookStands, HoldsPart, IsKeptOf}
 use Rattle.rmt_update.specs.Differences.{AreDifferences, CanChange, Goal, IsGoal, all_pairs}
 use Rattle.rmt_update.specs.Loads.{AreTables, IsLoaded, IsNotLoaded}
 use Rattle.rmt_update.specs.Moved.{with_parts}
 use Rattle.rmt_update.specs.Planned.{IsPlanned, IsUnplanned, MayChange, changed_lists}
 use Rattle.rmt_update.specs.Refill.{IsMoved, SamePart, TableFits}
-use Rattle.rmt_update.specs.Seen.{entries_at}
-use Rattle.rmt_update.specs.Spots.{placed_from}
+use Rattle.rmt_book.specs.Seen.{entries_at}
+use Rattle.rmt_book.specs.Spots.{placed_from}
 use Rattle.rmt_update.proofs.AfterLaws.{changed-length}
 use Rattle.rmt_update.proofs.BookMoved.{all-at, long-range, next-holds, stands-moved}
 use Rattle.rmt_update.proofs.CellsFound.{are-tables, found-node, nodes-rise}

@@ -24,15 +24,15 @@ use Rattle.rmt_cuckoo.specs.Loading.{IsLoading, IsOverfull}
 use Rattle.rmt_update.specs.declared.book.loading.Full.{Full}
 use Rattle.rmt_update.specs.declared.book.loading.Loaded.{Loaded}
 use Rattle.rmt_update.specs.declared.book.loading.TableTried.TheVariants as table
-use Rattle.rmt_update.specs.declared.book.spots.Spot.{Spot}
-use Rattle.rmt_update.specs.declared.book.grid.Grid.{Grid}
-use Rattle.rmt_update.specs.declared.book.grid.Grid.TheVariants as grid
-use Rattle.rmt_update.specs.declared.book.table.PartCells.{PartCells}
-use Rattle.rmt_update.specs.declared.book.table.TableCells.{TableCells}
+use Rattle.rmt_book.specs.declared.spots.Spot.{Spot}
+use Rattle.rmt_book.specs.declared.grid.Grid.{Grid}
+use Rattle.rmt_book.specs.declared.grid.Grid.TheVariants as grid
+use Rattle.rmt_book.specs.declared.table.PartCells.{PartCells}
+use Rattle.rmt_book.specs.declared.table.TableCells.{TableCells}
 use Rattle.rmt_update.specs.FirstFull.{HasNoLoading, IsFirstFull, keys_of, layout_at, ways_in}
 use Rattle.rmt_update.specs.Loads.{AreStuck, AreTables, HasShape, IsLoaded, IsStuck, IsTriedAt, StandBy, StandUpto, layout_in, table_of, ways_for}
-use Rattle.rmt_update.specs.PartShape.{IsGrid}
-use Rattle.rmt_update.specs.Spots.{placed_from, placed_in}
+use Rattle.rmt_book.specs.PartShape.{IsGrid}
+use Rattle.rmt_book.specs.Spots.{placed_from, placed_in}
 use Rattle.rmt_update.proofs.LoadLaws.{NodeTried, loading-of, node-tried, table-entries}
 use Rattle.rmt_update.proofs.PlacedLaws.{NodeStands, all-stand}
 use Rattle.rmt_update.proofs.TableRules.{own-table, terms-found}

@@ -24,7 +24,7 @@ use Rattle.rmt_config.specs.RunCells.{RunCells, emptied, is_changed, no_content,
 use Rattle.rmt_config.specs.BlockCounts.{divided_up}
 use Rattle.rmt_pack.proofs.FindLaws.{Contains-range}
 use Rattle.rmt_pack.proofs.RoomOrderLaws.{pairs_flat}
-use Rattle.rmt_pack.proofs.LayoutLaws.{bytes_hold}
+use Rattle.rmt_config.proofs.LayoutLaws.{bytes_hold}
 use Rattle.rmt_update.specs.Fitting.{AreFit, IsFitting, MaskFits}
 use Rattle.rmt_update.proofs.OwnNumbers.{standing}
 use Rattle.rmt_update.proofs.WritesLaws.{said_content, said_number, writes-are}

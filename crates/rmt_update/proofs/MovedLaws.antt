@@ -33,19 +33,19 @@ use Rattle.rmt_config.specs.Rooms.{PartAt, Room, entry_content, is_at, key_numbe
 use Rattle.rmt_config.specs.RunCells.{RunCells, emptied, no_content, slot_at, with_version}
 use Rattle.rmt_config.specs.UnitForm.{memory_is_formed, slot_head_is_formed}
 use Rattle.rmt_config.proofs.CellLaws.{candidates-within}
-use Rattle.rmt_update.specs.declared.book.kept.Kept.{Kept}
-use Rattle.rmt_update.specs.declared.book.spots.Spot.{Spot}
-use Rattle.rmt_update.specs.declared.book.table.PartCells.{PartCells}
-use Rattle.rmt_update.specs.declared.book.table.TableCells.{TableCells}
+use Rattle.rmt_book.specs.declared.kept.Kept.{Kept}
+use Rattle.rmt_book.specs.declared.spots.Spot.{Spot}
+use Rattle.rmt_book.specs.declared.table.PartCells.{PartCells}
+use Rattle.rmt_book.specs.declared.table.TableCells.{TableCells}
 use Rattle.rmt_update.specs.BookStands.{HoldsPart, HoldsTable, IsKeptOf, is_candidate}
-use Rattle.rmt_update.specs.Coming.{KeepsEntry}
+use Rattle.rmt_book.specs.Coming.{KeepsEntry}
 use Rattle.rmt_update.specs.Loads.{AreTables, table_of}
-use Rattle.rmt_update.specs.PartShape.{IsShape}
+use Rattle.rmt_book.specs.PartShape.{IsShape}
 use Rattle.rmt_update.specs.Refill.{IsMoved, SamePart, spots_of}
-use Rattle.rmt_update.specs.Seen.{entries_in, is_seen}
-use Rattle.rmt_update.specs.Spots.{no_part, placed_from, room_at}
-use Rattle.rmt_update.specs.Told.{told_entry}
-use Rattle.rmt_update.specs.declared.book.shape.PartShape.{PartShape}
+use Rattle.rmt_book.specs.Seen.{entries_in, is_seen}
+use Rattle.rmt_book.specs.Spots.{no_part, placed_from, room_at}
+use Rattle.rmt_book.specs.Told.{told_entry}
+use Rattle.rmt_book.specs.declared.shape.PartShape.{PartShape}
 use Rattle.rmt_update.proofs.CandidateLaws.{key-low}
 use Rattle.rmt_update.proofs.FirstLaws.{IsRowKind, firsts, map-twice}
 use Rattle.rmt_update.proofs.LoadLaws.{table-entries}
@@ -54,11 +54,11 @@ use Rattle.rmt_update.proofs.PartOrder.{IsPartOf, parts-own}
 use Rattle.rmt_update.proofs.PartPairs.{IsBefore, IsCellOf, in-told, parts-pairs, told-in}
 use Rattle.rmt_update.proofs.RowsInOrder.{rows-in-order}
 use Rattle.rmt_pack.proofs.SortedLaws.{by_number_is}
-use Rattle.rmt_pack.proofs.LayoutLaws.{memory_formed}
+use Rattle.rmt_config.proofs.LayoutLaws.{memory_formed}
 use Rattle.rmt_pack.proofs.RoomOrderLaws.{room_there}
 use Rattle.rmt_update.proofs.SpotsFit.{from-placed, node-within, own, own-filled, own-placed, own-stands, spots-many, stands-in}
 use Rattle.rmt_update.proofs.TableRules.{Own, entries-at}
-use Rattle.rmt_update.proofs.ToldEntryLaws.{PartFacts}
+use Rattle.rmt_book.proofs.ToldEntryLaws.{PartFacts}
 use Rattle.rmt_update.proofs.BytesLaws.{sizes-bytes}
 use Rattle.rmt_update.proofs.ZipLaws.{zip-left, zip-length, zip-made, zip-right}
 

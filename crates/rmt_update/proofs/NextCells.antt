@@ -19,22 +19,22 @@ use Rattle.rmt_config.specs.declared.cell_write.CellWrite.{CellWrite}
 use Rattle.rmt_config.specs.Commits.{writes_before}
 use Rattle.rmt_config.specs.RunCells.{is_changed}
 use Rattle.rmt_update.specs.declared.book.changing.CellChange.{CellChange}
-use Rattle.rmt_update.specs.declared.book.kept.Kept.{Kept}
+use Rattle.rmt_book.specs.declared.kept.Kept.{Kept}
 use Rattle.rmt_update.specs.declared.book.placing.Coming.{Coming}
-use Rattle.rmt_update.specs.declared.book.shape.PartShape.{PartShape}
-use Rattle.rmt_update.specs.declared.book.spot.BookSpot.{BookSpot}
-use Rattle.rmt_update.specs.declared.book.table.PartCells.{PartCells}
-use Rattle.rmt_update.specs.declared.book.table.TableCells.{TableCells}
+use Rattle.rmt_book.specs.declared.shape.PartShape.{PartShape}
+use Rattle.rmt_book.specs.declared.spot.BookSpot.{BookSpot}
+use Rattle.rmt_book.specs.declared.table.PartCells.{PartCells}
+use Rattle.rmt_book.specs.declared.table.TableCells.{TableCells}
 use Rattle.rmt_update.specs.declared.book.turning.Turn.{Turn}
 use Rattle.rmt_update.specs.declared.book.turning.Turn.TheVariants.{Empty, Holds, Shows}
-use Rattle.rmt_update.specs.BookSpots.{kept_at}
+use Rattle.rmt_book.specs.BookSpots.{kept_at}
 use Rattle.rmt_update.specs.Changing.{ChangeKey, change_key, key_cmp}
 use Rattle.rmt_update.specs.Come.{AreOrdered}
-use Rattle.rmt_update.specs.Coming.{empty_write, kept_write}
+use Rattle.rmt_book.specs.Coming.{empty_write, kept_write}
 use Rattle.rmt_update.specs.Differences.{AreDifferences, Changes, Goal, IsGoal, all_pairs, change_at, change_by, change_in, is_exact, is_same_kept, pairs_of, write_at}
 use Rattle.rmt_update.specs.NextKept.{bit_of}
-use Rattle.rmt_update.specs.Running.{is_among}
-use Rattle.rmt_update.specs.Seen.{is_seen}
+use Rattle.rmt_lists.specs.Running.{is_among}
+use Rattle.rmt_book.specs.Seen.{is_seen}
 use Rattle.rmt_update.specs.TurnWrites.{AreChanged, HaveOwnSlots, IsFresh, IsOfTables, cell_turn, change_to, key_in, turn_of}
 use Rattle.rmt_update.specs.Turning.{AreLike, AreNext, HaveCells, IsSamePart, IsSameTable, IsStill, IsStillTable, come_to, is_spot, left_kept, part_of, turned, turned_by}
 use Rattle.rmt_update.proofs.KeyedLaws.{IsKeyed, key-exact, key-total, keyed-found, keyed-order}

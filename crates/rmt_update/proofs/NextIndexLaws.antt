@@ -23,16 +23,16 @@ use Rattle.rmt_update.specs.declared.book.Book.{Book}
 use Rattle.rmt_update.specs.declared.book.book_index.BookIndex.{BookIndex}
 use Rattle.rmt_update.specs.declared.book.index.TableIndex.{TableIndex}
 use Rattle.rmt_update.specs.declared.book.index.TableIndex.TheVariants.{Cells, Rows}
-use Rattle.rmt_update.specs.declared.book.kept.Kept.{Kept}
+use Rattle.rmt_book.specs.declared.kept.Kept.{Kept}
 use Rattle.rmt_update.specs.declared.book.placing.Coming.{Coming}
-use Rattle.rmt_update.specs.declared.book.row_order.RowOrder.{RowOrder}
-use Rattle.rmt_update.specs.declared.book.spot.BookSpot.{BookSpot}
-use Rattle.rmt_update.specs.declared.book.spots.Spot.{Spot}
-use Rattle.rmt_update.specs.declared.book.table.PartCells.{PartCells}
-use Rattle.rmt_update.specs.declared.book.table.TableCells.{TableCells}
-use Rattle.rmt_update.specs.declared.lists.Changes.{Changes}
+use Rattle.rmt_book.specs.declared.row_order.RowOrder.{RowOrder}
+use Rattle.rmt_book.specs.declared.spot.BookSpot.{BookSpot}
+use Rattle.rmt_book.specs.declared.spots.Spot.{Spot}
+use Rattle.rmt_book.specs.declared.table.PartCells.{PartCells}
+use Rattle.rmt_book.specs.declared.table.TableCells.{TableCells}
+use Rattle.rmt_lists.specs.declared.lists.Changes.{Changes}
 use Rattle.rmt_update.specs.BookIndex.{AreApart, FindsCells, IsBookIndex, IsRecentAt}
-use Rattle.rmt_update.specs.BookSpots.{kept_at, kept_in}
+use Rattle.rmt_book.specs.BookSpots.{kept_at, kept_in}
 use Rattle.rmt_update.specs.BookStands.{BookStands}
 use Rattle.rmt_update.specs.Come.{AreOrdered, IsRunOf, Run}
 use Rattle.rmt_update.specs.ComeIndex.{AreNextRows, HasPlaced, IsNextIndex, next_row}
@@ -43,10 +43,10 @@ use Rattle.rmt_update.specs.Placing.{ArePlaced, IsBookSpot, TakesCell}
 use Rattle.rmt_update.specs.Planned.{MayChange}
 use Rattle.rmt_update.specs.Recent.{is_recent}
 use Rattle.rmt_update.specs.RowIndex.{AreRows, IsIndex, has_rows, is_unseen, kept_key, never, row_number, rows_of}
-use Rattle.rmt_update.specs.RowOrder.{key_by}
-use Rattle.rmt_update.specs.Running.{is_among}
-use Rattle.rmt_update.specs.Seen.{is_seen}
-use Rattle.rmt_update.specs.Spots.{spot_from}
+use Rattle.rmt_book.specs.RowOrder.{key_by}
+use Rattle.rmt_lists.specs.Running.{is_among}
+use Rattle.rmt_book.specs.Seen.{is_seen}
+use Rattle.rmt_book.specs.Spots.{spot_from}
 use Rattle.rmt_update.specs.Turning.{AreLike, AreNext, IsLike, IsSamePart, IsSameTable, IsSpotIn, cell_at, come_to, left_kept}
 use Rattle.rmt_update.proofs.ApartLaws.{apart, spot-kept}
 use Rattle.rmt_update.proofs.CellsFound.{kept-is, one-spot}

@@ -10,31 +10,30 @@ use Rattle.std.proofs.lemmas.List.{append-nil, length-set, take_all, take_more_s
 use Rattle.std.proofs.lemmas.List.Elements.{All-contains, all_zip_more, filter_map-append}
 use Rattle.std.proofs.lemmas.List.Folds.{list_any-append}
 use Rattle.std.proofs.lemmas.Option.{get_or_from_slice_get, same_Some, slice_get_within}
-use Rattle.rmt_bits.proofs.ListLaws.{slice_get-item, slice_get-set_other, slice_get-set_same}
+use Rattle.rmt_bits.proofs.ListLaws.{slice_get-item, slice_get-set_other, slice_get-set_same, take-slice_get}
 use Rattle.rmt_update.specs.declared.book.index.TableIndex.{TableIndex}
 use Rattle.rmt_update.specs.declared.book.index.TableIndex.TheVariants.{Cells, Rows}
-use Rattle.rmt_update.specs.declared.book.kept.Kept.{Kept}
-use Rattle.rmt_update.specs.declared.book.spot.BookSpot.{BookSpot}
-use Rattle.rmt_update.specs.declared.book.table.PartCells.{PartCells}
-use Rattle.rmt_update.specs.declared.book.table.TableCells.{TableCells}
-use Rattle.rmt_update.specs.BookSpots.{kept_at}
+use Rattle.rmt_book.specs.declared.kept.Kept.{Kept}
+use Rattle.rmt_book.specs.declared.spot.BookSpot.{BookSpot}
+use Rattle.rmt_book.specs.declared.table.PartCells.{PartCells}
+use Rattle.rmt_book.specs.declared.table.TableCells.{TableCells}
+use Rattle.rmt_book.specs.BookSpots.{kept_at}
 use Rattle.rmt_update.specs.NextIndex.{AreAllFreed, AreFreed, AreSeenSpots, HasFewRows, IsFewRow, IsRenewed, IsRowFreed, is_row_of, is_unseen_of}
 use Rattle.rmt_update.specs.RowIndex.{row_number}
-use Rattle.rmt_update.specs.Seen.{is_seen}
-use Rattle.rmt_update.proofs.RankLaws.{same-number}
-use Rattle.rmt_update.proofs.SliceLoops.{take-next}
+use Rattle.rmt_book.specs.Seen.{is_seen}
+use Rattle.rmt_book.proofs.RankLaws.{same-number}
 
 -- ---- the cells of numbers
 
 pub left-none : {X Y : Type 0} (f : X → Option Y) (xs : List X) (i : ℕ) (x : X) → slice_get xs i ≡ Some x → f x ≡ None → filter_map f (take (i + 1) xs) ≡ filter_map f (take i xs)
 left-none f xs i x at none =
     let last : filter_map f (x ∷ []) ≡ [] = rw none refl in
-    ap (filter_map f) (take-next xs i x at) ∙ filter_map-append f (take i xs) (x ∷ []) ∙ ap (λ ys. filter_map f (take i xs) ++ ys) last ∙ append-nil (filter_map f (take i xs))
+    ap (filter_map f) (take-slice_get xs i x at) ∙ filter_map-append f (take i xs) (x ∷ []) ∙ ap (λ ys. filter_map f (take i xs) ++ ys) last ∙ append-nil (filter_map f (take i xs))
 
 pub left-some : {X Y : Type 0} (f : X → Option Y) (xs : List X) (i : ℕ) (x : X) (y : Y) → slice_get xs i ≡ Some x → f x ≡ Some y → filter_map f (take (i + 1) xs) ≡ filter_map f (take i xs) ++ y ∷ []
 left-some f xs i x y at some =
     let last : filter_map f (x ∷ []) ≡ y ∷ [] = rw some refl in
-    ap (filter_map f) (take-next xs i x at) ∙ filter_map-append f (take i xs) (x ∷ []) ∙ ap (λ ys. filter_map f (take i xs) ++ ys) last
+    ap (filter_map f) (take-slice_get xs i x at) ∙ filter_map-append f (take i xs) (x ∷ []) ∙ ap (λ ys. filter_map f (take i xs) ++ ys) last
 
 -- ---- the cells that the version sees
 
@@ -48,7 +47,7 @@ module _ (odd : Bool) (ts : List TableCells) (among : List BookSpot) (i : ℕ) (
     each = λ n.
         let test : BookSpot → Bool = λ z. is_unseen_of odd n (kept_at ts z) in
         up n ∙ ap (λ o. cond (is_unseen_of odd n (kept_at ts s)) None o) (h.each n) ∙ joined (is_unseen_of odd n (kept_at ts s)) (list_any (λ z. is_unseen_of odd n (kept_at ts z)) (take i among)) (get nat_cmp old n)
-        ∙ ap (λ f. cond f None (get nat_cmp old n)) (sym (ap (list_any (λ z. is_unseen_of odd n (kept_at ts z))) (take-next among i s at) ∙ list_any-append (λ z. is_unseen_of odd n (kept_at ts z)) (take i among) (s ∷ [])));
+        ∙ ap (λ f. cond f None (get nat_cmp old n)) (sym (ap (list_any (λ z. is_unseen_of odd n (kept_at ts z))) (take-slice_get among i s at) ∙ list_any-append (λ z. is_unseen_of odd n (kept_at ts z)) (take i among) (s ∷ [])));
   }
     where
       joined : (u a : Bool) (o : Option BookSpot) → cond u None (cond a None o) ≡ cond (a || (u || false)) None o
@@ -144,7 +143,7 @@ module _ (ts : List TableCells) (among : List BookSpot) (i : ℕ) (s : BookSpot)
   pub freed-next : (new : TableIndex) → IsRowFreed (row_number t.parts.items s.at) m new → AreAllFreed ts (take (i + 1) among) old (slice_set mid s.table new)
   freed-next new freed = record {
     count = length-set mid s.table new ∙ h.count;
-    each = λ j u o p at_u at_o at_p. subst (λ zs. AreFreed j u.parts.items zs o p) (sym (take-next among i s at_s)) (by j u o p at_u at_o at_p (s.table == j) refl);
+    each = λ j u o p at_u at_o at_p. subst (λ zs. AreFreed j u.parts.items zs o p) (sym (take-slice_get among i s at_s)) (by j u o p at_u at_o at_p (s.table == j) refl);
   }
     where
       by : (j : ℕ) (u : TableCells) (o p : TableIndex) → slice_get ts j ≡ Some u → slice_get old j ≡ Some o → slice_get (slice_set mid s.table new) j ≡ Some p → (f : Bool) → (s.table == j) ≡ f → AreFreed j u.parts.items (take i among ++ s ∷ []) o p

@@ -16,16 +16,16 @@ use Rattle.rmt_config.specs.Commits.{Placed, all_entries, is_numbered_in, settle
 use Rattle.rmt_config.specs.Rooms.{PartAt, parts_of}
 use Rattle.rmt_config.specs.RunCells.{RunCells, with_version}
 use Rattle.rmt_update.specs.declared.book.Book.{Book}
-use Rattle.rmt_update.specs.declared.book.kept.Kept.{Kept}
+use Rattle.rmt_book.specs.declared.kept.Kept.{Kept}
 use Rattle.rmt_update.specs.declared.book.placing.Coming.{Coming}
-use Rattle.rmt_update.specs.declared.book.spot.BookSpot.{BookSpot}
-use Rattle.rmt_update.specs.declared.book.table.TableCells.{TableCells}
-use Rattle.rmt_update.specs.declared.lists.Changes.{Changes}
-use Rattle.rmt_update.specs.BookSpots.{kept_at}
+use Rattle.rmt_book.specs.declared.spot.BookSpot.{BookSpot}
+use Rattle.rmt_book.specs.declared.table.TableCells.{TableCells}
+use Rattle.rmt_lists.specs.declared.lists.Changes.{Changes}
+use Rattle.rmt_book.specs.BookSpots.{kept_at}
 use Rattle.rmt_update.specs.BookStands.{BookStands, HaveOwnNumbers, IsKeptOf, IsUsed}
 use Rattle.rmt_update.specs.Placing.{ArePlaced, IsBookSpot, TakesCell}
 use Rattle.rmt_update.specs.Planned.{MayChange, changed_list, changed_lists}
-use Rattle.rmt_update.specs.Running.{is_among}
+use Rattle.rmt_lists.specs.Running.{is_among}
 use Rattle.rmt_update.specs.Turning.{left_kept}
 use Rattle.rmt_update.proofs.CellsFound.{IsFound, found, spot-part}
 use Rattle.rmt_update.proofs.NextTables.{left-was}

@@ -19,18 +19,18 @@ use Rattle.rmt_config.specs.NamesForm.{each_later, has_order}
 use Rattle.rmt_config.specs.Rooms.{PartAt, Room, is_before, parts_of}
 use Rattle.rmt_config.specs.RunCells.{RunCells}
 use Rattle.rmt_update.specs.declared.book.Book.{Book}
-use Rattle.rmt_update.specs.declared.book.kept.Kept.{Kept}
+use Rattle.rmt_book.specs.declared.kept.Kept.{Kept}
 use Rattle.rmt_update.specs.declared.book.placing.Coming.{Coming}
-use Rattle.rmt_update.specs.declared.book.spot.BookSpot.{BookSpot}
-use Rattle.rmt_update.specs.declared.book.table.PartCells.{PartCells}
-use Rattle.rmt_update.specs.declared.book.table.TableCells.{TableCells}
-use Rattle.rmt_update.specs.declared.lists.Changes.{Changes}
-use Rattle.rmt_update.specs.BookSpots.{kept_at}
+use Rattle.rmt_book.specs.declared.spot.BookSpot.{BookSpot}
+use Rattle.rmt_book.specs.declared.table.PartCells.{PartCells}
+use Rattle.rmt_book.specs.declared.table.TableCells.{TableCells}
+use Rattle.rmt_lists.specs.declared.lists.Changes.{Changes}
+use Rattle.rmt_book.specs.BookSpots.{kept_at}
 use Rattle.rmt_update.specs.BookStands.{BookStands}
 use Rattle.rmt_update.specs.Placing.{ArePlaced, IsBookSpot, room_of}
 use Rattle.rmt_update.specs.Planned.{MayChange, changed_lists}
-use Rattle.rmt_update.specs.Seen.{IsReadable, entries_by_part, is_seen}
-use Rattle.rmt_update.specs.Told.{told_entry}
+use Rattle.rmt_book.specs.Seen.{IsReadable, entries_by_part, is_seen}
+use Rattle.rmt_book.specs.Told.{told_entry}
 use Rattle.rmt_update.specs.Turning.{AreNext, IsLike, IsSamePart, IsSameTable}
 use Rattle.rmt_bits.proofs.AllLaws.{All-slice_get}
 use Rattle.rmt_bits.proofs.OptionLaws.{eqb-sym}
@@ -45,7 +45,7 @@ use Rattle.rmt_update.proofs.PartOrder.{pair-at}
 use Rattle.rmt_update.proofs.PartStages.{parts-apart}
 use Rattle.rmt_update.proofs.SettledKept.{next_at, table-terms}
 use Rattle.rmt_update.proofs.ZipLaws.{zip-left}
-use Rattle.rmt_pack.proofs.LayoutLaws.{memory_formed}
+use Rattle.rmt_config.proofs.LayoutLaws.{memory_formed}
 
 -- kinds whose rows have an order
 abbrev IsRows : Kind → Type 0

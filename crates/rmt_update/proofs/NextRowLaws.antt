@@ -13,21 +13,21 @@ use Rattle.rmt_ast.specs.declared.entry.Entry.{Entry}
 use Rattle.rmt_ast.specs.declared.program.Kind.{Kind}
 use Rattle.rmt_update.specs.declared.book.index.TableIndex.{TableIndex}
 use Rattle.rmt_update.specs.declared.book.index.TableIndex.TheVariants.{Cells, Rows}
-use Rattle.rmt_update.specs.declared.book.kept.Kept.{Kept}
+use Rattle.rmt_book.specs.declared.kept.Kept.{Kept}
 use Rattle.rmt_update.specs.declared.book.placing.Coming.{Coming}
-use Rattle.rmt_update.specs.declared.book.row_order.RowOrder.{RowOrder}
-use Rattle.rmt_update.specs.declared.book.spot.BookSpot.{BookSpot}
-use Rattle.rmt_update.specs.declared.book.spots.Spot.{Spot}
-use Rattle.rmt_update.specs.declared.book.table.PartCells.{PartCells}
-use Rattle.rmt_update.specs.declared.book.table.TableCells.{TableCells}
+use Rattle.rmt_book.specs.declared.row_order.RowOrder.{RowOrder}
+use Rattle.rmt_book.specs.declared.spot.BookSpot.{BookSpot}
+use Rattle.rmt_book.specs.declared.spots.Spot.{Spot}
+use Rattle.rmt_book.specs.declared.table.PartCells.{PartCells}
+use Rattle.rmt_book.specs.declared.table.TableCells.{TableCells}
 use Rattle.rmt_update.specs.ComeIndex.{AreNextRows, IsNextIndex, next_row}
 use Rattle.rmt_update.specs.NextKept.{bit_of}
 use Rattle.rmt_update.specs.Open.{is_kept_seen}
 use Rattle.rmt_update.specs.RowIndex.{AreRows, IsIndex, is_unseen, kept_key, rows_of}
-use Rattle.rmt_update.specs.RowOrder.{IsFirstFit, entry_key}
-use Rattle.rmt_update.specs.Running.{is_among}
-use Rattle.rmt_update.specs.Seen.{is_seen}
-use Rattle.rmt_update.specs.Spots.{spot_from}
+use Rattle.rmt_book.specs.RowOrder.{IsFirstFit, entry_key}
+use Rattle.rmt_lists.specs.Running.{is_among}
+use Rattle.rmt_book.specs.Seen.{is_seen}
+use Rattle.rmt_book.specs.Spots.{spot_from}
 use Rattle.rmt_update.specs.Taking.{IsComing, IsRowGiven, MayGive, TakesFrom}
 use Rattle.rmt_update.specs.Turning.{cell_at, come_to, is_spot, left_kept}
 use Rattle.rmt_update.proofs.EnteringLaws.{come-append}

@@ -20,28 +20,28 @@ use Rattle.rmt_config.specs.Commits.{settled}
 use Rattle.rmt_config.specs.Rooms.{PartAt, parts_of}
 use Rattle.rmt_config.specs.RunCells.{RunCells, with_version}
 use Rattle.rmt_update.specs.declared.book.Book.{Book}
-use Rattle.rmt_update.specs.declared.book.kept.Kept.{Kept}
+use Rattle.rmt_book.specs.declared.kept.Kept.{Kept}
 use Rattle.rmt_update.specs.declared.book.placing.Coming.{Coming}
-use Rattle.rmt_update.specs.declared.book.spot.BookSpot.{BookSpot}
-use Rattle.rmt_update.specs.declared.book.table.PartCells.{PartCells}
-use Rattle.rmt_update.specs.declared.book.table.TableCells.{TableCells}
-use Rattle.rmt_update.specs.declared.lists.Changes.{Changes}
-use Rattle.rmt_update.specs.BookSpots.{kept_at}
+use Rattle.rmt_book.specs.declared.spot.BookSpot.{BookSpot}
+use Rattle.rmt_book.specs.declared.table.PartCells.{PartCells}
+use Rattle.rmt_book.specs.declared.table.TableCells.{TableCells}
+use Rattle.rmt_lists.specs.declared.lists.Changes.{Changes}
+use Rattle.rmt_book.specs.BookSpots.{kept_at}
 use Rattle.rmt_update.specs.BookStands.{BookStands, HoldsPart, HoldsTable, IsKeptOf}
 use Rattle.rmt_update.specs.NextKept.{bit_of}
-use Rattle.rmt_update.specs.PartShape.{IsShape}
+use Rattle.rmt_book.specs.PartShape.{IsShape}
 use Rattle.rmt_update.specs.Placing.{ArePlaced, IsBookSpot, TakesCell}
-use Rattle.rmt_update.specs.Running.{is_among}
-use Rattle.rmt_update.specs.Seen.{is_seen}
+use Rattle.rmt_lists.specs.Running.{is_among}
+use Rattle.rmt_book.specs.Seen.{is_seen}
 use Rattle.rmt_update.specs.Turning.{AreLike, AreNext, IsSamePart, IsSameTable, is_spot, left_kept}
-use Rattle.rmt_update.specs.Coming.{HasSizes}
-use Rattle.rmt_update.specs.Kept.{HasBytes}
+use Rattle.rmt_book.specs.Coming.{HasSizes}
+use Rattle.rmt_book.specs.Kept.{HasBytes}
 use Rattle.rmt_update.proofs.CellsFound.{spot-part, table-holds}
 use Rattle.rmt_update.proofs.LikeLaws.{like-kept, like-some}
 use Rattle.rmt_update.proofs.SameTables.{part-kept}
 use Rattle.rmt_update.proofs.SettledKept.{kept-next, next_at}
 use Rattle.rmt_update.proofs.SettledPlaces.{none-come, same-spot, spot-itself}
-use Rattle.rmt_update.proofs.ShapeLaws.{cells-are}
+use Rattle.rmt_book.proofs.ShapeLaws.{cells-are}
 use Rattle.rmt_update.proofs.BytesLaws.{come-bytes, left-bytes, like-bytes, sizes-bytes}
 use Rattle.rmt_update.proofs.ZipLaws.{zip-length, zip-made, zip-right}
 

@@ -14,15 +14,15 @@ use Rattle.rmt_config.specs.BlockCounts.{divided_up}
 use Rattle.rmt_config.specs.Cells.{candidates}
 use Rattle.rmt_config.specs.LaneForm.{bits_of_lanes}
 use Rattle.rmt_config.specs.Rooms.{PartAt, key_number}
-use Rattle.rmt_update.specs.declared.book.spots.Spot.{Spot}
-use Rattle.rmt_update.specs.declared.book.table.PartCells.{PartCells}
-use Rattle.rmt_update.specs.declared.book.table.TableCells.{TableCells}
+use Rattle.rmt_book.specs.declared.spots.Spot.{Spot}
+use Rattle.rmt_book.specs.declared.table.PartCells.{PartCells}
+use Rattle.rmt_book.specs.declared.table.TableCells.{TableCells}
 use Rattle.rmt_update.specs.Loads.{HasShape}
 use Rattle.rmt_update.specs.Open.{first_of, first_open, in_part, is_open}
-use Rattle.rmt_update.specs.PartShape.{cells_for}
+use Rattle.rmt_book.specs.PartShape.{cells_for}
 use Rattle.rmt_update.specs.Taking.{candidates_at, cells_of_parts}
 use Rattle.rmt_update.proofs.PutRows.{keys-are}
-use Rattle.rmt_update.proofs.ShapeLaws.{cells-told}
+use Rattle.rmt_book.proofs.ShapeLaws.{cells-told}
 
 -- ---- the cells from one on to below another
 

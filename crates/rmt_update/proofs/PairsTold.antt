@@ -20,10 +20,10 @@ use Rattle.rmt_bits.proofs.PairLaws.{AllPairs-across, AllPairs-append, AllPairs-
 use Rattle.rmt_ast.specs.declared.entry.Entry.{Entry}
 use Rattle.rmt_ast.specs.declared.names.TableName.{TableName}
 use Rattle.rmt_config.specs.NamesForm.{each_later}
-use Rattle.rmt_update.specs.declared.book.kept.Kept.{Kept}
-use Rattle.rmt_update.specs.declared.book.table.PartCells.{PartCells}
-use Rattle.rmt_update.specs.Seen.{entries_in, is_seen}
-use Rattle.rmt_update.specs.Told.{told_entry}
+use Rattle.rmt_book.specs.declared.kept.Kept.{Kept}
+use Rattle.rmt_book.specs.declared.table.PartCells.{PartCells}
+use Rattle.rmt_book.specs.Seen.{entries_in, is_seen}
+use Rattle.rmt_book.specs.Told.{told_entry}
 use Rattle.rmt_pack.proofs.FindLaws.{all_at}
 
 -- ---- pairs

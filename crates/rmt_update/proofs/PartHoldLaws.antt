@@ -28,14 +28,14 @@ use Rattle.rmt_config.specs.Rooms.{PartAt}
 use Rattle.rmt_config.specs.RunCells.{as_slot, emptied, own_cells, own_content, slot_at, written_mask}
 use Rattle.rmt_config.proofs.PrefixRowLaws.{cells-within}
 use Rattle.rmt_config.proofs.SpelledParts.{held-is}
-use Rattle.rmt_pack.proofs.FindLaws.{same_number}
-use Rattle.rmt_update.specs.declared.book.kept.Kept.{Kept}
-use Rattle.rmt_update.specs.declared.book.table.PartCells.{PartCells}
+use Rattle.rmt_config.proofs.OrderLaws.{same_number}
+use Rattle.rmt_book.specs.declared.kept.Kept.{Kept}
+use Rattle.rmt_book.specs.declared.table.PartCells.{PartCells}
 use Rattle.rmt_update.specs.BookStands.{HoldsPart, IsKeptOf, is_candidate}
-use Rattle.rmt_update.specs.Kept.{HasBytes, IsKept}
-use Rattle.rmt_update.specs.Listed.{IsListed, IsRanked}
+use Rattle.rmt_book.specs.Kept.{HasBytes, IsKept}
+use Rattle.rmt_book.specs.Listed.{IsListed, IsRanked}
 use Rattle.rmt_update.proofs.CandidateLaws.{IsKey, own-key, same-candidates}
-use Rattle.rmt_update.proofs.ToldEntryLaws.{IsHead, head-occupied, head-visible, listed-heads}
+use Rattle.rmt_book.proofs.ToldEntryLaws.{IsHead, head-occupied, head-visible, listed-heads}
 
 -- a cell without a bit
 clear-parts : (m : Memory) (n : ℕ) (x : Content) → n < cells_in m → IsTrue (is_clear m x) → (x.head ≡ 0) × (x.key ≡ 0) × (x.held ≡ 0)

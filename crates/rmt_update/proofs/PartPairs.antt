@@ -20,10 +20,10 @@ use Rattle.rmt_bits.proofs.MemberLaws.{Contains-filter, Contains-flat_map, Conta
 use Rattle.rmt_bits.proofs.PairLaws.{AllPairs-append, AllPairs-map, AllPairs-none}
 use Rattle.rmt_ast.specs.declared.entry.Entry.{Entry}
 use Rattle.rmt_ast.specs.declared.names.TableName.{TableName}
-use Rattle.rmt_update.specs.declared.book.kept.Kept.{Kept}
-use Rattle.rmt_update.specs.declared.book.table.PartCells.{PartCells}
-use Rattle.rmt_update.specs.Seen.{entries_in, is_seen}
-use Rattle.rmt_update.specs.Told.{told_entry}
+use Rattle.rmt_book.specs.declared.kept.Kept.{Kept}
+use Rattle.rmt_book.specs.declared.table.PartCells.{PartCells}
+use Rattle.rmt_book.specs.Seen.{entries_in, is_seen}
+use Rattle.rmt_book.specs.Told.{told_entry}
 
 -- a kept cell of parts: the place of the part, the number of the cell, and what is kept
 pub record IsCellOf (xs : List PartCells) (i n : ℕ) (x : PartCells) (k : Kept) : Type 0 where

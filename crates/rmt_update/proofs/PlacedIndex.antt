@@ -15,17 +15,17 @@ use Rattle.rmt_update.specs.declared.book.Book.{Book}
 use Rattle.rmt_update.specs.declared.book.book_index.BookIndex.{BookIndex}
 use Rattle.rmt_update.specs.declared.book.index.TableIndex.{TableIndex}
 use Rattle.rmt_update.specs.declared.book.placing.Coming.{Coming}
-use Rattle.rmt_update.specs.declared.book.spot.BookSpot.{BookSpot}
-use Rattle.rmt_update.specs.declared.book.spots.Spot.{Spot}
-use Rattle.rmt_update.specs.declared.book.table.TableCells.{TableCells}
-use Rattle.rmt_update.specs.declared.lists.Changes.{Changes}
+use Rattle.rmt_book.specs.declared.spot.BookSpot.{BookSpot}
+use Rattle.rmt_book.specs.declared.spots.Spot.{Spot}
+use Rattle.rmt_book.specs.declared.table.TableCells.{TableCells}
+use Rattle.rmt_lists.specs.declared.lists.Changes.{Changes}
 use Rattle.rmt_update.specs.BookIndex.{FindsCells, IsRecentAt}
 use Rattle.rmt_update.specs.Come.{HaveCome, IsRunOf, Run}
 use Rattle.rmt_update.specs.ComeIndex.{HasPlaced, HasPlacedIn, IsNextIndex}
 use Rattle.rmt_update.specs.Placing.{TakesCell}
 use Rattle.rmt_update.specs.RowIndex.{IsIndex}
-use Rattle.rmt_update.specs.Running.{is_among}
-use Rattle.rmt_update.specs.Seen.{is_seen}
+use Rattle.rmt_lists.specs.Running.{is_among}
+use Rattle.rmt_book.specs.Seen.{is_seen}
 use Rattle.rmt_update.specs.Taking.{MayCome, MayGive, TakesFrom}
 use Rattle.rmt_update.proofs.ComeSeen.{comes-seen}
 use Rattle.rmt_update.proofs.NextRowLaws.{index-left, index-more, index-other}

@@ -16,10 +16,10 @@ use Rattle.rmt_ast.specs.NameRules.{terms_named}
 use Rattle.rmt_config.specs.declared.config.Config.{Config}
 use Rattle.rmt_config.specs.Commits.{AreFilled, IsFilled, Placed}
 use Rattle.rmt_config.specs.Rooms.{PartAt, Room, is_same, parts_of}
-use Rattle.rmt_update.specs.declared.book.spots.Spot.{Spot}
-use Rattle.rmt_update.specs.declared.book.table.PartCells.{PartCells}
+use Rattle.rmt_book.specs.declared.spots.Spot.{Spot}
+use Rattle.rmt_book.specs.declared.table.PartCells.{PartCells}
 use Rattle.rmt_update.specs.Loads.{HasShape}
-use Rattle.rmt_update.specs.Spots.{no_part, placed_from, placed_in, room_at, spot_from, spots_at}
+use Rattle.rmt_book.specs.Spots.{no_part, placed_from, placed_in, room_at, spot_from, spots_at}
 use Rattle.rmt_update.proofs.PartOrder.{IsPartOf, nodes-apart, rooms-apart}
 use Rattle.rmt_update.proofs.RoomNumbers.{IsNumber, spot-of}
 use Rattle.rmt_update.proofs.ZipLaws.{zip-all-right}

@@ -36,21 +36,21 @@ use Rattle.rmt_update.specs.declared.book.Book.{Book}
 use Rattle.rmt_update.specs.declared.book.index.TableIndex.{TableIndex}
 use Rattle.rmt_update.specs.declared.book.index.TableIndex.TheVariants.{Cells, Rows}
 use Rattle.rmt_update.specs.declared.book.placing.Coming.{Coming}
-use Rattle.rmt_update.specs.declared.book.row_order.RowOrder.{RowOrder}
-use Rattle.rmt_update.specs.declared.book.spot.BookSpot.{BookSpot}
-use Rattle.rmt_update.specs.declared.book.spots.Spot.{Spot}
-use Rattle.rmt_update.specs.declared.book.table.PartCells.{PartCells}
-use Rattle.rmt_update.specs.declared.book.table.TableCells.{TableCells}
-use Rattle.rmt_update.specs.declared.lists.Changes.{Changes}
+use Rattle.rmt_book.specs.declared.row_order.RowOrder.{RowOrder}
+use Rattle.rmt_book.specs.declared.spot.BookSpot.{BookSpot}
+use Rattle.rmt_book.specs.declared.spots.Spot.{Spot}
+use Rattle.rmt_book.specs.declared.table.PartCells.{PartCells}
+use Rattle.rmt_book.specs.declared.table.TableCells.{TableCells}
+use Rattle.rmt_lists.specs.declared.lists.Changes.{Changes}
 use Rattle.rmt_update.specs.BookStands.{HoldsPart, is_candidate}
 use Rattle.rmt_update.specs.Come.{AreOrdered, HaveCome, IsRunOf, Run, behind, staying}
 use Rattle.rmt_update.specs.Loads.{HasShape}
 use Rattle.rmt_update.specs.Open.{first_open, is_kept_seen}
 use Rattle.rmt_update.specs.Placing.{IsBookSpot, TakesCell, room_of}
 use Rattle.rmt_update.specs.RowIndex.{IsIndex, has_rows, rows_of}
-use Rattle.rmt_update.specs.RowOrder.{IsFirstFit, entry_key}
-use Rattle.rmt_update.specs.Running.{is_among}
-use Rattle.rmt_update.specs.Spots.{spot_from}
+use Rattle.rmt_book.specs.RowOrder.{IsFirstFit, entry_key}
+use Rattle.rmt_lists.specs.Running.{is_among}
+use Rattle.rmt_book.specs.Spots.{spot_from}
 use Rattle.rmt_update.specs.Taking.{IsComing, IsRowGiven, MayBeGiven, MayGive, TakesFrom, TakesOpen, TakesRow, candidates_at}
 use Rattle.rmt_update.proofs.BookFacts.{holds-there, own-there, spot-facts, zip-shapes}
 use Rattle.rmt_update.proofs.CandidateLaws.{key-low}
@@ -67,10 +67,10 @@ use Rattle.rmt_update.proofs.RoomNumbers.{HasRows, cell-within, spot-of}
 use Rattle.rmt_update.proofs.RowKeyLaws.{less-pair, prefix-goes-by}
 use Rattle.rmt_update.proofs.RowRooms.{before-rows, numbered-row, room-there, rooms-long, rooms-rows, row_rooms, rows-long}
 use Rattle.rmt_update.proofs.RowsStand.{IsLow, RowsStand, no-row, row-more}
-use Rattle.rmt_update.proofs.ShapeLaws.{cells-are}
+use Rattle.rmt_book.proofs.ShapeLaws.{cells-are}
 use Rattle.rmt_update.proofs.TableRules.{Own, all-bits, all-rows, row-parts}
 use Rattle.rmt_update.proofs.ZipLaws.{zip-left}
-use Rattle.rmt_pack.proofs.LayoutLaws.{memory_formed}
+use Rattle.rmt_config.proofs.LayoutLaws.{memory_formed}
 
 -- ---- kinds
 

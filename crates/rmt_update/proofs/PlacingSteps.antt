@@ -8,6 +8,7 @@ use Rattle.std.proofs.lemmas.List.{append-nil, get_or-take, length-take, take-ap
 use Rattle.std.proofs.lemmas.List.Elements.{All-cons, All-contains, All-nil, Contains-append_cases, Contains-get_or, at_from_Contains, filter-append}
 use Rattle.std.proofs.lemmas.List.Sums.{fold-append}
 use Rattle.std.proofs.lemmas.Option.{slice_get-get_or}
+use Rattle.rmt_bits.proofs.ListLaws.{take-slice_get}
 use Rattle.rmt_bits.proofs.AllLaws.{All-from_test, All-slice_get, All-unmap}
 use Rattle.rmt_bits.proofs.PairLaws.{AllPairs-none}
 use Rattle.rmt_bits.proofs.MemberLaws.{Contains-filter, Contains-flat_map, Contains-item, Contains-map, Contains-unfilter, from_flat_map}
@@ -22,16 +23,16 @@ use Rattle.rmt_config.specs.Rooms.{PartAt, parts_of}
 use Rattle.rmt_update.specs.declared.book.Book.{Book}
 use Rattle.rmt_update.specs.declared.book.index.TableIndex.{TableIndex}
 use Rattle.rmt_update.specs.declared.book.placing.Coming.{Coming}
-use Rattle.rmt_update.specs.declared.book.spot.BookSpot.{BookSpot}
-use Rattle.rmt_update.specs.declared.book.spots.Spot.{Spot}
-use Rattle.rmt_update.specs.declared.book.table.TableCells.{TableCells}
-use Rattle.rmt_update.specs.declared.lists.Changes.{Changes}
+use Rattle.rmt_book.specs.declared.spot.BookSpot.{BookSpot}
+use Rattle.rmt_book.specs.declared.spots.Spot.{Spot}
+use Rattle.rmt_book.specs.declared.table.TableCells.{TableCells}
+use Rattle.rmt_lists.specs.declared.lists.Changes.{Changes}
 use Rattle.rmt_update.specs.Come.{AreOrdered, HaveCome, IsRunOf, Run, behind, come_in, come_to, staying}
 use Rattle.rmt_update.specs.Loads.{HasShape}
 use Rattle.rmt_update.specs.Placing.{ArePlaced, IsBookSpot, StaysAt, TakesCell, room_of}
 use Rattle.rmt_update.specs.Planned.{changed_lists}
 use Rattle.rmt_update.specs.RowIndex.{IsIndex}
-use Rattle.rmt_update.specs.Running.{is_among}
+use Rattle.rmt_lists.specs.Running.{is_among}
 use Rattle.rmt_update.specs.Taking.{Holds, MayCome, MayGive, TakesFrom}
 use Rattle.rmt_update.proofs.BookFacts.{book-tables, holds-there, nodes-rising, own-there, zip-shapes}
 use Rattle.rmt_update.proofs.BookLaws.{names-fit}
@@ -40,7 +41,7 @@ use Rattle.rmt_update.proofs.ComesLaws.{none-comes}
 use Rattle.rmt_update.proofs.IndexStart.{entry-formed}
 use Rattle.rmt_update.proofs.PartOrder.{pair-at}
 use Rattle.rmt_update.proofs.PlacingLaws.{IndexStands, come-on, have-more, index-start, may-give, none-behind}
-use Rattle.rmt_update.proofs.SliceLoops.{flat-next, take-next}
+use Rattle.rmt_book.proofs.SliceLoops.{flat-next}
 use Rattle.rmt_update.proofs.StayLaws.{come-new, come-unnumbered, stay_placed}
 use Rattle.rmt_update.proofs.TableRules.{few-bits}
 use Rattle.rmt_update.proofs.ZipLaws.{zip-right}
@@ -154,7 +155,7 @@ module _ (w : Run) (b : Book) (ch : Changes) (run : IsRunOf b ch w) (ordered : A
     pub progress-other : (node == e.table) ≡ false → Progress w b ch at x (k + 1) xs index
     progress-other other =
         let same : own_of (take (k + 1) ch.come) ≡ own_of (take k ch.come) =
-        ap own_of (take-next ch.come k e at_e) ∙ filter-append (λ (y : Entry). node == y.table) (take k ch.come) (e ∷ []) ∙ ap (λ t. own_of (take k ch.come) ++ cond t (e ∷ []) []) other ∙ append-nil (own_of (take k ch.come)) in
+        ap own_of (take-slice_get ch.come k e at_e) ∙ filter-append (λ (y : Entry). node == y.table) (take k ch.come) (e ∷ []) ∙ ap (λ t. own_of (take k ch.come) ++ cond t (e ∷ []) []) other ∙ append-nil (own_of (take k ch.come)) in
         let all : so_far ≡ earlier ++ own_of (take (k + 1) ch.come) = ap (λ es. earlier ++ es) (sym same) in
         record {
           have = record { placed = p.have.placed; entries = p.have.entries ∙ all; after = ap (behind w ch) (sym all) ∙ p.have.after; takes = p.have.takes; apart = p.have.apart };
@@ -169,7 +170,7 @@ module _ (w : Run) (b : Book) (ch : Changes) (run : IsRunOf b ch w) (ordered : A
       one-more =
           append_assoc earlier (own_of (take k ch.come)) (e ∷ [])
           ∙ ap (λ es. earlier ++ es)
-          (sym (ap own_of (take-next ch.come k e at_e) ∙ filter-append (λ (y : Entry). node == y.table) (take k ch.come) (e ∷ []) ∙ ap (λ t. own_of (take k ch.come) ++ cond t (e ∷ []) []) own))
+          (sym (ap own_of (take-slice_get ch.come k e at_e) ∙ filter-append (λ (y : Entry). node == y.table) (take k ch.come) (e ∷ []) ∙ ap (λ t. own_of (take k ch.come) ++ cond t (e ∷ []) []) own))
 
       fresh : All (λ (q : Placed). q.entry.table ≡ node → q.entry.number ≢ e.number) (staying w ch ++ p.have.placed)
       fresh i d lt of same =

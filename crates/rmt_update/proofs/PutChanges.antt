@@ -21,12 +21,12 @@ use Rattle.rmt_config.specs.declared.cell_write.CellWrite.{CellWrite}
 use Rattle.rmt_config.specs.Commits.{writes_before}
 use Rattle.rmt_config.specs.RunCells.{is_changed}
 use Rattle.rmt_update.specs.declared.book.changing.CellChange.{CellChange}
-use Rattle.rmt_update.specs.declared.book.kept.Kept.{Kept}
-use Rattle.rmt_update.specs.declared.book.spot.BookSpot.{BookSpot}
-use Rattle.rmt_update.specs.declared.book.table.PartCells.{PartCells}
-use Rattle.rmt_update.specs.declared.book.table.TableCells.{TableCells}
+use Rattle.rmt_book.specs.declared.kept.Kept.{Kept}
+use Rattle.rmt_book.specs.declared.spot.BookSpot.{BookSpot}
+use Rattle.rmt_book.specs.declared.table.PartCells.{PartCells}
+use Rattle.rmt_book.specs.declared.table.TableCells.{TableCells}
 use Rattle.rmt_update.specs.Changing.{ChangeKey, change_key, key_cmp}
-use Rattle.rmt_update.specs.Coming.{kept_write}
+use Rattle.rmt_book.specs.Coming.{kept_write}
 use Rattle.rmt_update.specs.Differences.{AllPut, AreDifferences, AreMore, AreSome, Changes, Goal, IsDone, IsGoal, Puts, change_at, change_by, change_in, is_exact, pairs_of, write_at}
 use Rattle.rmt_update.proofs.InsertLaws.{lookup-insert, own-key, same-key}
 use Rattle.rmt_update.proofs.KeyedLaws.{key-exact, key-total, keyed-found, keyed-more, keyed-order}

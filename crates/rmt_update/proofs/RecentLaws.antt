@@ -20,19 +20,19 @@ use Rattle.rmt_ast.specs.declared.names.Names.{Names}
 use Rattle.rmt_config.specs.declared.config.Config.{Config}
 use Rattle.rmt_config.specs.RunCells.{RunCells}
 use Rattle.rmt_update.specs.declared.book.Book.{Book}
-use Rattle.rmt_update.specs.declared.book.kept.Kept.{Kept}
+use Rattle.rmt_book.specs.declared.kept.Kept.{Kept}
 use Rattle.rmt_update.specs.declared.book.placing.Coming.{Coming}
-use Rattle.rmt_update.specs.declared.book.spot.BookSpot.{BookSpot}
-use Rattle.rmt_update.specs.declared.book.table.PartCells.{PartCells}
-use Rattle.rmt_update.specs.declared.book.table.TableCells.{TableCells}
-use Rattle.rmt_update.specs.declared.lists.Changes.{Changes}
+use Rattle.rmt_book.specs.declared.spot.BookSpot.{BookSpot}
+use Rattle.rmt_book.specs.declared.table.PartCells.{PartCells}
+use Rattle.rmt_book.specs.declared.table.TableCells.{TableCells}
+use Rattle.rmt_lists.specs.declared.lists.Changes.{Changes}
 use Rattle.rmt_update.specs.BookStands.{BookStands}
 use Rattle.rmt_update.specs.NextKept.{bit_of}
 use Rattle.rmt_update.specs.Placing.{ArePlaced, IsBookSpot}
 use Rattle.rmt_update.specs.Planned.{MayChange}
 use Rattle.rmt_update.specs.Recent.{is_recent, recent, recent_in, recent_of}
-use Rattle.rmt_update.specs.Running.{is_among}
-use Rattle.rmt_update.specs.Seen.{is_seen}
+use Rattle.rmt_lists.specs.Running.{is_among}
+use Rattle.rmt_book.specs.Seen.{is_seen}
 use Rattle.rmt_update.specs.Turning.{AreNext, IsLike, left_kept}
 use Rattle.rmt_update.proofs.CellsFound.{one-spot}
 use Rattle.rmt_update.proofs.LikeLaws.{like-of}

@@ -11,13 +11,13 @@ use Rattle.std.proofs.lemmas.Option.{none-some, same_Some}
 use Rattle.rmt_bits.proofs.AllLaws.{All-slice_get}
 use Rattle.rmt_bits.proofs.ListLaws.{slice_get-set_other, slice_get-set_same}
 use Rattle.rmt_ast.specs.declared.entry.Entry.{Entry}
-use Rattle.rmt_update.specs.declared.book.kept.Kept.{Kept}
-use Rattle.rmt_update.specs.declared.book.spots.Spot.{Spot}
-use Rattle.rmt_update.specs.declared.book.table.PartCells.{PartCells}
-use Rattle.rmt_update.specs.declared.book.table.TableCells.{TableCells}
-use Rattle.rmt_update.specs.Coming.{HasSizes, KeepsEntry}
+use Rattle.rmt_book.specs.declared.kept.Kept.{Kept}
+use Rattle.rmt_book.specs.declared.spots.Spot.{Spot}
+use Rattle.rmt_book.specs.declared.table.PartCells.{PartCells}
+use Rattle.rmt_book.specs.declared.table.TableCells.{TableCells}
+use Rattle.rmt_book.specs.Coming.{HasSizes, KeepsEntry}
 use Rattle.rmt_update.specs.Refill.{AreRefilled, IsCleared, IsOneOf, SamePart, WithEntry}
-use Rattle.rmt_update.specs.declared.book.shape.PartShape.{PartShape}
+use Rattle.rmt_book.specs.declared.shape.PartShape.{PartShape}
 use Rattle.rmt_update.proofs.ZipLaws.{zip-all-right, zip-gives}
 
 pub same-parts : (x y z : PartCells) → SamePart x y → SamePart y z → SamePart x z

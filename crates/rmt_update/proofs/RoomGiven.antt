@@ -14,7 +14,7 @@ use Rattle.rmt_bits.proofs.ListLaws.{AllZip-slice_get, slice_get-set_other, slic
 use Rattle.rmt_config.specs.Commits.{Placed, is_free}
 use Rattle.rmt_config.specs.Rooms.{PartAt, Room, content_in, is_same}
 use Rattle.rmt_config.specs.RunCells.{RunCells, has_bit}
-use Rattle.rmt_update.specs.declared.book.spots.Spot.{Spot}
+use Rattle.rmt_book.specs.declared.spots.Spot.{Spot}
 use Rattle.rmt_update.specs.RowIndex.{IsNone}
 use Rattle.rmt_update.specs.Taking.{IsGiven}
 use Rattle.rmt_update.proofs.FreeLaws.{AreGiven}

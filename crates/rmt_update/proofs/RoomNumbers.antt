@@ -28,14 +28,14 @@ use Rattle.rmt_pack.proofs.FindLaws.{range_bounds}
 use Rattle.rmt_cuckoo.specs.declared.layout.Ways.{Ways}
 use Rattle.rmt_cuckoo.specs.declared.way.Way.{Way}
 use Rattle.rmt_cuckoo.specs.Loading.{candidates as loaded_in, cells_in as cells_of_part, row_start, way_of, ways_from}
-use Rattle.rmt_update.specs.declared.book.grid.Grid.{Grid}
-use Rattle.rmt_update.specs.declared.book.grid.Grid.TheVariants as grid
-use Rattle.rmt_update.specs.declared.book.table.PartCells.{PartCells}
+use Rattle.rmt_book.specs.declared.grid.Grid.{Grid}
+use Rattle.rmt_book.specs.declared.grid.Grid.TheVariants as grid
+use Rattle.rmt_book.specs.declared.table.PartCells.{PartCells}
 use Rattle.rmt_update.specs.Loads.{HasShape, layout_in, ways_for}
-use Rattle.rmt_update.specs.PartShape.{IsGrid, cell_count}
-use Rattle.rmt_update.specs.Spots.{spot_from}
+use Rattle.rmt_book.specs.PartShape.{IsGrid, cell_count}
+use Rattle.rmt_book.specs.Spots.{spot_from}
 use Rattle.rmt_update.proofs.PartNumbers.{SlotsFrom}
-use Rattle.rmt_update.proofs.ShapeLaws.{cells-are, row-end}
+use Rattle.rmt_book.proofs.ShapeLaws.{cells-are, row-end}
 
 -- how many cells a part has
 abbrev pub size_of : PartAt → ℕ

@@ -13,11 +13,11 @@ use Rattle.rmt_bits.proofs.ListLaws.{slice_get-front, slice_get-pushed}
 use Rattle.rmt_ast.specs.RankPairs.{pair_cmp}
 use Rattle.rmt_ast.specs.declared.program.Kind.{Kind}
 use Rattle.rmt_ast.specs.declared.program.Kind.TheVariants as kind
-use Rattle.rmt_update.specs.declared.book.kept.Kept.{Kept}
-use Rattle.rmt_update.specs.declared.book.row_order.RowOrder.{RowOrder}
+use Rattle.rmt_book.specs.declared.kept.Kept.{Kept}
+use Rattle.rmt_book.specs.declared.row_order.RowOrder.{RowOrder}
 use Rattle.rmt_update.specs.Open.{is_kept_seen}
 use Rattle.rmt_update.specs.RowIndex.{AreRows, HaveOwnRows, Stays, is_unseen, kept_key}
-use Rattle.rmt_update.specs.Seen.{is_seen}
+use Rattle.rmt_book.specs.Seen.{is_seen}
 
 -- ---- keys
 

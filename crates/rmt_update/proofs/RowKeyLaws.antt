@@ -10,7 +10,7 @@ use Rattle.rmt_ast.specs.RankPairs.{pair_cmp}
 use Rattle.rmt_ast.specs.RowOrder.{goes_first}
 use Rattle.rmt_ast.specs.declared.entry.Entry.{Entry}
 use Rattle.rmt_ast.specs.declared.program.Kind.TheVariants as kind
-use Rattle.rmt_update.specs.RowOrder.{entry_key}
+use Rattle.rmt_book.specs.RowOrder.{entry_key}
 
 pub pair-less : (a b : ℕ × ℕ) → (nat_lt a.0 b.0 || (eqb a.0 b.0 && nat_lt a.1 b.1)) ≡ true → pair_cmp a b ≡ Less
 pair-less a b h = by (nat_lt a.0 b.0) (eqb a.0 b.0) (nat_lt a.1 b.1) (eqb a.1 b.1) h

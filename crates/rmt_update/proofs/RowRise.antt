@@ -22,12 +22,12 @@ use Rattle.rmt_ast.specs.declared.names.TableName.{TableName}
 use Rattle.rmt_ast.specs.declared.program.Kind.{Kind}
 use Rattle.rmt_ast.specs.declared.program.Kind.TheVariants as kind
 use Rattle.rmt_config.specs.NamesForm.{each_later}
-use Rattle.rmt_update.specs.declared.book.kept.Kept.{Kept}
-use Rattle.rmt_update.specs.declared.book.table.PartCells.{PartCells}
-use Rattle.rmt_update.specs.PartShape.{cell_count}
+use Rattle.rmt_book.specs.declared.kept.Kept.{Kept}
+use Rattle.rmt_book.specs.declared.table.PartCells.{PartCells}
+use Rattle.rmt_book.specs.PartShape.{cell_count}
 use Rattle.rmt_update.specs.RowIndex.{part_rows, rows_of}
-use Rattle.rmt_update.specs.Seen.{entries_in, is_seen}
-use Rattle.rmt_update.specs.Told.{told_entry}
+use Rattle.rmt_book.specs.Seen.{entries_in, is_seen}
+use Rattle.rmt_book.specs.Told.{told_entry}
 use Rattle.rmt_update.proofs.RoomNumbers.{slice_get-map_range}
 use Rattle.rmt_update.proofs.RowIndexLaws.{same-number}
 

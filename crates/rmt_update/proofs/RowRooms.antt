@@ -11,13 +11,13 @@ use Rattle.std.proofs.lemmas.Option.{none-some, same_Some, slice_get_within}
 use Rattle.rmt_bits.proofs.ListLaws.{slice_get-end, slice_get-front}
 use Rattle.rmt_config.specs.LaneForm.{bits_of_lanes}
 use Rattle.rmt_config.specs.Rooms.{PartAt, Room, is_before}
-use Rattle.rmt_update.specs.declared.book.table.PartCells.{PartCells}
+use Rattle.rmt_book.specs.declared.table.PartCells.{PartCells}
 use Rattle.rmt_update.specs.Loads.{HasShape}
-use Rattle.rmt_update.specs.PartShape.{cell_count}
+use Rattle.rmt_book.specs.PartShape.{cell_count}
 use Rattle.rmt_update.specs.RowIndex.{part_rows, rows_of}
 use Rattle.rmt_update.proofs.PartOrder.{pair-at}
 use Rattle.rmt_update.proofs.RoomNumbers.{IsNumber, IsRows, offset, rooms_in, size_of, slice_get-map_range, total}
-use Rattle.rmt_update.proofs.ShapeLaws.{cells-are}
+use Rattle.rmt_book.proofs.ShapeLaws.{cells-are}
 
 -- the rooms of all rows
 abbrev pub part_rooms : PartAt → List Room

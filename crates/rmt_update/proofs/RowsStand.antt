@@ -16,8 +16,8 @@ use Rattle.rmt_ast.specs.declared.program.Kind.TheVariants as kind
 use Rattle.rmt_config.specs.Commits.{Placed, is_free}
 use Rattle.rmt_config.specs.Rooms.{Room, is_same}
 use Rattle.rmt_config.specs.RunCells.{RunCells}
-use Rattle.rmt_update.specs.declared.book.row_order.RowOrder.{RowOrder}
-use Rattle.rmt_update.specs.RowOrder.{AreInOrder, Fits, entry_key}
+use Rattle.rmt_book.specs.declared.row_order.RowOrder.{RowOrder}
+use Rattle.rmt_book.specs.RowOrder.{AreInOrder, Fits, entry_key}
 use Rattle.rmt_update.specs.Taking.{IsRowGiven}
 use Rattle.rmt_update.proofs.RoomGiven.{free-push, given-push}
 use Rattle.rmt_update.proofs.RowIndexLaws.{own-key, own-number, same-key, same-number}

@@ -9,13 +9,13 @@ use Rattle.rmt_config.specs.Cells.{Content}
 use Rattle.rmt_config.specs.LaneForm.{bits_of_lanes}
 use Rattle.rmt_config.specs.Rooms.{PartAt}
 use Rattle.rmt_config.specs.RunCells.{written_mask}
-use Rattle.rmt_update.specs.declared.book.grid.Grid.{Grid}
-use Rattle.rmt_update.specs.declared.book.grid.Grid.TheVariants.{Ways, Rows}
-use Rattle.rmt_update.specs.declared.book.kept.Kept.{Kept}
+use Rattle.rmt_book.specs.declared.grid.Grid.{Grid}
+use Rattle.rmt_book.specs.declared.grid.Grid.TheVariants.{Ways, Rows}
+use Rattle.rmt_book.specs.declared.kept.Kept.{Kept}
 use Rattle.rmt_update.specs.BookStands.{IsKeptOf}
-use Rattle.rmt_update.specs.Coming.{kept_write}
+use Rattle.rmt_book.specs.Coming.{kept_write}
 use Rattle.rmt_update.specs.Differences.{change_by, is_exact, is_same_kept}
-use Rattle.rmt_update.specs.PartShape.{IsGrid}
+use Rattle.rmt_book.specs.PartShape.{IsGrid}
 use Rattle.rmt_update.proofs.DiffLaws.{Differ, TurnsBy}
 use Rattle.rmt_update.proofs.DifferLaws.{emptied-differs, filled-differs}
 use Rattle.rmt_update.proofs.KeptContent.{kept_content, kept_number}

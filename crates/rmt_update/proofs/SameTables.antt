@@ -19,16 +19,16 @@ use Rattle.rmt_config.specs.NamesForm.{by_number, has_order}
 use Rattle.rmt_config.specs.Rooms.{PartAt, parts_of}
 use Rattle.rmt_config.specs.RunCells.{RunCells}
 use Rattle.rmt_update.specs.declared.book.Book.{Book}
-use Rattle.rmt_update.specs.declared.book.kept.Kept.{Kept}
-use Rattle.rmt_update.specs.declared.book.table.PartCells.{PartCells}
-use Rattle.rmt_update.specs.declared.book.table.TableCells.{TableCells}
+use Rattle.rmt_book.specs.declared.kept.Kept.{Kept}
+use Rattle.rmt_book.specs.declared.table.PartCells.{PartCells}
+use Rattle.rmt_book.specs.declared.table.TableCells.{TableCells}
 use Rattle.rmt_update.specs.BookIndex.{IsBookIndex}
-use Rattle.rmt_update.specs.BookSpots.{kept_at, kept_in}
+use Rattle.rmt_book.specs.BookSpots.{kept_at, kept_in}
 use Rattle.rmt_update.specs.BookStands.{BookStands, HoldsPart, HoldsTable, IsKeptOf}
 use Rattle.rmt_update.specs.Come.{AreOrdered}
-use Rattle.rmt_update.specs.PartShape.{IsShape}
-use Rattle.rmt_update.specs.Seen.{HaveNumbers, IsReadable, entries_at, entries_by_part, entries_in, entries_seen, is_seen}
-use Rattle.rmt_update.specs.Told.{told_entry}
+use Rattle.rmt_book.specs.PartShape.{IsShape}
+use Rattle.rmt_book.specs.Seen.{HaveNumbers, IsReadable, entries_at, entries_by_part, entries_in, entries_seen, is_seen}
+use Rattle.rmt_book.specs.Told.{told_entry}
 use Rattle.rmt_update.specs.Turning.{HaveCells, IsStill, IsStillTable}
 use Rattle.rmt_update.proofs.ZipLaws.{zip-right}
 

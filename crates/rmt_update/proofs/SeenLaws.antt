@@ -14,9 +14,9 @@ use Rattle.std.proofs.lemmas.Map.Made.{AllPairs-from_IsDistinct, IsDistinct-from
 use Rattle.rmt_bits.proofs.OptionLaws.{eqb-sym}
 use Rattle.rmt_bits.proofs.PairLaws.{AllPairs-map}
 use Rattle.rmt_ast.specs.declared.entry.Entry.{Entry}
-use Rattle.rmt_update.specs.declared.book.kept.Kept.{Kept}
-use Rattle.rmt_update.specs.Numbered.{IsNew}
-use Rattle.rmt_update.specs.Seen.{HaveNumbers}
+use Rattle.rmt_book.specs.declared.kept.Kept.{Kept}
+use Rattle.rmt_book.specs.Numbered.{IsNew}
+use Rattle.rmt_book.specs.Seen.{HaveNumbers}
 use Rattle.rmt_config.specs.NamesForm.{by_number}
 use Rattle.rmt_pack.proofs.SortedLaws.{by_number_is}
 

@@ -29,13 +29,13 @@ use Rattle.rmt_config.specs.RunCells.{RunCells, slot_at, with_version}
 use Rattle.rmt_config.specs.StageForm.{stage_is_formed}
 use Rattle.rmt_update.specs.declared.book.Book.{Book}
 use Rattle.rmt_update.specs.declared.book.changing.CellChange.{CellChange}
-use Rattle.rmt_update.specs.declared.book.kept.Kept.{Kept}
+use Rattle.rmt_book.specs.declared.kept.Kept.{Kept}
 use Rattle.rmt_update.specs.declared.book.placing.Coming.{Coming}
-use Rattle.rmt_update.specs.declared.book.spot.BookSpot.{BookSpot}
-use Rattle.rmt_update.specs.declared.book.table.PartCells.{PartCells}
-use Rattle.rmt_update.specs.declared.book.table.TableCells.{TableCells}
-use Rattle.rmt_update.specs.declared.lists.Changes.{Changes}
-use Rattle.rmt_update.specs.BookSpots.{kept_at}
+use Rattle.rmt_book.specs.declared.spot.BookSpot.{BookSpot}
+use Rattle.rmt_book.specs.declared.table.PartCells.{PartCells}
+use Rattle.rmt_book.specs.declared.table.TableCells.{TableCells}
+use Rattle.rmt_lists.specs.declared.lists.Changes.{Changes}
+use Rattle.rmt_book.specs.BookSpots.{kept_at}
 use Rattle.rmt_update.specs.BookStands.{BookStands, HoldsPart, IsKeptOf, IsUsed}
 use Rattle.rmt_update.specs.Changing.{ChangeKey, key_cmp}
 use Rattle.rmt_update.specs.Come.{AreOrdered}
@@ -53,7 +53,7 @@ use Rattle.rmt_update.proofs.OncePlaced.{part-once}
 use Rattle.rmt_update.proofs.PartOrder.{IsPartOf, pair-at}
 use Rattle.rmt_update.proofs.SettledKept.{kept-next, next_at}
 use Rattle.rmt_update.proofs.SettledPlaces.{come-or-not}
-use Rattle.rmt_update.proofs.ToldEntryLaws.{PartFacts}
+use Rattle.rmt_book.proofs.ToldEntryLaws.{PartFacts}
 use Rattle.rmt_update.proofs.TurnWriteLaws.{kept-nowhere, kept-part}
 use Rattle.rmt_update.proofs.ZipLaws.{zip-right}
 

@@ -15,11 +15,11 @@ use Rattle.rmt_config.specs.LaneForm.{bits_of_lanes}
 use Rattle.rmt_config.specs.NamesForm.{is_of_kind}
 use Rattle.rmt_config.specs.Rooms.{PartAt, entry_content, key_number}
 use Rattle.rmt_config.specs.RunCells.{RunCells, emptied, slot_at}
-use Rattle.rmt_update.specs.declared.book.kept.Kept.{Kept}
+use Rattle.rmt_book.specs.declared.kept.Kept.{Kept}
 use Rattle.rmt_update.specs.BookStands.{IsKeptOf, is_candidate}
-use Rattle.rmt_update.specs.Coming.{KeepsEntry}
+use Rattle.rmt_book.specs.Coming.{KeepsEntry}
 use Rattle.rmt_update.specs.NextKept.{bit_of, next_kept}
-use Rattle.rmt_update.specs.Seen.{is_seen}
+use Rattle.rmt_book.specs.Seen.{is_seen}
 use Rattle.rmt_update.proofs.TurnedLaws.{bit-low, goes-kept, head-visible, stays-kept, went-kept}
 
 module _ (c : Config) (names : Names) (cells : RunCells) (before : List (List Entry)) (p : PartAt) (slot : slot_at c p.stage p.place ≡ Some p.slot)

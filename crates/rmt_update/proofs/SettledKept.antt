@@ -14,19 +14,19 @@ use Rattle.rmt_config.specs.LaneForm.{bits_of_lanes}
 use Rattle.rmt_config.specs.NamesForm.{is_of_kind}
 use Rattle.rmt_config.specs.RunCells.{RunCells}
 use Rattle.rmt_update.specs.declared.book.Book.{Book}
-use Rattle.rmt_update.specs.declared.book.kept.Kept.{Kept}
+use Rattle.rmt_book.specs.declared.kept.Kept.{Kept}
 use Rattle.rmt_update.specs.declared.book.placing.Coming.{Coming}
-use Rattle.rmt_update.specs.declared.book.spot.BookSpot.{BookSpot}
-use Rattle.rmt_update.specs.declared.book.table.TableCells.{TableCells}
-use Rattle.rmt_update.specs.declared.lists.Changes.{Changes}
-use Rattle.rmt_update.specs.BookSpots.{kept_at}
+use Rattle.rmt_book.specs.declared.spot.BookSpot.{BookSpot}
+use Rattle.rmt_book.specs.declared.table.TableCells.{TableCells}
+use Rattle.rmt_lists.specs.declared.lists.Changes.{Changes}
+use Rattle.rmt_book.specs.BookSpots.{kept_at}
 use Rattle.rmt_update.specs.BookStands.{BookStands, IsKeptOf, is_candidate}
-use Rattle.rmt_update.specs.Coming.{KeepsEntry}
+use Rattle.rmt_book.specs.Coming.{KeepsEntry}
 use Rattle.rmt_update.specs.NextKept.{bit_of, next_kept}
 use Rattle.rmt_update.specs.Open.{is_kept_seen}
 use Rattle.rmt_update.specs.Placing.{ArePlaced, IsBookSpot, room_of}
-use Rattle.rmt_update.specs.Running.{is_among}
-use Rattle.rmt_update.specs.Seen.{is_seen}
+use Rattle.rmt_lists.specs.Running.{is_among}
+use Rattle.rmt_book.specs.Seen.{is_seen}
 use Rattle.rmt_update.specs.Turning.{come_to, left_kept}
 use Rattle.rmt_update.proofs.CellsFound.{kept-is, own_names, room-is, spot-part, table-own}
 use Rattle.rmt_update.proofs.SettledCells.{Next, next-comes, next-empty, next-leaves, next-stays}

@@ -15,10 +15,10 @@ use Rattle.rmt_config.specs.Commits.{Placed, all_entries, is_numbered_in}
 use Rattle.rmt_config.specs.Rooms.{PartAt, is_at}
 use Rattle.rmt_config.specs.RunCells.{RunCells}
 use Rattle.rmt_update.specs.declared.book.Book.{Book}
-use Rattle.rmt_update.specs.declared.book.kept.Kept.{Kept}
+use Rattle.rmt_book.specs.declared.kept.Kept.{Kept}
 use Rattle.rmt_update.specs.declared.book.placing.Coming.{Coming}
-use Rattle.rmt_update.specs.declared.book.spot.BookSpot.{BookSpot}
-use Rattle.rmt_update.specs.declared.book.table.TableCells.{TableCells}
+use Rattle.rmt_book.specs.declared.spot.BookSpot.{BookSpot}
+use Rattle.rmt_book.specs.declared.table.TableCells.{TableCells}
 use Rattle.rmt_update.specs.BookStands.{BookStands}
 use Rattle.rmt_update.specs.Placing.{AreStaying, IsBookSpot, StaysAt, TakesCell, room_of}
 use Rattle.rmt_update.specs.Turning.{come_to, is_spot}

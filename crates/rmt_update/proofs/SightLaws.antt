@@ -5,9 +5,9 @@ use Rattle.rmt_config.specs.declared.config.CellNumber.{CellNumber}
 use Rattle.rmt_config.specs.declared.config.Memory.{Memory}
 use Rattle.rmt_config.specs.Cells.{Content, is_occupied}
 use Rattle.rmt_config.specs.RunCells.{has_bit, sees}
-use Rattle.rmt_update.specs.declared.book.kept.Kept.{Kept}
-use Rattle.rmt_update.specs.Kept.{IsKept}
-use Rattle.rmt_update.specs.Seen.{is_seen}
+use Rattle.rmt_book.specs.declared.kept.Kept.{Kept}
+use Rattle.rmt_book.specs.Kept.{IsKept}
+use Rattle.rmt_book.specs.Seen.{is_seen}
 
 -- the visible bit of a parity
 bit-of : (head parity : ℕ) (k : Kept) → parity < 2 → k.visible ≡ head / 2 % 4 → is_seen (parity == 1) k ≡ (head / 2 ^ (1 + parity) % 2 == 1)

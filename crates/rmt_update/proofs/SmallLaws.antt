@@ -1,8 +1,7 @@
 -- Steps of loading one table.
-use Rattle.std.proofs.Common.{◌≡◌, ℕ, ◌+◌, ◌*◌, ◌^◌, ◌<◌, ◌≤◌, true, List, [], ◌∷◌, ◌++◌, get_or, length, map, sum, take, Option, sym, ap, ◌∙◌, subst, inl, inr, arith}
+use Rattle.std.proofs.Common.{◌≡◌, ℕ, ◌+◌, ◌*◌, ◌^◌, ◌<◌, ◌≤◌, List, [], ◌∷◌, ◌++◌, get_or, length, map, sum, take, Option, sym, ap, ◌∙◌, subst, inl, inr, arith}
 use Rattle.std.specs.Prelude.{All, count_by, unwrap_or}
 use Rattle.std.specs.List.{AllZip}
-use Rattle.std.proofs.lemmas.Bool.{and_parts, leb-true}
 use Rattle.std.proofs.lemmas.Grind.{flat_map-append}
 use Rattle.std.proofs.lemmas.List.{append-nil, map-append, take_more}
 use Rattle.std.proofs.lemmas.List.Elements.{All-cons, All-nil, All-weaker}
@@ -13,27 +12,25 @@ use Rattle.rmt_bits.proofs.AllLaws.{All-flat_map}
 use Rattle.rmt_bits.proofs.ByteLaws.{bytes_of-number_of}
 use Rattle.rmt_bits.proofs.ListLaws.{slice_get-item}
 use Rattle.rmt_ast.specs.declared.entry.Entry.{Entry}
-use Rattle.rmt_ast.specs.declared.names.TableName.{TableName}
 use Rattle.rmt_ast.specs.declared.program.Kind.{Kind}
 use Rattle.rmt_ast.specs.declared.program.Kind.TheVariants as kind
 use Rattle.rmt_ast.specs.Changes.{list_of}
 use Rattle.rmt_ast.specs.EntryLists.{IsEntry, Terms}
-use Rattle.rmt_ast.specs.NameRules.{table_is_formed}
 use Rattle.rmt_ast.specs.RowOrder.{goes_first}
 use Rattle.rmt_ast.specs.WellFormed.{IsTest}
 use Rattle.rmt_config.specs.Rooms.{key_number}
 use Rattle.rmt_config.specs.BlockCounts.{divided_up}
 use Rattle.rmt_cuckoo.specs.declared.layout.Ways.{Ways}
 use Rattle.rmt_cuckoo.specs.Loading.{cells_in, cells_of}
-use Rattle.rmt_update.specs.declared.book.grid.Grid.{Grid}
-use Rattle.rmt_update.specs.declared.book.grid.Grid.TheVariants as grid
+use Rattle.rmt_book.specs.declared.grid.Grid.{Grid}
+use Rattle.rmt_book.specs.declared.grid.Grid.TheVariants as grid
 use Rattle.rmt_update.specs.declared.book.loading.TableTried.{TableTried}
 use Rattle.rmt_update.specs.declared.book.loading.TableTried.TheVariants as table
-use Rattle.rmt_update.specs.declared.book.spots.Spot.{Spot}
-use Rattle.rmt_update.specs.declared.book.table.PartCells.{PartCells}
+use Rattle.rmt_book.specs.declared.spots.Spot.{Spot}
+use Rattle.rmt_book.specs.declared.table.PartCells.{PartCells}
 use Rattle.rmt_update.specs.FirstFull.{keys_of}
 use Rattle.rmt_update.specs.Loads.{AreLoadedKeys, IsTried, StandBy, layout_in, ways_for}
-use Rattle.rmt_update.specs.Spots.{spots_at}
+use Rattle.rmt_book.specs.Spots.{spots_at}
 use Rattle.rmt_update.proofs.FirstLaws.{IsRowKind}
 
 -- the layout of the parts so far, with one more
@@ -79,10 +76,6 @@ rows-stand-by k parts seed t es spots (inl is) e =
     subst (λ j. spots ≡ spots_at parts (map (λ e. count_by (λ f. goes_first j f e) es) es) → StandBy parts seed t es j spots) (sym is) (λ a. a) e
 rows-stand-by k parts seed t es spots (inr is) e =
     subst (λ j. spots ≡ spots_at parts (map (λ e. count_by (λ f. goes_first j f e) es) es) → StandBy parts seed t es j spots) (sym is) (λ a. a) e
-
--- what the rules say of a table's size and widths
-pub size-few : (t : TableName) → table_is_formed t ≡ true → t.size ≤ 1048576
-size-few t formed = leb-true t.size 1048576 (and_parts _ _ (and_parts _ _ (and_parts _ _ formed).0).1).1
 
 pub tests-of : (node : ℕ) (t : Terms) (es : List Entry) → All (IsEntry node t) es → All (λ (e : Entry). AllZip IsTest t.widths e.tests) es
 tests-of node t es all = All-weaker (IsEntry node t) (λ (e : Entry). AllZip IsTest t.widths e.tests) (λ e is. is.tests) es all

@@ -44,7 +44,7 @@ use Rattle.rmt_config.proofs.RiseLaws.{rise-below}
 use Rattle.rmt_config.proofs.SpelledParts.{parts-stand}
 use Rattle.rmt_config.proofs.SpelledWays.{parts-follow}
 use Rattle.rmt_pack.proofs.FindLaws.{found_passes, all_at}
-use Rattle.rmt_pack.proofs.LayoutLaws.{memory_formed}
+use Rattle.rmt_config.proofs.LayoutLaws.{memory_formed}
 use Rattle.rmt_pack.proofs.PartLaws.{placed_has}
 use Rattle.rmt_update.specs.BookStands.{IsUsed}
 use Rattle.rmt_update.proofs.BookLaws.{TableFacts, names-fit, table-facts}
@@ -56,7 +56,7 @@ use Rattle.rmt_update.proofs.PartHoldLaws.{part-slot}
 use Rattle.rmt_update.proofs.PartOrder.{IsPartOf, parts-own}
 use Rattle.rmt_update.proofs.RoomNumbers.{slice_get-map_range}
 use Rattle.rmt_update.proofs.SpelledTests.{entry-spelled}
-use Rattle.rmt_update.proofs.ToldEntryLaws.{IsHead, PartFacts, all-facts, head-occupied, listed-heads}
+use Rattle.rmt_book.proofs.ToldEntryLaws.{IsHead, PartFacts, all-facts, head-occupied, listed-heads}
 
 -- ---- entries put in order by their numbers
 

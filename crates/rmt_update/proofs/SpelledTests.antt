@@ -37,9 +37,9 @@ use Rattle.rmt_config.specs.StageForm.{is_listed, rows_are_formed, tcam_blocks, 
 use Rattle.rmt_config.proofs.PrefixRowLaws.{cells-within, key-read, mask-read}
 use Rattle.rmt_update.specs.Fitting.{HasEntry, IsFitting, MaskFits}
 use Rattle.rmt_update.proofs.FitOwn.{own_fit}
-use Rattle.rmt_update.proofs.NamedLaws.{params-at}
+use Rattle.rmt_book.proofs.NamedLaws.{params-at}
 use Rattle.rmt_update.proofs.PartHoldLaws.{part-slot}
-use Rattle.rmt_update.proofs.ToldEntryLaws.{IsHead, PartFacts, head-occupied, listed-heads}
+use Rattle.rmt_book.proofs.ToldEntryLaws.{IsHead, PartFacts, head-occupied, listed-heads}
 
 -- ---- tests and arguments
 

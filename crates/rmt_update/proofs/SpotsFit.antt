@@ -23,11 +23,11 @@ use Rattle.rmt_config.specs.Commits.{AreFilled, IsFilled, Placed}
 use Rattle.rmt_config.specs.LaneForm.{bits_of_lanes}
 use Rattle.rmt_config.specs.NamesForm.{has_actions, is_made_so}
 use Rattle.rmt_config.specs.Rooms.{PartAt, Room, key_number, parts_of, rooms_for}
-use Rattle.rmt_update.specs.declared.book.spots.Spot.{Spot}
-use Rattle.rmt_update.specs.declared.book.table.TableCells.{TableCells}
+use Rattle.rmt_book.specs.declared.spots.Spot.{Spot}
+use Rattle.rmt_book.specs.declared.table.TableCells.{TableCells}
 use Rattle.rmt_update.specs.Loads.{AreTables, HasShape, table_of}
 use Rattle.rmt_update.specs.Refill.{FitsInto, TableFits, spots_of}
-use Rattle.rmt_update.specs.Spots.{no_part, placed_from, placed_in, room_at}
+use Rattle.rmt_book.specs.Spots.{no_part, placed_from, placed_in, room_at}
 use Rattle.rmt_update.proofs.BookLaws.{names-fit}
 use Rattle.rmt_update.proofs.LoadLaws.{table-entries}
 use Rattle.rmt_update.proofs.TableRules.{Own, few-bits, own-table}

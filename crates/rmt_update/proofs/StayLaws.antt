@@ -21,23 +21,23 @@ use Rattle.rmt_config.specs.Commits.{Placed, all_entries, is_numbered_in, placed
 use Rattle.rmt_config.specs.NamesForm.{by_number}
 use Rattle.rmt_config.specs.Rooms.{parts_of}
 use Rattle.rmt_update.specs.declared.book.Book.{Book}
-use Rattle.rmt_update.specs.declared.book.kept.Kept.{Kept}
-use Rattle.rmt_update.specs.declared.book.spot.BookSpot.{BookSpot}
-use Rattle.rmt_update.specs.declared.book.table.PartCells.{PartCells}
-use Rattle.rmt_update.specs.declared.book.table.TableCells.{TableCells}
-use Rattle.rmt_update.specs.declared.lists.Changes.{Changes}
+use Rattle.rmt_book.specs.declared.kept.Kept.{Kept}
+use Rattle.rmt_book.specs.declared.spot.BookSpot.{BookSpot}
+use Rattle.rmt_book.specs.declared.table.PartCells.{PartCells}
+use Rattle.rmt_book.specs.declared.table.TableCells.{TableCells}
+use Rattle.rmt_lists.specs.declared.lists.Changes.{Changes}
 use Rattle.rmt_update.specs.BookStands.{HoldsPart, IsUsed}
 use Rattle.rmt_update.specs.Come.{AreOrdered, IsRunOf, Run, staying}
 use Rattle.rmt_update.specs.Loads.{table_of}
 use Rattle.rmt_update.specs.Placing.{AreStaying, IsBookSpot, StaysAt, room_of}
 use Rattle.rmt_update.specs.Planned.{changed_list, changed_lists}
-use Rattle.rmt_update.specs.Running.{is_among}
-use Rattle.rmt_update.specs.Seen.{entries_at, entries_by_part, entries_in, is_seen}
-use Rattle.rmt_update.specs.Told.{told_entry}
+use Rattle.rmt_lists.specs.Running.{is_among}
+use Rattle.rmt_book.specs.Seen.{entries_at, entries_by_part, entries_in, is_seen}
+use Rattle.rmt_book.specs.Told.{told_entry}
 use Rattle.rmt_update.proofs.BookFacts.{book-tables, found-there, holds-there, kept-facts, placed-seen}
 use Rattle.rmt_update.proofs.ByNumberLaws.{from-by_number, to-by_number}
 use Rattle.rmt_update.proofs.NodeLists.{found-at}
-use Rattle.rmt_update.proofs.ShapeLaws.{cells-are}
+use Rattle.rmt_book.proofs.ShapeLaws.{cells-are}
 use Rattle.rmt_update.proofs.ZipLaws.{zip-right}
 use Rattle.rmt_pack.proofs.EntryLaws.{is_numbered}
 

@@ -14,10 +14,10 @@ use Rattle.std.proofs.lemmas.Map.Views.{All-after_first}
 use Rattle.std.proofs.lemmas.Option.{same_Some}
 use Rattle.rmt_bits.proofs.PairLaws.{AllPairs-head, AllPairs-none, AllPairs-tail}
 use Rattle.rmt_update.specs.declared.book.changing.CellChange.{CellChange}
-use Rattle.rmt_update.specs.declared.book.kept.Kept.{Kept}
-use Rattle.rmt_update.specs.declared.book.spot.BookSpot.{BookSpot}
-use Rattle.rmt_update.specs.declared.book.table.TableCells.{TableCells}
-use Rattle.rmt_update.specs.BookSpots.{kept_at}
+use Rattle.rmt_book.specs.declared.kept.Kept.{Kept}
+use Rattle.rmt_book.specs.declared.spot.BookSpot.{BookSpot}
+use Rattle.rmt_book.specs.declared.table.TableCells.{TableCells}
+use Rattle.rmt_book.specs.BookSpots.{kept_at}
 use Rattle.rmt_update.specs.Changing.{ChangeKey, key_cmp}
 use Rattle.rmt_update.specs.Differences.{Changes}
 use Rattle.rmt_update.specs.TurnWrites.{IsOfTables, cell_turn, key_in}

@@ -17,20 +17,20 @@ use Rattle.rmt_bits.proofs.OptionLaws.{eqb-sym}
 use Rattle.rmt_config.specs.declared.cell_write.CellWrite.{CellWrite}
 use Rattle.rmt_update.specs.declared.book.book_index.BookIndex.{BookIndex}
 use Rattle.rmt_update.specs.declared.book.changing.CellChange.{CellChange}
-use Rattle.rmt_update.specs.declared.book.kept.Kept.{Kept}
+use Rattle.rmt_book.specs.declared.kept.Kept.{Kept}
 use Rattle.rmt_update.specs.declared.book.placing.Coming.{Coming}
-use Rattle.rmt_update.specs.declared.book.spot.BookSpot.{BookSpot}
-use Rattle.rmt_update.specs.declared.book.table.PartCells.{PartCells}
-use Rattle.rmt_update.specs.declared.book.table.TableCells.{TableCells}
+use Rattle.rmt_book.specs.declared.spot.BookSpot.{BookSpot}
+use Rattle.rmt_book.specs.declared.table.PartCells.{PartCells}
+use Rattle.rmt_book.specs.declared.table.TableCells.{TableCells}
 use Rattle.rmt_update.specs.BookIndex.{FindsCells}
-use Rattle.rmt_update.specs.BookSpots.{kept_at}
+use Rattle.rmt_book.specs.BookSpots.{kept_at}
 use Rattle.rmt_update.specs.Changing.{ChangeKey, key_cmp}
-use Rattle.rmt_update.specs.Coming.{kept_write}
+use Rattle.rmt_book.specs.Coming.{kept_write}
 use Rattle.rmt_update.specs.Differences.{Changes, Puts, change_at, change_by, is_exact, is_same_kept, write_at}
 use Rattle.rmt_update.specs.NextKept.{bit_of}
 use Rattle.rmt_update.specs.Recent.{is_recent}
-use Rattle.rmt_update.specs.Running.{is_among}
-use Rattle.rmt_update.specs.Seen.{is_seen}
+use Rattle.rmt_lists.specs.Running.{is_among}
+use Rattle.rmt_book.specs.Seen.{is_seen}
 use Rattle.rmt_update.specs.TurnWrites.{AreChanged, AreOnWay, HaveOwnSlots, IsChanged, IsFresh, IsOfTables, MoreChanged, PutsLeft, change_to, key_in, left_write, shown_write}
 use Rattle.rmt_update.specs.Turning.{IsSpotIn, IsStillTable, come_to, is_spot, left_kept, part_of}
 use Rattle.rmt_update.proofs.EnteringLaws.{come-last, still-there}
@@ -127,10 +127,10 @@ left-is odd gone p s = by (get nat_cmp p.cells s.at.cell)
         seen false = refl
         seen true = flip v k.visible (Some (kept_write p.stage p.place v k)) ∙ ap (λ t. cond t None (Some (kept_write p.stage p.place v k))) (sym (same-bits exact k v))
 
-module _ (ts : List TableCells) (next : BookSpot → Option Kept) (slots : HaveOwnSlots ts) where
-  -- one cell more is changed
-  put-more : (m m2 : Changes) (s : BookSpot) (p : PartCells) → part_of ts s ≡ Some p → (w : Option CellWrite) → w ≡ change_to p s (next s) → Puts m m2 (key_in p s) s w → AreOnWay ts next m → MoreChanged ts next m m2 (λ z. s ≡ z)
-  put-more m m2 s p at None is put way = record {
+module _ (ts : List TableCells) (next : BookSpot → Option Kept) where
+  -- where nothing was put, all stays on its way
+  none-put : (m m2 : Changes) (at : BookSpot → Type 0) → m2 ≡ m → ((z : BookSpot) → at z → IsChanged ts next m2 z) → AreOnWay ts next m → MoreChanged ts next m m2 at
+  none-put m m2 at put done way = record {
     some = record {
       spots = subst (All (IsOfTables ts)) (sym put) way.spots;
       each = λ z q at_z. elim (way.each z q at_z) [
@@ -139,8 +139,13 @@ module _ (ts : List TableCells) (next : BookSpot → Option Kept) (slots : HaveO
       ];
     };
     stay = λ z h q at_z. found-same m m2 put (key_in q z) ∙ h q at_z;
-    done = λ z same. subst (IsChanged ts next m2) same here;
+    done = done;
   }
+
+module _ (ts : List TableCells) (next : BookSpot → Option Kept) (slots : HaveOwnSlots ts) where
+  -- one cell more is changed
+  put-more : (m m2 : Changes) (s : BookSpot) (p : PartCells) → part_of ts s ≡ Some p → (w : Option CellWrite) → w ≡ change_to p s (next s) → Puts m m2 (key_in p s) s w → AreOnWay ts next m → MoreChanged ts next m m2 (λ z. s ≡ z)
+  put-more m m2 s p at None is put way = none-put ts next m m2 (λ z. s ≡ z) put (λ z same. subst (IsChanged ts next m2) same here) way
     where
       here : IsChanged ts next m2 s
       here q at_q =
@@ -206,17 +211,7 @@ module _ (ts : List TableCells) (odd : Bool) (gone : List ℕ) (slots : HaveOwnS
   left-more m m2 s put way = by (part_of ts s) refl put
     where
       by : (o : Option PartCells) → part_of ts s ≡ o → PutsLeft odd gone o s m m2 → MoreChanged ts left_at m m2 (λ z. s ≡ z)
-      by None is e = record {
-        some = record {
-          spots = subst (All (IsOfTables ts)) (sym e) way.spots;
-          each = λ z q at_z. elim (way.each z q at_z) [
-            | inl a ↦ inl (found-same m m2 e (key_in q z) ∙ a)
-            | inr a ↦ inr (found-same m m2 e (key_in q z) ∙ a)
-          ];
-        };
-        stay = λ z h q at_z. found-same m m2 e (key_in q z) ∙ h q at_z;
-        done = λ z same q at_z. absurd (none-some q (sym is ∙ ap (part_of ts) same ∙ at_z));
-      }
+      by None is e = none-put ts left_at m m2 (λ z. s ≡ z) e (λ z same q at_z. absurd (none-some q (sym is ∙ ap (part_of ts) same ∙ at_z))) way
       by (Some p) is e =
           put-more ts left_at slots m m2 s p is (left_write odd gone p s.at.cell (get nat_cmp p.cells s.at.cell))
           (left-is odd gone p s ∙ ap (λ o. change_to p s (left_kept odd gone o)) (sym (kept-part ts s p is))) e way

@@ -6,10 +6,10 @@ use Rattle.rmt_config.specs.Cells.{Content, visible_bits}
 use Rattle.rmt_config.specs.Commits.{leaving_content, staying_content, without_bit}
 use Rattle.rmt_config.specs.Rooms.{PartAt}
 use Rattle.rmt_config.specs.RunCells.{emptied}
-use Rattle.rmt_update.specs.declared.book.kept.Kept.{Kept}
+use Rattle.rmt_book.specs.declared.kept.Kept.{Kept}
 use Rattle.rmt_update.specs.BookStands.{IsKeptOf}
 use Rattle.rmt_update.specs.NextKept.{bit_of}
-use Rattle.rmt_update.specs.Seen.{is_seen}
+use Rattle.rmt_book.specs.Seen.{is_seen}
 use Rattle.rmt_update.proofs.FreeLaws.{seen-bit}
 
 not-one : (n : ℕ) → eqb n 1 ≡ false → n ≢ 1

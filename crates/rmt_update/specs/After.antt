@@ -3,8 +3,8 @@ use Rattle.std.specs.Prelude.{◌≡◌, ℕ, List, ◌++◌, not, ◌==◌, Som
 use Rattle.std.specs.BTreeMap.{BTreeMap}
 use Rattle.rmt_ast.specs.declared.entry.Entry.{Entry}
 use Rattle.rmt_ast.specs.Changes.{list_of}
-use Rattle.rmt_update.specs.Numbered.{IsOrder}
-use Rattle.rmt_update.specs.Running.{is_among}
+use Rattle.rmt_book.specs.Numbered.{IsOrder}
+use Rattle.rmt_lists.specs.Running.{is_among}
 
 -- the maps have these entries
 abbrev pub AreOrders : (ℕ → List Entry) → List (BTreeMap ℕ Entry) → Type 0

@@ -13,13 +13,13 @@ use Rattle.rmt_config.specs.LaneForm.{bits_of_lanes}
 use Rattle.rmt_config.specs.Rooms.{PartAt, parts_of}
 use Rattle.rmt_config.specs.RunCells.{RunCells, emptied}
 use Rattle.rmt_update.specs.declared.book.Book.{Book}
-use Rattle.rmt_update.specs.declared.book.kept.Kept.{Kept}
-use Rattle.rmt_update.specs.declared.book.table.PartCells.{PartCells}
-use Rattle.rmt_update.specs.declared.book.table.TableCells.{TableCells}
+use Rattle.rmt_book.specs.declared.kept.Kept.{Kept}
+use Rattle.rmt_book.specs.declared.table.PartCells.{PartCells}
+use Rattle.rmt_book.specs.declared.table.TableCells.{TableCells}
 use Rattle.rmt_update.specs.BookIndex.{IsBookIndex}
-use Rattle.rmt_update.specs.Kept.{HasBytes, IsKept}
-use Rattle.rmt_update.specs.PartShape.{IsShape}
-use Rattle.rmt_update.specs.Seen.{IsReadable, entries_seen}
+use Rattle.rmt_book.specs.Kept.{HasBytes, IsKept}
+use Rattle.rmt_book.specs.PartShape.{IsShape}
+use Rattle.rmt_book.specs.Seen.{IsReadable, entries_seen}
 
 -- a cell of a part is one in which its key, as many bits as the part's keys have, may stand under a seed
 abbrev pub is_candidate : ℕ → PartAt → ℕ → ℕ → Bool

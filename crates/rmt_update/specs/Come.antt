@@ -10,9 +10,9 @@ use Rattle.rmt_config.specs.Commits.{Placed, placed_now, stay, with_coming}
 use Rattle.rmt_config.specs.RunCells.{RunCells}
 use Rattle.rmt_update.specs.declared.book.Book.{Book}
 use Rattle.rmt_update.specs.declared.book.placing.Coming.{Coming}
-use Rattle.rmt_update.specs.declared.book.table.PartCells.{PartCells}
-use Rattle.rmt_update.specs.declared.book.table.TableCells.{TableCells}
-use Rattle.rmt_update.specs.declared.lists.Changes.{Changes}
+use Rattle.rmt_book.specs.declared.table.PartCells.{PartCells}
+use Rattle.rmt_book.specs.declared.table.TableCells.{TableCells}
+use Rattle.rmt_lists.specs.declared.lists.Changes.{Changes}
 use Rattle.rmt_update.specs.BookStands.{BookStands}
 use Rattle.rmt_update.specs.Placing.{TakesCell}
 use Rattle.rmt_update.specs.Planned.{MayChange, changed_lists}

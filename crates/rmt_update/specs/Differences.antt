@@ -10,14 +10,14 @@ use Rattle.rmt_config.specs.declared.cell_write.CellWrite.{CellWrite}
 use Rattle.rmt_config.specs.Commits.{writes_before}
 use Rattle.rmt_config.specs.RunCells.{is_changed}
 use Rattle.rmt_update.specs.declared.book.changing.CellChange.{CellChange}
-use Rattle.rmt_update.specs.declared.book.grid.Grid.{Grid}
-use Rattle.rmt_update.specs.declared.book.grid.Grid.TheVariants.{Ways, Rows}
-use Rattle.rmt_update.specs.declared.book.kept.Kept.{Kept}
-use Rattle.rmt_update.specs.declared.book.spot.BookSpot.{BookSpot}
-use Rattle.rmt_update.specs.declared.book.table.PartCells.{PartCells}
-use Rattle.rmt_update.specs.declared.book.table.TableCells.{TableCells}
+use Rattle.rmt_book.specs.declared.grid.Grid.{Grid}
+use Rattle.rmt_book.specs.declared.grid.Grid.TheVariants.{Ways, Rows}
+use Rattle.rmt_book.specs.declared.kept.Kept.{Kept}
+use Rattle.rmt_book.specs.declared.spot.BookSpot.{BookSpot}
+use Rattle.rmt_book.specs.declared.table.PartCells.{PartCells}
+use Rattle.rmt_book.specs.declared.table.TableCells.{TableCells}
 use Rattle.rmt_update.specs.Changing.{ChangeKey, change_key, key_cmp}
-use Rattle.rmt_update.specs.Coming.{empty_write, kept_write}
+use Rattle.rmt_book.specs.Coming.{empty_write, kept_write}
 
 -- exact parts have no masks
 abbrev pub is_exact : Grid → Bool

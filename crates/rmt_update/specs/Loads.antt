@@ -22,16 +22,16 @@ use Rattle.rmt_update.specs.declared.book.loading.TableTried.{TableTried}
 use Rattle.rmt_update.specs.declared.book.loading.TableTried.TheVariants as table
 use Rattle.rmt_update.specs.declared.book.loading.Tried.{Tried}
 use Rattle.rmt_update.specs.declared.book.loading.Tried.TheVariants as tried
-use Rattle.rmt_update.specs.declared.book.grid.Grid.{Grid}
-use Rattle.rmt_update.specs.declared.book.grid.Grid.TheVariants as grid
-use Rattle.rmt_update.specs.declared.book.spots.Spot.{Spot}
-use Rattle.rmt_update.specs.declared.book.table.PartCells.{PartCells}
-use Rattle.rmt_update.specs.declared.book.table.TableCells.{TableCells}
-use Rattle.rmt_update.specs.declared.fault.UpdateFault.{UpdateFault}
-use Rattle.rmt_update.specs.declared.fault.UpdateFault.TheVariants.{NoMemory, LoadFull}
+use Rattle.rmt_book.specs.declared.grid.Grid.{Grid}
+use Rattle.rmt_book.specs.declared.grid.Grid.TheVariants as grid
+use Rattle.rmt_book.specs.declared.spots.Spot.{Spot}
+use Rattle.rmt_book.specs.declared.table.PartCells.{PartCells}
+use Rattle.rmt_book.specs.declared.table.TableCells.{TableCells}
+use Rattle.rmt_lists.specs.declared.fault.UpdateFault.{UpdateFault}
+use Rattle.rmt_lists.specs.declared.fault.UpdateFault.TheVariants.{NoMemory, LoadFull}
 use Rattle.rmt_update.specs.FirstFull.{HasNoLoading, IsFirstFull, keys_of}
-use Rattle.rmt_update.specs.PartShape.{IsShape}
-use Rattle.rmt_update.specs.Spots.{placed_from, spots_at}
+use Rattle.rmt_book.specs.PartShape.{IsShape}
+use Rattle.rmt_book.specs.Spots.{placed_from, spots_at}
 
 -- ---- the tables of a configuration
 

@@ -1,8 +1,8 @@
 -- A book's tables with other parts.
 use Rattle.std.specs.Prelude.{List, [], ◌∷◌, Vec}
 use Rattle.std.specs.Global.{Global}
-use Rattle.rmt_update.specs.declared.book.table.PartCells.{PartCells}
-use Rattle.rmt_update.specs.declared.book.table.TableCells.{TableCells}
+use Rattle.rmt_book.specs.declared.table.PartCells.{PartCells}
+use Rattle.rmt_book.specs.declared.table.TableCells.{TableCells}
 
 -- the tables, the first so many of which have these parts
 abbrev pub with_parts : List TableCells → List (Vec PartCells Global) → List TableCells

@@ -1,7 +1,7 @@
 -- What is kept of a cell after a commit that moves none, where no entry comes to it.
 use Rattle.std.specs.Prelude.{ℕ, Bool, if◌then◌else◌, Option, Some, None}
-use Rattle.rmt_update.specs.declared.book.kept.Kept.{Kept}
-use Rattle.rmt_update.specs.Seen.{is_seen}
+use Rattle.rmt_book.specs.declared.kept.Kept.{Kept}
+use Rattle.rmt_book.specs.Seen.{is_seen}
 
 -- the visible bit of odd versions, or of even ones
 abbrev pub bit_of : Bool → ℕ

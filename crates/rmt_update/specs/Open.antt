@@ -3,10 +3,10 @@ use Rattle.std.specs.Prelude.{ℕ, ◌+◌, List, [], ◌∷◌, Bool, false, no
 use Rattle.std.specs.BTreeMap.{get}
 use Rattle.std.specs.BTreeSet.{BTreeSet, contains}
 use Rattle.std.specs.Ordering.{nat_cmp}
-use Rattle.rmt_update.specs.declared.book.kept.Kept.{Kept}
-use Rattle.rmt_update.specs.declared.book.spots.Spot.{Spot}
-use Rattle.rmt_update.specs.declared.book.table.PartCells.{PartCells}
-use Rattle.rmt_update.specs.Seen.{is_seen}
+use Rattle.rmt_book.specs.declared.kept.Kept.{Kept}
+use Rattle.rmt_book.specs.declared.spots.Spot.{Spot}
+use Rattle.rmt_book.specs.declared.table.PartCells.{PartCells}
+use Rattle.rmt_book.specs.Seen.{is_seen}
 
 -- a cell is kept, and seen
 abbrev pub is_kept_seen : Bool → Option Kept → Bool

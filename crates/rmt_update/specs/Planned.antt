@@ -13,13 +13,13 @@ use Rattle.rmt_config.specs.NamesForm.{by_number}
 use Rattle.rmt_config.specs.RunCells.{RunCells, slot_at, with_version}
 use Rattle.rmt_update.specs.declared.book.Book.{Book}
 use Rattle.rmt_update.specs.declared.book.plan.Plan.{Plan}
-use Rattle.rmt_update.specs.declared.fault.UpdateFault.{UpdateFault}
-use Rattle.rmt_update.specs.declared.fault.UpdateFault.TheVariants.{NoMemory, LoadFull}
-use Rattle.rmt_update.specs.declared.lists.Changes.{Changes}
+use Rattle.rmt_lists.specs.declared.fault.UpdateFault.{UpdateFault}
+use Rattle.rmt_lists.specs.declared.fault.UpdateFault.TheVariants.{NoMemory, LoadFull}
+use Rattle.rmt_lists.specs.declared.lists.Changes.{Changes}
 use Rattle.rmt_update.specs.BookStands.{BookStands, IsUsed}
 use Rattle.rmt_update.specs.FirstFull.{HasNoLoading, IsFirstFull}
-use Rattle.rmt_update.specs.Kept.{AreBytesOf}
-use Rattle.rmt_update.specs.Running.{is_among}
+use Rattle.rmt_book.specs.Kept.{AreBytesOf}
+use Rattle.rmt_lists.specs.Running.{is_among}
 
 -- a list of a node without the entries that go and with those that come
 abbrev pub changed_list : Changes → ℕ × List Entry → List Entry

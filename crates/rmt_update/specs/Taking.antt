@@ -14,18 +14,18 @@ use Rattle.rmt_config.specs.Rooms.{PartAt, key_number}
 use Rattle.rmt_update.specs.declared.book.index.TableIndex.{TableIndex}
 use Rattle.rmt_update.specs.declared.book.index.TableIndex.TheVariants.{Cells, Rows}
 use Rattle.rmt_update.specs.declared.book.placing.Coming.{Coming}
-use Rattle.rmt_update.specs.declared.book.row_order.RowOrder.{RowOrder}
-use Rattle.rmt_update.specs.declared.book.spots.Spot.{Spot}
-use Rattle.rmt_update.specs.declared.book.table.PartCells.{PartCells}
-use Rattle.rmt_update.specs.declared.book.table.TableCells.{TableCells}
-use Rattle.rmt_update.specs.Coming.{HasSizes, KeepsEntry}
+use Rattle.rmt_book.specs.declared.row_order.RowOrder.{RowOrder}
+use Rattle.rmt_book.specs.declared.spots.Spot.{Spot}
+use Rattle.rmt_book.specs.declared.table.PartCells.{PartCells}
+use Rattle.rmt_book.specs.declared.table.TableCells.{TableCells}
+use Rattle.rmt_book.specs.Coming.{HasSizes, KeepsEntry}
 use Rattle.rmt_update.specs.Loads.{HasShape}
 use Rattle.rmt_update.specs.NextKept.{bit_of}
 use Rattle.rmt_update.specs.Open.{first_open}
-use Rattle.rmt_update.specs.PartShape.{cells_for}
+use Rattle.rmt_book.specs.PartShape.{cells_for}
 use Rattle.rmt_update.specs.RowIndex.{rows_of}
-use Rattle.rmt_update.specs.RowOrder.{AreInOrder, IsFirstFit, entry_key}
-use Rattle.rmt_update.specs.Spots.{spot_from}
+use Rattle.rmt_book.specs.RowOrder.{AreInOrder, IsFirstFit, entry_key}
+use Rattle.rmt_book.specs.Spots.{spot_from}
 
 -- ---- of an exact table
 

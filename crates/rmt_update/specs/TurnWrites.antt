@@ -4,17 +4,17 @@ use Rattle.std.specs.BTreeMap.{get}
 use Rattle.std.specs.Ordering.{nat_cmp}
 use Rattle.rmt_config.specs.declared.cell_write.CellWrite.{CellWrite}
 use Rattle.rmt_update.specs.declared.book.changing.CellChange.{CellChange}
-use Rattle.rmt_update.specs.declared.book.kept.Kept.{Kept}
+use Rattle.rmt_book.specs.declared.kept.Kept.{Kept}
 use Rattle.rmt_update.specs.declared.book.placing.Coming.{Coming}
-use Rattle.rmt_update.specs.declared.book.spot.BookSpot.{BookSpot}
-use Rattle.rmt_update.specs.declared.book.table.PartCells.{PartCells}
-use Rattle.rmt_update.specs.declared.book.table.TableCells.{TableCells}
+use Rattle.rmt_book.specs.declared.spot.BookSpot.{BookSpot}
+use Rattle.rmt_book.specs.declared.table.PartCells.{PartCells}
+use Rattle.rmt_book.specs.declared.table.TableCells.{TableCells}
 use Rattle.rmt_update.specs.declared.book.turning.CellTurn.{CellTurn}
 use Rattle.rmt_update.specs.declared.book.turning.Turn.{Turn}
 use Rattle.rmt_update.specs.declared.book.turning.Turn.TheVariants.{Empty, Shows}
-use Rattle.rmt_update.specs.BookSpots.{kept_at}
+use Rattle.rmt_book.specs.BookSpots.{kept_at}
 use Rattle.rmt_update.specs.Changing.{ChangeKey}
-use Rattle.rmt_update.specs.Coming.{empty_write, kept_write}
+use Rattle.rmt_book.specs.Coming.{empty_write, kept_write}
 use Rattle.rmt_update.specs.Differences.{Changes, Puts, change_by, is_exact, write_at}
 use Rattle.rmt_update.specs.Turning.{IsSpotIn, left_kept, part_of}
 

@@ -1,11 +1,6 @@
-//! Entry lists of a run, as changes come, and the cells of a configuration with their entries.
+//! The cells of a configuration with their entries, and what changes of the lists of a run make of them.
 #![tactic(auto)]
 
 pub mod book;
-pub mod fault;
-pub mod held;
-mod key_numbers;
-pub mod lists;
-mod reading;
-mod settle;
-mod start;
+
+pub use rmt_lists::{fault, held, lists};

@@ -21,13 +21,13 @@ use Rattle.rmt_entries.specs.declared.named.EntryName.{EntryName}
 use Rattle.rmt_entries.specs.NamedLines.{named_entry, named_key}
 use Rattle.rmt_update.specs.declared.book.Book.{Book}
 use Rattle.rmt_update.specs.declared.book.plan.Plan.{Plan}
-use Rattle.rmt_update.specs.declared.lists.Changes.{Changes}
-use Rattle.rmt_update.specs.declared.lists.Lists.{Lists}
+use Rattle.rmt_lists.specs.declared.lists.Changes.{Changes}
+use Rattle.rmt_lists.specs.declared.lists.Lists.{Lists}
 use Rattle.rmt_update.specs.BookStands.{BookStands}
 use Rattle.rmt_update.specs.Following.{IsNextAbove}
 use Rattle.rmt_update.specs.Planned.{IsPlanned, MayChange, changed_lists}
-use Rattle.rmt_update.specs.Running.{AreChanges, Running, added_to, begins, commit_of, fresh, holds, key_of_entry, key_of_name, line_change, refusal_of, unless, with_entry, with_one, without_key, without_one}
-use Rattle.rmt_update.specs.Stands.{Stands, StandsFor}
+use Rattle.rmt_lists.specs.Running.{AreChanges, Running, added_to, begins, commit_of, fresh, holds, key_of_entry, key_of_name, line_change, refusal_of, unless, with_entry, with_one, without_key, without_one}
+use Rattle.rmt_lists.specs.Stands.{Stands, StandsFor}
 use Rattle.rmt_update.proofs.FollowLaws.{entries_kept, first_above, lists_are, may_change, numbers_kept, own_below, turned_below}
 use Rattle.rmt_update.proofs.SpelledEntries.{spelled_entries}
 use Rattle.rmt_update_tests.specs.Planning.{AreReady, IsNew}

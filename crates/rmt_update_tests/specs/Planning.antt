@@ -7,11 +7,11 @@ use Rattle.rmt_config.specs.declared.config.Config.{Config}
 use Rattle.rmt_config.specs.NamesForm.{entries_spelled}
 use Rattle.rmt_config.specs.RunCells.{RunCells, own_cells}
 use Rattle.rmt_update.specs.declared.book.Book.{Book}
-use Rattle.rmt_update.specs.declared.lists.Lists.{Lists}
+use Rattle.rmt_lists.specs.declared.lists.Lists.{Lists}
 use Rattle.rmt_update.specs.BookStands.{BookStands}
 use Rattle.rmt_update.specs.Following.{AreBelow, IsNextAbove}
-use Rattle.rmt_update.specs.Running.{Running}
-use Rattle.rmt_update.specs.Stands.{Stands}
+use Rattle.rmt_lists.specs.Running.{Running}
+use Rattle.rmt_lists.specs.Stands.{Stands}
 
 -- a book of the cells of a configuration
 abbrev pub IsNew : Config → Book → Type 0

@@ -2,8 +2,8 @@
 
 ghost use Rattle.std.specs.Prelude.{◌≡◌, ◌<◌, ◌∷◌, [], IfOk, IfSome, IsTrue};
 ghost use Rattle.rmt_ast.specs.NameRules.{AreEntriesOf, names_are_formed};
-ghost use Rattle.rmt_update.specs.Running.{Running, begins, is_change};
-ghost use Rattle.rmt_update.specs.Stands.{Stands};
+ghost use Rattle.rmt_lists.specs.Running.{Running, begins, is_change};
+ghost use Rattle.rmt_lists.specs.Stands.{Stands};
 
 use rmt_ast::entry::{Entry, EntryLists};
 use rmt_ast::name::Name;
@@ -447,7 +447,7 @@ fn lists_through_commits(rt: HostRuntime) {
     for &(most, first, then, wanted) in &RUNS {
         assert!(rt; most < 1048577);
         let said = told(rt.alloc(), most, first, then).expect(&rt, "memory");
-        assert_eq!(rt; said.as_str(), wanted);
+        assert!(rt; said.as_str() == wanted, "told {said}");
     }
 }
 
@@ -470,6 +470,6 @@ fn long_lines(rt: HostRuntime) {
         let line = long_line(rt.alloc(), length).expect(&rt, "memory");
         let lines: [&[u8]; 2] = [&line, COMMIT];
         let said = told(rt.alloc(), 100, &lines, &[]).expect(&rt, "memory");
-        assert_eq!(rt; said.as_str(), wanted);
+        assert!(rt; said.as_str() == wanted, "told {said}");
     }
 }

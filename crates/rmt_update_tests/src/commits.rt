@@ -1,7 +1,7 @@
 //! The plain run over packets and commits: which entries a packet is answered by, and what is counted.
 
-ghost use Rattle.rmt_update.specs.Running.{Running};
-ghost use Rattle.rmt_update.specs.Stands.{Stands};
+ghost use Rattle.rmt_lists.specs.Running.{Running};
+ghost use Rattle.rmt_lists.specs.Stands.{Stands};
 
 use crate::changes::{COMMIT, change, empty_lists, is_change};
 use crate::plain::{counted, started};
@@ -118,7 +118,7 @@ fn told(alloc: Global, lines: &[&[u8]]) -> Option<(Vec<u8>, Plain)> {
 #[test]
 fn packets_and_commits(rt: HostRuntime) {
     let (lines, plain) = told(rt.alloc(), &LINES).expect(&rt, "memory");
-    assert_eq!(rt; lines.as_slice(), ANSWERS);
+    assert!(rt; lines.as_slice() == ANSWERS);
     let counts = counted(rt.alloc(), &plain).expect(&rt, "memory");
-    assert_eq!(rt; counts.as_str(), COUNTS);
+    assert!(rt; counts.as_str() == COUNTS, "told {counts}");
 }

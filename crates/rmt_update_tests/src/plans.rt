@@ -5,7 +5,7 @@ ghost use Rattle.std.specs.List.{list_all};
 ghost use Rattle.rmt_ast.specs.declared.entry.Entry.{Entry as EntryOf};
 ghost use Rattle.rmt_config.specs.Form.{Formed};
 ghost use Rattle.rmt_update.specs.declared.book.Book.{Book as BookOf};
-ghost use Rattle.rmt_update.specs.declared.lists.Lists.{Lists as ListsOf};
+ghost use Rattle.rmt_lists.specs.declared.lists.Lists.{Lists as ListsOf};
 ghost use Rattle.rmt_update_tests.specs.Planning.{AreReady, IsNew};
 
 use crate::books::config_of;
@@ -440,7 +440,7 @@ moves 0, 1 0 1 3 3, 1 0 2 3 4, 1 0 3 3 1
 fn plans_of_commits(rt: HostRuntime) {
     for &(image, lines, wanted) in &PLANS {
         let said = told(rt.alloc(), image, lines, true).expect(&rt, "plans");
-        assert_eq!(rt; said.as_str(), wanted);
+        assert!(rt; said.as_str() == wanted, "told {said}");
     }
 }
 
@@ -470,7 +470,7 @@ stays 1
 #[test]
 fn another_seed(rt: HostRuntime) {
     let said = told(rt.alloc(), WIDE_EXACT, EIGHT_KEYS, false).expect(&rt, "plans");
-    assert_eq!(rt; said.as_str(), UNDER_TWO_SEEDS);
+    assert!(rt; said.as_str() == UNDER_TWO_SEEDS, "told {said}");
 }
 
 /// Changes whose commit is refused, further lines, and what comes of both. Keys 4 apart have four cells under each
@@ -519,6 +519,6 @@ stays 0, 1 0 536 2 5, 1 0 1048 2 9, 1 1 536 2 0, 1 1 1048 2 4
 fn full_tables(rt: HostRuntime) {
     for &(changes, later, wanted) in &FULL {
         let said = told_full(rt.alloc(), changes, later).expect(&rt, "a refusal");
-        assert_eq!(rt; said.as_str(), wanted);
+        assert!(rt; said.as_str() == wanted, "told {said}");
     }
 }

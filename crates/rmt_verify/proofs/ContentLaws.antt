@@ -29,7 +29,7 @@ use Rattle.rmt_pack.specs.declared.tcam.TcamWord.{TcamWord}
 use Rattle.rmt_pack.specs.Tcam.{FillsRow, IsWords, joined_words}
 use Rattle.rmt_pack.proofs.TcamLaws.{unit_row-words}
 use Rattle.rmt_verify.specs.Wanted.{Matches, word_in}
-use Rattle.rmt_pack.proofs.LayoutLaws.{at_layout, bytes_hold}
+use Rattle.rmt_config.proofs.LayoutLaws.{at_layout, bytes_hold}
 
 -- ---- bytes of a number
 

@@ -31,7 +31,7 @@ use Rattle.rmt_pack.proofs.PartLaws.{and_at, then_some}
 use Rattle.rmt_refine.proofs.PartLaws.{unit_of_part}
 use Rattle.rmt_pack.proofs.RoomLaws.{PartIs, stages_there}
 use Rattle.rmt_refine.proofs.TheLaw.{key_fields, table_entries}
-use Rattle.rmt_pack.proofs.LayoutLaws.{memory_formed}
+use Rattle.rmt_config.proofs.LayoutLaws.{memory_formed}
 use Rattle.rmt_verify.specs.TableKnown.{NodeKnown, PartKnown, TableKnown}
 use Rattle.rmt_verify.proofs.StageCodeLaws.{applied_table}
 

@@ -8,7 +8,7 @@ use Rattle.std.proofs.lemmas.List.{take_more}
 use Rattle.std.proofs.lemmas.List.Elements.{All-contains_itself, All-weaker, Contains-append_left, Contains-append_right}
 use Rattle.std.proofs.lemmas.Option.{none-some, same_Some}
 use Rattle.rmt_bits.proofs.MemberLaws.{Contains-first, Contains-split}
-use Rattle.rmt_pack.proofs.FindLaws.{same_number}
+use Rattle.rmt_config.proofs.OrderLaws.{same_number}
 use Rattle.rmt_verify.specs.Types.{CellOf}
 use Rattle.rmt_verify.specs.Told.{AreTold, TellApart}
 use Rattle.rmt_verify.proofs.PairLaws.{pairs_before, pairs_more}

@@ -240,7 +240,7 @@ fn compares(rt: &(impl Abort + AllocGlobal), rows: &[Row]) {
     for (changes, want) in rows {
         let parser = parser_of_shape(rt.alloc(), &shape_of(changes)).expect(rt, "memory");
         let got = end_of_join(rt.alloc(), &parser).expect(rt, "memory");
-        assert_eq!(rt; got, *want);
+        assert!(rt; got == *want);
     }
 }
 

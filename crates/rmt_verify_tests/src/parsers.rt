@@ -98,9 +98,9 @@ fn realistic_frames(rt: HostRuntime) -> Result<(), Fail> {
         let parser = parser_of(rt.alloc(), HEADERS, rule)?;
         let mut frame = Vec::new(rt.alloc());
         for (line, want) in FRAMES.as_slice() {
-            assert_eq!(rt; read_packet(*line, &mut frame), Ok(0));
+            assert!(rt; read_packet(*line, &mut frame) == Ok(0));
             assert!(rt; frame.len() < 9217);
-            assert_eq!(rt; parsed(&parser, frame.as_slice()), *want);
+            assert!(rt; parsed(&parser, frame.as_slice()) == *want);
         }
     }
     Ok(())
@@ -128,7 +128,7 @@ fn frames_cut_at_each_byte(rt: HostRuntime) -> Result<(), Fail> {
     let mut frame = Vec::new(rt.alloc());
     for (line, end) in FRAMES.as_slice() {
         if let Parsed::Accept { used } = *end {
-            assert_eq!(rt; read_packet(*line, &mut frame), Ok(0));
+            assert!(rt; read_packet(*line, &mut frame) == Ok(0));
             assert!(rt; frame.len() < 9217);
             for len in 0..frame.len() + 1 {
                 assert!(rt; end_alike(&plain, &clustered, &frame.as_slice()[..len], used));
@@ -155,9 +155,9 @@ fn tails_of_a_header(rt: HostRuntime) -> Result<(), Fail> {
         let mut tails = Tails::new();
         assert!(rt; frame.len() < 9217);
         let got = parse_chip(&parser, frame, &mut vector, &mut tails);
-        assert_eq!(rt; got, answer);
+        assert!(rt; got == answer);
         if got == (Parsed::Accept { used: 5 }) {
-            assert_eq!(rt; tails.get(0), tail);
+            assert!(rt; tails.get(0) == tail);
         }
     }
     Ok(())
@@ -261,9 +261,9 @@ fn sizes_of_parsers(rt: HostRuntime) -> Result<(), Fail> {
         let text = repeated(rt.alloc(), front, piece, times, back)?;
         assert!(rt; text.len() < 10000);
         let got = told(rt.alloc(), text.as_slice(), Rule::Plain)?;
-        assert_eq!(rt; got.as_str(), plain);
+        assert!(rt; got.as_str() == plain);
         let got = told(rt.alloc(), text.as_slice(), Rule::Clustered)?;
-        assert_eq!(rt; got.as_str(), clustered);
+        assert!(rt; got.as_str() == clustered);
     }
     Ok(())
 }

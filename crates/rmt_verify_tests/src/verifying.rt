@@ -236,7 +236,7 @@ const PLACES: [(&[u8], Change, bool); 23] = [
 #[test]
 fn places(rt: HostRuntime) -> Result<(), Fail> {
     for (number, (text, change, want)) in PLACES.iter().enumerate() {
-        assert_eq!(rt; hold(rt.alloc(), text, *change)?, *want, "row {number}");
+        assert!(rt; hold(rt.alloc(), text, *change)? == *want, "row {number}");
     }
     Ok(())
 }
@@ -365,9 +365,8 @@ fn kept(alloc: Global, told: &[Told], starts: &[u16]) -> Result<Option<bool>, Al
 #[test]
 fn edges(rt: HostRuntime) -> Result<(), Fail> {
     for (number, (parts, starts, want)) in KEPT.iter().enumerate() {
-        assert_eq!(rt;
-            kept(rt.alloc(), parts, starts)?,
-            Some(*want),
+        assert!(rt;
+            kept(rt.alloc(), parts, starts)? == Some(*want),
             "row {number}"
         );
     }
@@ -387,7 +386,7 @@ const STAND: [(usize, usize, &[Told], bool); 5] = [
 fn parts(rt: HostRuntime) -> Result<(), Fail> {
     for &(nodes, stages, told, want) in &STAND {
         let parts = told_parts(rt.alloc(), told)?;
-        assert_eq!(rt; parts_stand(nodes, stages, parts.as_slice()), want);
+        assert!(rt; parts_stand(nodes, stages, parts.as_slice()) == want);
     }
     Ok(())
 }

@@ -3,11 +3,11 @@
 
 use crate::call::call;
 use crate::end_without_words;
-use crate::messages::{KeepsFault, Lengths, message_after};
 use crate::tests::messages::{ended, words_of};
 use rmt_io::mem_shelf::MemShelf;
 use rmt_io::mem_sink::MemSink;
-use rmt_io::true_shelf::{MachineFault, TrueShelf};
+use rmt_io::true_shelf::TrueShelf;
+use rmt_messages::messages::{Lengths, message_after};
 use std::alloc::Global;
 use std::io::{ErrorKind, Write};
 use std::test::*;
@@ -62,12 +62,6 @@ impl Lengths for Told {
     }
 }
 
-impl KeepsFault for MemShelf {
-    fn kept_fault(&self) -> Option<&MachineFault> {
-        None
-    }
-}
-
 /// Which call of the shelf and of the sink fails, from 1 on; 0 for none.
 #[derive(Clone, Copy)]
 struct Fails {
@@ -107,81 +101,94 @@ fn is_told(text: &[u8], wanted: &str) -> bool {
     text.starts_with(wanted.as_bytes()) && text.is_empty() == wanted.is_empty()
 }
 
+/// Whether a call of words ends so, and what it says begins so.
+fn says(
+    alloc: Global,
+    words: &[&str],
+    fails: Fails,
+    wanted: u8,
+    begins: &str,
+) -> Result<bool, Fail> {
+    let mut text = Vec::new(alloc);
+    let status = status_of(alloc, words, fails, &mut text)?;
+    Ok(status == wanted && is_told(text.as_slice(), begins))
+}
+
 #[test]
 fn each_kind_of_answer(rt: HostRuntime) -> Result<(), Fail> {
-    let alloc = rt.alloc();
-    for &(words, wanted, begins) in &ROWS {
-        let mut text = Vec::new(alloc);
-        let status = status_of(alloc, words, STEADY, &mut text)?;
+    for (number, &(words, wanted, begins)) in ROWS.iter().enumerate() {
         assert!(rt;
-            status == wanted && is_told(text.as_slice(), begins),
-            "{words:?}: {text:?}"
+            says(rt.alloc(), words, STEADY, wanted, begins)?,
+            "row {number}"
         );
     }
     Ok(())
 }
 
+const NOT_WRITTEN: &str = "rmt: standard output can't be written, or i; ";
+
 /// The image that is written fails, and then the output; and a message that can't be said changes no status.
 #[test]
 fn faults_of_what_is_written(rt: HostRuntime) -> Result<(), Fail> {
-    let alloc = rt.alloc();
-    for &(shelf, sink) in &[(3, 0), (0, 1)] {
-        let mut text = Vec::new(alloc);
-        let status = status_of(alloc, &COMPILE, Fails { shelf, sink }, &mut text)?;
-        let begins = "rmt: standard output can't be written, or i; ";
-        assert!(rt; status == 3 && is_told(text.as_slice(), begins), "{text:?}");
-    }
+    let image = Fails { shelf: 3, sink: 0 };
+    let output = Fails { shelf: 0, sink: 1 };
+    assert!(rt; says(rt.alloc(), &COMPILE, image, 3, NOT_WRITTEN)?);
+    assert!(rt; says(rt.alloc(), &COMPILE, output, 3, NOT_WRITTEN)?);
     let mut none: &mut [u8] = &mut [];
-    let status = status_of(alloc, &["report", "p"], STEADY, &mut none)?;
+    let status = status_of(rt.alloc(), &["report", "p"], STEADY, &mut none)?;
     assert!(rt; status == 7);
     Ok(())
 }
+
+const ABSENT: &str =
+    "rmt: no_such_folder/i can't be read: there is no file of this name, or no folder of its path\n";
 
 /// A fault of the machine has the file's name, and what the system said.
 #[test]
 fn a_file_that_is_absent(rt: HostRuntime) -> Result<(), Fail> {
     let alloc = rt.alloc();
     let words = words_of(alloc, &["report", "no_such_folder/i"])?;
-    let mut shelf = TrueShelf::new(&rt);
     let out = MemSink::new([0].to_vec(alloc)?, 1);
     let mut text = Vec::new(alloc);
+    let mut shelf = TrueShelf::new(&rt);
     let status = call(alloc, &words, &mut shelf, out, &Told {}, &mut text);
-    let wanted =
-        "rmt: no_such_folder/i can't be read: there is no file of this name, or no folder of its path\n";
-    assert!(rt;
-        status == 2 && text.as_slice() == wanted.as_bytes(),
-        "{text:?}"
-    );
+    assert!(rt; status == 2 && text.as_slice() == ABSENT.as_bytes());
     Ok(())
 }
+
+/// What is said after a status with a last line that is empty, and a shelf of no file.
+fn said_after(alloc: Global, words: &[&str], status: u8) -> Result<Vec<u8>, Fail> {
+    let words = words_of(alloc, words)?;
+    let mut shelf = MemShelf::new(Vec::new(alloc), 1);
+    Ok(message_after(alloc, &ended(&words, status, b""), &mut shelf, &Told {})?)
+}
+
+const PACKETS_TOO_LONG: &str =
+    "rmt: a file is longer than its limit\n  long: a packet text has at most 1,099,511,627,776 bytes\n";
 
 /// A packet text is read in pieces, so no shelf names it where it is too long.
 #[test]
 fn a_packet_text_that_is_too_long(rt: HostRuntime) -> Result<(), Fail> {
-    let alloc = rt.alloc();
-    let words = words_of(alloc, &["sim", "i", "long"])?;
-    let mut shelf = MemShelf::new(Vec::new(alloc), 1);
-    let text = message_after(alloc, &ended(&words, 9, b""), &mut shelf, &Told {})?;
-    let wanted =
-        "rmt: a file is longer than its limit\n  long: a packet text has at most 1,099,511,627,776 bytes\n";
-    assert!(rt; text.as_slice() == wanted.as_bytes(), "{text:?}");
+    let text = said_after(rt.alloc(), &["sim", "i", "long"], 9)?;
+    assert!(rt; text.as_slice() == PACKETS_TOO_LONG.as_bytes());
     Ok(())
+}
+
+/// The exit status where the words are refused for this, and whether something is said.
+fn refused(alloc: Global, kind: ErrorKind) -> (u8, bool) {
+    let mut text = Vec::new(alloc);
+    let status = end_without_words(&mut text, kind);
+    (status, text.starts_with(b"rmt: "))
 }
 
 /// After each status but 0 there is a text, also where nothing is known but the words.
 #[test]
 fn each_status(rt: HostRuntime) -> Result<(), Fail> {
-    let alloc = rt.alloc();
-    let words = words_of(alloc, &COMPILE)?;
-    let mut shelf = MemShelf::new(Vec::new(alloc), 1);
     for status in 0..11u8 {
-        let text = message_after(alloc, &ended(&words, status, b""), &mut shelf, &Told {})?;
+        let text = said_after(rt.alloc(), &COMPILE, status)?;
         assert!(rt; text.is_empty() == (status == 0), "{status}");
     }
-    for &(kind, number) in &[(ErrorKind::InvalidInput, 11), (ErrorKind::OutOfMemory, 10)] {
-        let mut text = Vec::new(alloc);
-        let status = end_without_words(&mut text, kind);
-        assert!(rt; status == number && text.starts_with(b"rmt: "), "{text:?}");
-    }
+    assert!(rt; refused(rt.alloc(), ErrorKind::InvalidInput) == (11, true));
+    assert!(rt; refused(rt.alloc(), ErrorKind::OutOfMemory) == (10, true));
     Ok(())
 }

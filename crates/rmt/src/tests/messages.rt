@@ -1,11 +1,11 @@
 //! What standard error is told: the last line that was kept, and messages that quote files read again.
 
-use crate::last_line::LastLine;
-use crate::messages::{Lengths, message_of};
 use rmt_explain::ending::Ending;
 use rmt_io::mem_shelf::MemShelf;
 use rmt_io::mem_sink::MemSink;
 use rmt_io::sink::Sink;
+use rmt_messages::last_line::LastLine;
+use rmt_messages::messages::{Lengths, message_of};
 use std::alloc::{AllocError, Global};
 use std::test::*;
 
@@ -54,54 +54,84 @@ fn kept(alloc: Global, pieces: &[&str]) -> Result<Vec<u8>, Fail> {
     Ok(Vec::from_slice(alloc, out.last_line())?)
 }
 
+/// Pieces that are written, and the last line of them.
+const PIECES: &[(&[&str], &str)] = &[
+    (&[], ""),
+    (&["a\nb\n"], "b\n"),
+    (&["a\n", "b", "c\n"], "bc\n"),
+    (&["a\nb", "\n", "c"], "c"),
+    (&["a\n\n"], "\n"),
+];
+
 #[test]
 fn last_lines(rt: HostRuntime) -> Result<(), Fail> {
-    for &(pieces, wanted) in &[
-        ([].as_slice(), ""),
-        (["a\nb\n"].as_slice(), "b\n"),
-        (["a\n", "b", "c\n"].as_slice(), "bc\n"),
-        (["a\nb", "\n", "c"].as_slice(), "c"),
-        (["a\n\n"].as_slice(), "\n"),
-    ] {
+    for (number, &(pieces, wanted)) in PIECES.iter().enumerate() {
         let line = kept(rt.alloc(), pieces)?;
-        assert_eq!(rt; line.as_slice(), wanted.as_bytes());
+        assert!(rt; line.as_slice() == wanted.as_bytes(), "row {number}");
     }
     Ok(())
 }
+
+/// A file, words, the status and the last line of a call of them, and the message.
+type Row = (
+    (&'static str, &'static [u8]),
+    &'static [&'static str],
+    u8,
+    &'static [u8],
+    &'static str,
+);
+
+/// Whether the message over a shelf of one file, which gives so many bytes at once, is this.
+fn is_said(alloc: Global, most: u32, row: &Row) -> Result<bool, Fail> {
+    let ((name, bytes), words, status, last_line, wanted) = *row;
+    let mut shelf = MemShelf::new(Vec::new(alloc), most.max(1));
+    let name = String::from_str(alloc, name)?;
+    shelf.put_file(&name, &Vec::from_slice(alloc, bytes)?)?;
+    let words = words_of(alloc, words)?;
+    let ending = ended(&words, status, last_line);
+    let told = message_of(alloc, &ending, &mut shelf, &Short {})?;
+    Ok(told.as_slice() == wanted.as_bytes())
+}
+
+const PROGRAM: (&str, &[u8]) = ("p", b"control { }\n");
+
+const WARNED: &[Row] = &[
+    (
+        PROGRAM,
+        &["compile", "p", "e", "i"],
+        0,
+        b"minimal yes\n",
+        "p:1:1: warning: no action of a table assigns `out_port`, so each packet that is not dropped leaves on port 0: assign it in an action\n  1 | control { }\n    | ^^^^^^^\n",
+    ),
+    (
+        PROGRAM,
+        &["compile", "p", "e", "p"],
+        0,
+        b"minimal yes\n",
+        "",
+    ),
+    (PROGRAM, &["plain", "p", "e", "k"], 0, b"minimal yes\n", ""),
+];
 
 /// A program that compiles is warned of, and no program that the call wrote over.
 #[test]
 fn a_program_is_warned_of(rt: HostRuntime) -> Result<(), Fail> {
-    let alloc = rt.alloc();
-    let mut shelf = MemShelf::new(Vec::new(alloc), 7);
-    let program = String::from_str(alloc, "p")?;
-    shelf.put_file(&program, &Vec::from_slice(alloc, b"control { }\n")?)?;
-    let warned =
-        "p:1:1: warning: no action of a table assigns `out_port`, so each packet that is not dropped leaves on port 0: assign it in an action\n  1 | control { }\n    | ^^^^^^^\n";
-    for &(words, wanted) in &[
-        (["compile", "p", "e", "i"].as_slice(), warned),
-        (["compile", "p", "e", "p"].as_slice(), ""),
-        (["plain", "p", "e", "k"].as_slice(), ""),
-    ] {
-        let words = words_of(alloc, words)?;
-        let ending = ended(&words, 0, b"minimal yes\n");
-        let told = message_of(alloc, &ending, &mut shelf, &Short {})?;
-        assert_eq!(rt; told.as_slice(), wanted.as_bytes());
+    for (number, row) in WARNED.iter().enumerate() {
+        assert!(rt; is_said(rt.alloc(), 7, row)?, "row {number}");
     }
     Ok(())
 }
 
+const QUOTED: Row = (
+    ("k", b"0 00\n1 0g\n2 00\n"),
+    &["sim", "i", "k"],
+    8,
+    b"bad packets 1 line 2\n",
+    "k:2:4: `g` is no hexadecimal digit: the frame is digits up to the end of its line\n  2 | 1 0g\n    |    ^\n",
+);
+
 #[test]
 fn a_packet_line_is_quoted(rt: HostRuntime) -> Result<(), Fail> {
-    let alloc = rt.alloc();
-    let mut shelf = MemShelf::new(Vec::new(alloc), 3);
-    let packets = String::from_str(alloc, "k")?;
-    shelf.put_file(&packets, &Vec::from_slice(alloc, b"0 00\n1 0g\n2 00\n")?)?;
-    let words = words_of(alloc, &["sim", "i", "k"])?;
-    let ending = ended(&words, 8, b"bad packets 1 line 2\n");
-    let told = message_of(alloc, &ending, &mut shelf, &Short {})?;
-    let wanted =
-        "k:2:4: `g` is no hexadecimal digit: the frame is digits up to the end of its line\n  2 | 1 0g\n    |    ^\n";
-    assert_eq!(rt; told.as_slice(), wanted.as_bytes());
+    assert!(rt; is_said(rt.alloc(), 3, &QUOTED)?);
     Ok(())
 }

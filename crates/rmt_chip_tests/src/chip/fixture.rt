@@ -122,9 +122,8 @@ fn seen(rt: &impl Abort, chip: &Chip, age: u16, word: u8) -> Option<(u64, u32)> 
 fn look(rt: &impl Abort, chip: &Chip, now: usize, looks: &[Look]) {
     for (cycle, age, word, wanted) in looks {
         if *cycle == now {
-            assert_eq!(rt;
-                seen(rt, chip, *age, *word),
-                *wanted,
+            assert!(rt;
+                seen(rt, chip, *age, *word) == *wanted,
                 "word {word} at age {age} in cycle {cycle}"
             );
         }
@@ -157,26 +156,48 @@ fn answered(
         None => (None, &[]),
         Some((_, _, verdict, sent)) => (*verdict, *sent),
     };
-    assert_eq!(rt; verdict, wanted, "cycle {cycle}");
-    assert_eq!(rt; bytes, sent, "cycle {cycle}");
+    assert!(rt; verdict == wanted, "cycle {cycle}");
+    assert!(rt; bytes == sent, "cycle {cycle}");
+}
+
+/// A counter: the entry's number, packets and bytes.
+pub fn counted(chip: &Chip, at: usize) -> Option<(u32, u64, u64)> {
+    match chip.counters().get(at) {
+        None => None,
+        Some(count) => Some((count.entry, count.packets, count.bytes)),
+    }
+}
+
+/// Replays rows over a new chip of an image in several texts, and answers its first counter behind them.
+pub fn replay_new(
+    rt: &(impl Abort + AllocGlobal),
+    texts: &[&str],
+    latency: u16,
+    rows: &[Row<'_>],
+    looks: &[Look],
+) -> Result<Option<(u32, u64, u64)>, Fail> {
+    let mut out = Out::new(rt.alloc())?;
+    let mut chip = open(rt, texts)?;
+    replay(rt, &mut chip, &mut out, latency, rows, looks);
+    Ok(counted(&chip, 0))
 }
 
 /// Clocks a chip with an input a cycle, and then with nothing, until two cycles after the last row
 /// has left; compares each answer, and what is seen on the way.
 pub fn replay(
-    rt: &(impl Abort + AllocGlobal),
+    rt: &impl Abort,
     chip: &mut Chip,
+    out: &mut Out,
     latency: u16,
     rows: &[Row<'_>],
     looks: &[Look],
-) -> Result<(), Fail> {
-    assert_eq!(rt; chip.latency(), latency);
+) {
+    assert!(rt; chip.latency() == latency);
     let latency = usize::from(latency);
-    let mut out = Out::new(rt.alloc())?;
     let cycles = rows.len().saturating_add(latency + 2);
     for cycle in 0..cycles {
         let input = input_of(rows.get(cycle));
-        let verdict = step(rt, chip, &mut out, input);
+        let verdict = step(rt, chip, out, input);
         let leaving = if cycle < latency {
             None
         } else {
@@ -185,5 +206,4 @@ pub fn replay(
         answered(rt, cycle, verdict, out.bytes(), leaving);
         look(rt, chip, cycle, looks);
     }
-    Ok(())
 }

@@ -1,7 +1,7 @@
 //! Look-ups and gates in small chips, worked out by hand. A key is the first byte of a frame, and an
 //! entry that is hit, or the default, changes the second.
 
-use crate::chip::fixture::{Row, SENT, TWO_BYTES, open, replay, step};
+use crate::chip::fixture::{Row, SENT, TWO_BYTES, counted, open, replay, replay_new, step};
 use rmt_bits::answer::Verdict;
 use rmt_chip::chip::Chip;
 use rmt_chip::out::Out;
@@ -30,8 +30,8 @@ fn passes_ages(rt: &impl Abort, chip: &mut Chip, out: &mut Out) {
     for age in 1..13u32 {
         let verdict = if age == 12 { SENT } else { None };
         let count = if age < 8 { (7, 0, 0) } else { (7, 1, 3) };
-        assert_eq!(rt; step(rt, chip, out, None), verdict, "age {age}");
-        assert_eq!(rt; counted(chip, 0), Some(count), "age {age}");
+        assert!(rt; step(rt, chip, out, None) == verdict, "age {age}");
+        assert!(rt; counted(chip, 0) == Some(count), "age {age}");
     }
 }
 
@@ -41,26 +41,22 @@ const PASSING: [Row; 3] = [
     (0, &[0x21, 1, 2], SENT, &[0x21, 0x5c, 2]),
 ];
 
+/// A packet alone, and then all of `PASSING`, with the counter on the way.
+fn passes(rt: &impl Abort, chip: &mut Chip, out: &mut Out) {
+    assert!(rt; step(rt, chip, out, Some((0, &[0x21, 0, 9]))) == None);
+    passes_ages(rt, chip, out);
+    assert!(rt; out.bytes() == [0x21, 0x5c, 9].as_slice());
+    replay(rt, chip, out, 12, &PASSING, &[]);
+    assert!(rt; counted(chip, 0) == Some((7, 3, 8)));
+}
+
 /// A hit runs the entry's instruction with its data, and a miss the default.
 #[test]
 fn exact_hit_and_miss(rt: HostRuntime) -> Result<(), Fail> {
-    let mut chip = open(&rt, &[TWO_BYTES, EXACT])?;
     let mut out = Out::new(rt.alloc())?;
-    let entering: Option<(u16, &[u8])> = Some((0, &[0x21, 0, 9]));
-    assert_eq!(rt; step(&rt, &mut chip, &mut out, entering), None);
-    passes_ages(&rt, &mut chip, &mut out);
-    assert_eq!(rt; out.bytes(), [0x21, 0x5c, 9].as_slice());
-    replay(&rt, &mut chip, 12, &PASSING, &[])?;
-    assert_eq!(rt; counted(&chip, 0), Some((7, 3, 8)));
+    let mut chip = open(&rt, &[TWO_BYTES, EXACT])?;
+    passes(&rt, &mut chip, &mut out);
     Ok(())
-}
-
-/// A counter: the entry's number, packets and bytes.
-fn counted(chip: &Chip, at: usize) -> Option<(u32, u64, u64)> {
-    match chip.counters().get(at) {
-        None => None,
-        Some(count) => Some((count.entry, count.packets, count.bytes)),
-    }
 }
 
 /// A ternary table in two parts of two rows each. The heads and data of the rows, 16 bits each, stand in a row of SRAM.
@@ -98,8 +94,8 @@ const SPLIT: [Row; 6] = [
 /// An earlier row, and an earlier part, comes before a later one, and only the last part runs the default, once.
 #[test]
 fn split_ternary(rt: HostRuntime) -> Result<(), Fail> {
-    let mut chip = open(&rt, &[TWO_BYTES, TWO_PARTS])?;
-    replay(&rt, &mut chip, 13, &SPLIT, &[])
+    replay_new(&rt, &[TWO_BYTES, TWO_PARTS], 13, &SPLIT, &[])?;
+    Ok(())
 }
 
 /// A gate that passes where word 3 is 5, and two tables without a key behind it, one for each outcome.
@@ -121,8 +117,8 @@ const GATED: [Row; 3] = [
 /// A gate and its two arms in one stage.
 #[test]
 fn gate_with_arms(rt: HostRuntime) -> Result<(), Fail> {
-    let mut chip = open(&rt, &[TWO_BYTES, ARMS, NO_ROWS])?;
-    replay(&rt, &mut chip, 12, &GATED, &[])
+    replay_new(&rt, &[TWO_BYTES, ARMS, NO_ROWS], 12, &GATED, &[])?;
+    Ok(())
 }
 
 /// A gate that passes where word 3 is 5, and a counted ternary table behind it with the entry 4: key 0x42 drops.
@@ -149,8 +145,7 @@ const BEHIND: [Row; 4] = [
 /// counted; the hit of a packet that is dropped is counted.
 #[test]
 fn guarded_table(rt: HostRuntime) -> Result<(), Fail> {
-    let mut chip = open(&rt, &[TWO_BYTES, GUARDED])?;
-    replay(&rt, &mut chip, 12, &BEHIND, &[])?;
-    assert_eq!(rt; counted(&chip, 0), Some((4, 2, 5)));
+    let count = replay_new(&rt, &[TWO_BYTES, GUARDED], 12, &BEHIND, &[])?;
+    assert!(rt; count == Some((4, 2, 5)));
     Ok(())
 }

@@ -1,7 +1,7 @@
 //! Changed cells and versions while packets are in flight, worked out by hand. In `SEVEN` a packet reads its key at age 12 and
 //! leaves at age 24, with the port that the entry of key 7 gives, or port 0 where it finds none.
 
-use crate::chip::fixture::{TWO_BYTES, at, bytes_of, commit, open, step, write};
+use crate::chip::fixture::{TWO_BYTES, at, bytes_of, commit, counted, open, step, write};
 use rmt_bits::answer::Verdict;
 use rmt_bits::sequence::Sequence;
 use rmt_chip::chip::Chip;
@@ -161,23 +161,53 @@ fn sent(port: Option<u16>) -> Option<Verdict> {
     }
 }
 
-/// A chip of `SEVEN` with room for a counter.
-fn seven(rt: &(impl Abort + AllocGlobal)) -> Result<Chip, Fail> {
-    let mut chip = open(rt, &[SEVEN])?;
+/// Clocks a chip of `SEVEN` through what comes, and compares the answers.
+fn runs(
+    rt: &(impl Abort + AllocGlobal),
+    chip: &mut Chip,
+    out: &mut Out,
+    run: Run,
+) -> Result<(), Fail> {
+    let (comings, answers) = run;
     chip.reserve(1)?;
-    Ok(chip)
+    for now in 0..30 {
+        let verdict = cycle(rt, chip, at(comings, now), out)?;
+        assert!(rt; verdict == sent(at(answers, now)), "cycle {now}");
+    }
+    Ok(())
+}
+
+/// A run over a new chip.
+fn runs_new(rt: &(impl Abort + AllocGlobal), out: &mut Out, run: Run) -> Result<(), Fail> {
+    let mut chip = open(rt, &[SEVEN])?;
+    runs(rt, &mut chip, out, run)
 }
 
 /// Each packet is answered by the cells as they stand in the cycle in which it reads them, under its own version.
 #[test]
 fn changed_cells(rt: HostRuntime) -> Result<(), Fail> {
     let mut out = Out::new(rt.alloc())?;
-    for (comings, answers) in &RUNS {
-        let mut chip = seven(&rt)?;
-        for now in 0..30 {
-            let verdict = cycle(&rt, &mut chip, at(comings, now), &mut out)?;
-            assert_eq!(rt; verdict, sent(at(answers, now)), "cycle {now}");
-        }
+    for run in &RUNS {
+        runs_new(&rt, &mut out, *run)?;
+    }
+    Ok(())
+}
+
+/// Clocks a chip of `SEVEN` through the packets of two versions, and looks at the oldest version.
+fn ages(rt: &(impl Abort + AllocGlobal), chip: &mut Chip, out: &mut Out) -> Result<(), Fail> {
+    let (comings, _) = RUNS[5];
+    chip.reserve(1)?;
+    assert!(rt; chip.oldest() == None);
+    for now in 0..30 {
+        cycle(rt, chip, at(comings, now), out)?;
+        let oldest = if now < 24 {
+            Some(0)
+        } else if now < 28 {
+            Some(1)
+        } else {
+            None
+        };
+        assert!(rt; chip.oldest() == oldest, "cycle {now}");
     }
     Ok(())
 }
@@ -186,21 +216,8 @@ fn changed_cells(rt: HostRuntime) -> Result<(), Fail> {
 #[test]
 fn oldest_versions(rt: HostRuntime) -> Result<(), Fail> {
     let mut out = Out::new(rt.alloc())?;
-    let mut chip = seven(&rt)?;
-    assert_eq!(rt; chip.oldest(), None);
-    let (comings, _) = RUNS[5];
-    for now in 0..30 {
-        cycle(&rt, &mut chip, at(comings, now), &mut out)?;
-        let oldest = if now < 24 {
-            Some(0)
-        } else if now < 28 {
-            Some(1)
-        } else {
-            None
-        };
-        assert_eq!(rt; chip.oldest(), oldest, "cycle {now}");
-    }
-    Ok(())
+    let mut chip = open(&rt, &[SEVEN])?;
+    ages(&rt, &mut chip, &mut out)
 }
 
 /// A counted ternary table of two rows, of which the first has entry 4: key 0x42 drops.
@@ -217,13 +234,42 @@ const COUNTED: &str = "
 
 /// The counters: numbers, packets and bytes.
 fn counts(chip: &Chip) -> [Option<(u32, u64, u64)>; 3] {
-    let mut found = [None; 3];
-    for at in 0..3 {
-        if let Some(count) = chip.counters().get(at) {
-            found[at] = Some((count.entry, count.packets, count.bytes));
-        }
+    [counted(chip, 0), counted(chip, 1), counted(chip, 2)]
+}
+
+/// A changed row that brings the number 9, for key 0x43.
+fn row_of_nine(alloc: Global, visible: u8) -> Result<CellWrite, AllocError> {
+    Ok(CellWrite {
+        stage: 0,
+        unit: 0,
+        cell: 1,
+        visible,
+        code: 0,
+        key: bytes_of(alloc, &[0x43])?,
+        mask: bytes_of(alloc, &[0xff])?,
+        held: Sequence::new(alloc),
+        number: 9,
+    })
+}
+
+/// Clocks a chip with `COUNTED` while the row comes and goes, and looks at the counters.
+fn counts_nine(
+    rt: &(impl Abort + AllocGlobal),
+    chip: &mut Chip,
+    out: &mut Out,
+) -> Result<(), Fail> {
+    chip.reserve(1)?;
+    let come = row_of_nine(rt.alloc(), 3)?;
+    let gone = row_of_nine(rt.alloc(), 0)?;
+    write(rt, chip, out, &come);
+    assert!(rt; counts(chip) == [Some((4, 0, 0)), Some((9, 0, 0)), None]);
+    step(rt, chip, out, Some((0, &[0x43, 1, 2])));
+    write(rt, chip, out, &gone);
+    for _age in 2..12 {
+        step(rt, chip, out, Some((0, &[0x43, 1, 2])));
     }
-    found
+    assert!(rt; counts(chip) == [Some((4, 0, 0)), Some((9, 1, 3)), None]);
+    Ok(())
 }
 
 /// A number that only a changed cell brought has a counter from then on, also when its entry goes.
@@ -231,43 +277,27 @@ fn counts(chip: &Chip) -> [Option<(u32, u64, u64)>; 3] {
 fn brought_number(rt: HostRuntime) -> Result<(), Fail> {
     let mut out = Out::new(rt.alloc())?;
     let mut chip = open(&rt, &[TWO_BYTES, COUNTED])?;
-    chip.reserve(1)?;
-    let mut changed = CellWrite {
-        stage: 0,
-        unit: 0,
-        cell: 1,
-        visible: 3,
-        code: 0,
-        key: bytes_of(rt.alloc(), &[0x43])?,
-        mask: bytes_of(rt.alloc(), &[0xff])?,
-        held: Sequence::new(rt.alloc()),
-        number: 9,
-    };
-    write(&rt, &mut chip, &mut out, &changed);
-    assert_eq!(rt; counts(&chip), [Some((4, 0, 0)), Some((9, 0, 0)), None]);
-    step(&rt, &mut chip, &mut out, Some((0, &[0x43, 1, 2])));
-    changed.visible = 0;
-    write(&rt, &mut chip, &mut out, &changed);
-    for _age in 2..12 {
-        step(&rt, &mut chip, &mut out, Some((0, &[0x43, 1, 2])));
-    }
-    assert_eq!(rt; counts(&chip), [Some((4, 0, 0)), Some((9, 1, 3)), None]);
-    Ok(())
+    counts_nine(&rt, &mut chip, &mut out)
 }
 
 /// For how many numbers room is asked, one after another.
 const ROOMS: [u32; 4] = [0, 3, 1, 300];
+
+/// Asks a chip for room for so many numbers.
+fn has_room(rt: &impl Abort, chip: &mut Chip, wanted: u32) {
+    let before = chip.spare();
+    match chip.reserve(wanted) {
+        Ok(()) => assert!(rt; chip.spare() >= wanted as usize, "room for {wanted}"),
+        Err(_) => assert!(rt; chip.spare() == before, "room for {wanted}"),
+    }
+}
 
 /// There is room afterwards for as many numbers as were asked for, or as much as before.
 #[test]
 fn room_for_counters(rt: HostRuntime) -> Result<(), Fail> {
     let mut chip = open(&rt, &[TWO_BYTES, COUNTED])?;
     for wanted in &ROOMS {
-        let before = chip.spare();
-        match chip.reserve(*wanted) {
-            Ok(()) => assert!(rt; chip.spare() >= *wanted as usize, "room for {wanted}"),
-            Err(_) => assert_eq!(rt; chip.spare(), before, "room for {wanted}"),
-        }
+        has_room(&rt, &mut chip, *wanted);
     }
     Ok(())
 }

@@ -1,9 +1,11 @@
 //! Images and maps that no command writes, and what `verify` tells of them: formats, cells, blocks, words and stages that no
 //! rule chooses, and the placement of a better placer.
 
-use crate::fixtures::commands::{STEADY, put, run_on, run_over, shelf_of};
+use crate::fixtures::cases::{COMPILE_MAPPED, Told, VERIFY, ends, file_of, tells};
+use crate::fixtures::commands::{STEADY, put, run_over, shelf_of};
 use crate::fixtures::programs::better_order;
 use rmt_core::status::Status;
+use rmt_io::mem_shelf::MemShelf;
 use rmt_tests::fixtures::programs::STRICT_AND_WEAK;
 use std::alloc::{AllocError, Global};
 use std::test::*;
@@ -278,55 +280,57 @@ const PLACEMENTS: [Row; 7] = [
     ),
 ];
 
-/// Pieces of bytes behind one another, and behind a front.
-fn joined(alloc: Global, front: &[u8], pieces: &[&[u8]]) -> Result<Vec<u8>, AllocError> {
-    let mut bytes = Vec::from_slice(alloc, front)?;
+/// Puts pieces of bytes behind what is there.
+fn join(bytes: &mut Vec<u8>, pieces: &[&[u8]]) -> Result<(), AllocError> {
     for piece in pieces {
         bytes.extend_from_slice(*piece)?;
     }
-    Ok(bytes)
+    Ok(())
 }
 
-/// Whether `verify` of an image and a map, which is in pieces behind what all of them begin with, tells this.
-fn tells(alloc: Global, image: Vec<u8>, map: &[&[u8]], wanted: &str) -> Result<bool, Fail> {
-    let map = joined(alloc, PLACES, map)?;
+/// An image in groups of pieces, behind what all of them begin with.
+fn image_in(alloc: Global, groups: &[&[&[u8]]]) -> Result<Vec<u8>, AllocError> {
+    let mut image = Vec::from_slice(alloc, LETTERS)?;
+    for pieces in groups {
+        join(&mut image, *pieces)?;
+    }
+    Ok(image)
+}
+
+/// A map in pieces, behind what all of them begin with.
+fn map_in(alloc: Global, pieces: &[&[u8]]) -> Result<Vec<u8>, AllocError> {
+    let mut map = Vec::from_slice(alloc, PLACES)?;
+    join(&mut map, pieces)?;
+    Ok(map)
+}
+
+/// Whether `verify` of an image and a map, both in pieces behind what all of them begin with, tells this.
+fn is_told(alloc: Global, image: &[&[&[u8]]], map: &[&[u8]], wanted: &str) -> Result<bool, Fail> {
+    let image = image_in(alloc, image)?;
+    let map = map_in(alloc, map)?;
     let files = [
         ("p", STRICT_AND_WEAK),
         ("e", b"b 7 go 5\n".as_slice()),
         ("i", image.as_slice()),
         ("m", map.as_slice()),
     ];
-    let left = run_on(alloc, &["verify", "p", "e", "i", "m"], &files, STEADY)?;
-    Ok(left.status == Status::Done && left.printed.as_slice() == wanted.as_bytes())
-}
-
-/// Whether `verify` of an image and a map, both in pieces behind what all of them begin with, tells this.
-fn is_told(alloc: Global, image: &[&[&[u8]]], map: &[&[u8]], wanted: &str) -> Result<bool, Fail> {
-    let mut whole = Vec::from_slice(alloc, LETTERS)?;
-    for pieces in image {
-        whole = joined(alloc, whole.as_slice(), *pieces)?;
-    }
-    tells(alloc, whole, map, wanted)
+    ends(alloc, &files, VERIFY, Status::Done, Told::Is(wanted))
 }
 
 #[test]
 fn other_formats(rt: HostRuntime) -> Result<(), Fail> {
-    let alloc = rt.alloc();
-    for (number, (memory, rows, cell, wanted)) in FORMATS.iter().enumerate() {
-        let named = joined(alloc, LETTERS, NAMED)?;
-        let held = joined(alloc, named.as_slice(), &[*memory])?;
-        let beside = joined(alloc, held.as_slice(), BESIDE)?;
-        let image = joined(alloc, beside.as_slice(), &[*rows, NAMES])?;
-        let map = [HERE, IN_TWO_STAGES, *cell];
-        assert!(rt; tells(alloc, image, &map, *wanted)?, "row {number}");
+    for (number, &(memory, rows, cell, wanted)) in FORMATS.iter().enumerate() {
+        let image: [&[&[u8]]; 4] = [NAMED, &[memory], BESIDE, &[rows, NAMES]];
+        let map = [HERE, IN_TWO_STAGES, cell];
+        assert!(rt; is_told(rt.alloc(), &image, &map, wanted)?, "row {number}");
     }
     Ok(())
 }
 
 #[test]
 fn other_placements(rt: HostRuntime) -> Result<(), Fail> {
-    for (number, (image, map, wanted)) in PLACEMENTS.iter().enumerate() {
-        assert!(rt; is_told(rt.alloc(), *image, *map, *wanted)?, "row {number}");
+    for (number, &(image, map, wanted)) in PLACEMENTS.iter().enumerate() {
+        assert!(rt; is_told(rt.alloc(), image, map, wanted)?, "row {number}");
     }
     Ok(())
 }
@@ -351,31 +355,35 @@ fn in_two_stages(alloc: Global, map: &[u8]) -> Result<Vec<u8>, AllocError> {
     Ok(other)
 }
 
-/// What `improve` wrote has the map of its own placement, and not that of `compile`, whose image has that one alone.
-#[test]
-fn better_placement(rt: HostRuntime) -> Result<(), Fail> {
-    let alloc = rt.alloc();
+/// A shelf with the images `i` of `compile` and `j` of `improve`, and their maps `m` and `n`.
+fn two_placements(alloc: Global) -> Result<MemShelf, Fail> {
     let program = better_order(alloc)?;
     let files = [("p", program.as_slice()), ("e", b"".as_slice())];
     let mut shelf = shelf_of(alloc, &files, STEADY)?;
-    run_over(alloc, &["compile", "p", "e", "i", "m"], &mut shelf, STEADY)?;
+    run_over(alloc, COMPILE_MAPPED, &mut shelf, STEADY)?;
     run_over(alloc, &["improve", "p", "e", "j", "2"], &mut shelf, STEADY)?;
-    let name = String::from_str(alloc, "m")?;
-    let other = match shelf.file(&name) {
-        Some(map) => in_two_stages(alloc, map.as_slice())?,
-        None => Vec::new(alloc),
-    };
+    let map = file_of(alloc, &shelf, "m")?;
+    let other = in_two_stages(alloc, map.as_slice())?;
     put(alloc, &mut shelf, "n", other.as_slice())?;
-    for &(image, map, wanted) in &[
-        ("i", "m", "yes\n"),
-        ("j", "n", "yes\n"),
-        ("i", "n", "no 3\n"),
-        ("j", "m", "no 3\n"),
-    ] {
-        let words = ["verify", "p", "e", image, map];
-        let (status, told) = run_over(alloc, words.as_slice(), &mut shelf, STEADY)?;
-        let is_told = status == Status::Done && told.as_slice() == wanted.as_bytes();
-        assert!(rt; is_told, "{image} {map}");
+    Ok(shelf)
+}
+
+/// Words that verify an image and a map, and what is told.
+const BETTER: &[(&[&str], &str)] = &[
+    (&["verify", "p", "e", "i", "m"], "yes\n"),
+    (&["verify", "p", "e", "j", "n"], "yes\n"),
+    (&["verify", "p", "e", "i", "n"], "no 3\n"),
+    (&["verify", "p", "e", "j", "m"], "no 3\n"),
+];
+
+/// What `improve` wrote has the map of its own placement, and not that of `compile`, whose image has that one alone.
+#[test]
+fn better_placement(rt: HostRuntime) -> Result<(), Fail> {
+    let mut shelf = two_placements(rt.alloc())?;
+    for (number, &(words, wanted)) in BETTER.iter().enumerate() {
+        let told = Told::Is(wanted);
+        let is_told = tells(rt.alloc(), words, &mut shelf, STEADY, Status::Done, told)?;
+        assert!(rt; is_told, "row {number}");
     }
     Ok(())
 }

@@ -1,6 +1,7 @@
 //! Each call of the shelf and of the sink fails in turn, one number at a time, until a run meets no fault.
 
 use crate::fixtures::captures::capture_of;
+use crate::fixtures::cases::file_of;
 use crate::fixtures::commands::{Left, Outside, STEADY, run_on};
 use crate::fixtures::programs::TO_A_GROUP;
 use rmt_core::status::Status;
@@ -112,11 +113,7 @@ impl Row<'_> {
 fn made(alloc: Global, program: &[u8], entries: &str, name: &str) -> Result<Vec<u8>, Fail> {
     let files = [("p", program), ("e", entries.as_bytes())];
     let left = run_on(alloc, &["compile", "p", "e", "o", "n"], &files, STEADY)?;
-    let name = String::from_str(alloc, name)?;
-    match left.shelf.file(&name) {
-        Some(bytes) => Ok(Vec::from_slice(alloc, bytes.as_slice())?),
-        None => Ok(Vec::new(alloc)),
-    }
+    Ok(file_of(alloc, &left.shelf, name)?)
 }
 
 /// The images, the map and the capture that the commands read.
@@ -261,30 +258,37 @@ fn holds(alloc: Global, row: Row<'_>, given: &Given) -> Result<bool, Fail> {
 fn each_call_fails(rt: HostRuntime) -> Result<(), Fail> {
     let alloc = rt.alloc();
     let given = read_files(alloc)?;
-    for parts in ROWS.iter() {
-        assert!(rt; holds(alloc, row_of(parts), &given)?, "{:?}", parts.0);
+    for (number, parts) in ROWS.iter().enumerate() {
+        assert!(rt; holds(alloc, row_of(parts), &given)?, "row {number}");
     }
     Ok(())
 }
 
-/// A shelf that gives one byte at a time, and a sink that takes one.
+/// What is given and taken a byte at a time.
+const SINGLE: Outside = Outside {
+    given: 1,
+    taken: 1,
+    ..STEADY
+};
+
+/// Whether a command ends as ever where a shelf gives one byte at a time, and a sink takes one.
+fn holds_in_bytes(alloc: Global, row: Row<'_>, given: &Given) -> Result<bool, Fail> {
+    let whole = run(alloc, row.words, given, STEADY)?;
+    let left = run(alloc, row.words, given, SINGLE)?;
+    let all = row.writes.len() as u64;
+    let are_files = are_of(alloc, row, all, &left.shelf, &whole.shelf, &whole.shelf)?;
+    Ok(left.status == Status::Done && left.printed == whole.printed && are_files)
+}
+
 #[test]
 fn a_byte_at_a_time(rt: HostRuntime) -> Result<(), Fail> {
     let alloc = rt.alloc();
     let given = read_files(alloc)?;
-    let single = Outside {
-        given: 1,
-        taken: 1,
-        ..STEADY
-    };
-    for parts in ROWS.iter() {
-        let row = row_of(parts);
-        let whole = run(alloc, row.words, &given, STEADY)?;
-        let left = run(alloc, row.words, &given, single)?;
-        let is_whole = left.status == Status::Done && left.printed == whole.printed;
-        let all = row.writes.len() as u64;
-        let are_files = are_of(alloc, row, all, &left.shelf, &whole.shelf, &whole.shelf)?;
-        assert!(rt; is_whole && are_files, "{:?}", row.words);
+    for (number, parts) in ROWS.iter().enumerate() {
+        assert!(rt;
+            holds_in_bytes(alloc, row_of(parts), &given)?,
+            "row {number}"
+        );
     }
     Ok(())
 }

@@ -1,8 +1,13 @@
 //! What `verify` tells of what `compile` writes with a map, of maps and images that are changed, and of bytes that are none.
 
-use crate::fixtures::commands::{STEADY, put, run_over, shelf_of};
+use crate::fixtures::cases::{
+    COMPILE, COMPILE_MAPPED, Case, Told, VERIFY, are_alike, are_same, file_of, has_file, holds,
+    tells,
+};
+use crate::fixtures::commands::{STEADY, put, run_on, run_over, shelf_of};
 use crate::fixtures::programs::*;
 use rmt_core::status::Status;
+use rmt_io::mem_shelf::MemShelf;
 use rmt_tests::fixtures::programs::{REALISTIC, REALISTIC_ENTRIES, STRICT_AND_WEAK};
 use std::alloc::Global;
 use std::test::*;
@@ -15,7 +20,9 @@ const SMALLEST_MAP: [u8; 45] = [
 
 /// From a place of the map on, how many bytes are left out, the bytes that stand there instead, how `verify` ends, and
 /// what it prints.
-const CHANGED: [(usize, usize, &[u8], Status, &str); 11] = [
+type Change = (usize, usize, &'static [u8], Status, &'static str);
+
+const CHANGED: [Change; 11] = [
     (0, 0, &[], Status::Done, "yes\n"),
     (15, 1, &[0x42], Status::Done, "no 1\n"), // out_port in another word
     (13, 1, &[8], Status::Done, "no 1\n"), // in_port of 8 bits
@@ -52,45 +59,57 @@ fn changed(alloc: Global, at: usize, out: usize, bytes: &[u8]) -> Result<Vec<u8>
     Ok(map)
 }
 
-/// What `verify` of the smallest program, its image and a map gives.
-fn told_of(alloc: Global, map: &[u8]) -> Result<(Status, Vec<u8>), Fail> {
-    let files = [("p", SMALLEST), ("e", b"".as_slice())];
-    let mut shelf = shelf_of(alloc, &files, STEADY)?;
-    let (_made, _lines) = run_over(alloc, &["compile", "p", "e", "i"], &mut shelf, STEADY)?;
-    put(alloc, &mut shelf, "m", map)?;
-    run_over(alloc, &["verify", "p", "e", "i", "m"], &mut shelf, STEADY)
+/// Whether `verify` of the smallest program, its image and a changed map ends so.
+fn is_told(alloc: Global, change: &Change) -> Result<bool, Fail> {
+    let (at, out, bytes, status, printed) = *change;
+    let map = changed(alloc, at, out, bytes)?;
+    let files = [
+        ("p", SMALLEST),
+        ("e", b"".as_slice()),
+        ("m", map.as_slice()),
+    ];
+    let case = Case {
+        before: &[COMPILE],
+        words: VERIFY,
+        outside: STEADY,
+        status,
+        told: Told::Is(printed),
+    };
+    holds(alloc, &files, case)
 }
 
 #[test]
 fn smallest(rt: HostRuntime) -> Result<(), Fail> {
-    let alloc = rt.alloc();
-    for (number, (at, out, bytes, status, printed)) in CHANGED.iter().enumerate() {
-        let map = changed(alloc, *at, *out, bytes)?;
-        let (ended, lines) = told_of(alloc, map.as_slice())?;
-        let is_told = ended == *status && lines.as_slice() == printed.as_bytes();
-        assert!(rt; is_told, "row {number}");
+    for (number, change) in CHANGED.iter().enumerate() {
+        assert!(rt; is_told(rt.alloc(), change)?, "row {number}");
     }
     Ok(())
 }
 
+/// Words over the smallest program, its image and its map, and how they end.
+const REFUSED: &[(&[&str], Status)] = &[
+    (&["verify", "a", "b", "c", "d"], Status::ReadFault),
+    (&["verify", "p", "e", "i", "a"], Status::ReadFault),
+    (&["verify", "m", "p", "m", "m"], Status::BadProgram),
+    (&["verify", "p", "p", "m", "m"], Status::BadEntries),
+    (&["verify", "p", "e", "m", "p"], Status::BadImage),
+    (&["verify", "p", "e", "i", "i"], Status::BadImage),
+];
+
+const MAPPED_FILES: &[(&str, &[u8])] = &[("p", SMALLEST), ("e", b""), ("m", &SMALLEST_MAP)];
+
 /// Which file is bad is told in the order of the words, and a bad image before a bad map.
 #[test]
 fn order_of_refusals(rt: HostRuntime) -> Result<(), Fail> {
-    let alloc = rt.alloc();
-    for &(words, status) in &[
-        (["verify", "a", "b", "c", "d"], Status::ReadFault),
-        (["verify", "p", "e", "i", "a"], Status::ReadFault),
-        (["verify", "m", "p", "m", "m"], Status::BadProgram),
-        (["verify", "p", "p", "m", "m"], Status::BadEntries),
-        (["verify", "p", "e", "m", "p"], Status::BadImage),
-        (["verify", "p", "e", "i", "i"], Status::BadImage),
-    ] {
-        let files = [("p", SMALLEST), ("e", b"".as_slice())];
-        let mut shelf = shelf_of(alloc, &files, STEADY)?;
-        let (_made, _lines) = run_over(alloc, &["compile", "p", "e", "i"], &mut shelf, STEADY)?;
-        put(alloc, &mut shelf, "m", &SMALLEST_MAP)?;
-        let (ended, _printed) = run_over(alloc, words.as_slice(), &mut shelf, STEADY)?;
-        assert!(rt; ended == status, "{words:?}");
+    for (number, &(words, status)) in REFUSED.iter().enumerate() {
+        let case = Case {
+            before: &[COMPILE],
+            words,
+            outside: STEADY,
+            status,
+            told: Told::Any,
+        };
+        assert!(rt; holds(rt.alloc(), MAPPED_FILES, case)?, "row {number}");
     }
     Ok(())
 }
@@ -100,68 +119,72 @@ fn order_of_refusals(rt: HostRuntime) -> Result<(), Fail> {
 fn is_verified(alloc: Global, program: &[u8], entries: &str, wanted: &str) -> Result<bool, Fail> {
     let files = [("p", program), ("e", entries.as_bytes())];
     let mut shelf = shelf_of(alloc, &files, STEADY)?;
-    let (alone, first) = run_over(alloc, &["compile", "p", "e", "o"], &mut shelf, STEADY)?;
-    let (beside, second) = run_over(alloc, &["compile", "p", "e", "i", "m"], &mut shelf, STEADY)?;
-    let (checked, told) = run_over(alloc, &["verify", "p", "e", "i", "m"], &mut shelf, STEADY)?;
-    let one = String::from_str(alloc, "o")?;
-    let other = String::from_str(alloc, "i")?;
-    let is_beside = alone == Status::Done
-        && beside == Status::Done
-        && first.as_slice() == second.as_slice()
-        && shelf.file(&one) == shelf.file(&other);
-    Ok(is_beside && checked == Status::Done && told.as_slice() == wanted.as_bytes())
+    let alone = ["compile", "p", "e", "o"];
+    let are_alike = are_alike(alloc, &alone, COMPILE_MAPPED, &mut shelf)?;
+    let are_same = are_same(alloc, &shelf, "o", "i")?;
+    let is_told = tells(
+        alloc,
+        VERIFY,
+        &mut shelf,
+        STEADY,
+        Status::Done,
+        Told::Is(wanted),
+    )?;
+    Ok(are_alike && are_same && is_told)
 }
+
+/// Programs with their entries.
+const PROGRAMS: &[(&[u8], &str)] = &[
+    (SMALLEST, ""),
+    (NO_STAGE, ""),
+    (TWO_FIELDS, ""),
+    (PREFIX, PREFIXES),
+    (STRICT_AND_WEAK, "b 7 go 5\n"),
+    (TWO_TAILS, TWO_TAILS_ENTRIES),
+    (REALISTIC, REALISTIC_ENTRIES),
+];
 
 #[test]
 fn maps_of_compile(rt: HostRuntime) -> Result<(), Fail> {
-    let alloc = rt.alloc();
-    for &(program, entries) in &[
-        (SMALLEST, ""),
-        (NO_STAGE, ""),
-        (TWO_FIELDS, ""),
-        (PREFIX, PREFIXES),
-        (STRICT_AND_WEAK, "b 7 go 5\n"),
-        (TWO_TAILS, TWO_TAILS_ENTRIES),
-        (REALISTIC, REALISTIC_ENTRIES),
-    ] {
-        assert!(rt;
-            is_verified(alloc, program, entries, "yes\n")?,
-            "{program:?}"
-        );
+    for (number, &(program, entries)) in PROGRAMS.iter().enumerate() {
+        let is_told = is_verified(rt.alloc(), program, entries, "yes\n")?;
+        assert!(rt; is_told, "row {number}");
     }
     Ok(())
 }
 
-/// Whether each front of the map that `compile` writes is told to be none.
-fn fronts_are_none(alloc: Global, program: &[u8], entries: &str) -> Result<bool, Fail> {
-    let files = [("p", program), ("e", entries.as_bytes())];
-    let mut shelf = shelf_of(alloc, &files, STEADY)?;
-    run_over(alloc, &["compile", "p", "e", "i", "m"], &mut shelf, STEADY)?;
-    let name = String::from_str(alloc, "m")?;
-    let map = match shelf.file(&name) {
-        Some(map) => Vec::from_slice(alloc, map.as_slice())?,
-        None => Vec::new(alloc),
-    };
+/// Whether each front of a map of the shelf's program is told to be none.
+fn fronts_are_none(alloc: Global, shelf: &mut MemShelf, map: &[u8]) -> Result<bool, Fail> {
     let mut are_none = !map.is_empty();
+    let bad = Told::Is("bad image 7\n");
     for length in 0..map.len() {
-        put(alloc, &mut shelf, "m", &map.as_slice()[..length])?;
-        let (status, told) = run_over(alloc, &["verify", "p", "e", "i", "m"], &mut shelf, STEADY)?;
-        let is_none = status == Status::BadImage && told.as_slice() == b"bad image 7\n".as_slice();
-        are_none = are_none && is_none;
+        put(alloc, shelf, "m", &map[..length])?;
+        are_none &= tells(alloc, VERIFY, shelf, STEADY, Status::BadImage, bad)?;
     }
     Ok(are_none)
 }
 
+/// Whether each front of the map that `compile` writes is told to be none.
+fn has_no_front(alloc: Global, program: &[u8], entries: &str) -> Result<bool, Fail> {
+    let files = [("p", program), ("e", entries.as_bytes())];
+    let mut shelf = shelf_of(alloc, &files, STEADY)?;
+    run_over(alloc, COMPILE_MAPPED, &mut shelf, STEADY)?;
+    let map = file_of(alloc, &shelf, "m")?;
+    fronts_are_none(alloc, &mut shelf, map.as_slice())
+}
+
+/// Programs with their entries.
+const MAPPED: &[(&[u8], &str)] = &[
+    (SMALLEST, ""),
+    (PREFIX, PREFIXES),
+    (STRICT_AND_WEAK, "b 7 go 5\n"),
+    (REALISTIC, REALISTIC_ENTRIES),
+];
+
 #[test]
 fn fronts_of_a_map(rt: HostRuntime) -> Result<(), Fail> {
-    let alloc = rt.alloc();
-    for &(program, entries) in &[
-        (SMALLEST, ""),
-        (PREFIX, PREFIXES),
-        (STRICT_AND_WEAK, "b 7 go 5\n"),
-        (REALISTIC, REALISTIC_ENTRIES),
-    ] {
-        assert!(rt; fronts_are_none(alloc, program, entries)?, "{program:?}");
+    for (number, &(program, entries)) in MAPPED.iter().enumerate() {
+        assert!(rt; has_no_front(rt.alloc(), program, entries)?, "row {number}");
     }
     Ok(())
 }
@@ -171,13 +194,10 @@ fn fronts_of_a_map(rt: HostRuntime) -> Result<(), Fail> {
 fn no_map(rt: HostRuntime) -> Result<(), Fail> {
     let alloc = rt.alloc();
     let files = [("p", TOO_DEEP), ("e", b"".as_slice())];
-    let mut shelf = shelf_of(alloc, &files, STEADY)?;
-    let words = ["compile", "p", "e", "i", "m"].as_slice();
-    let (status, _printed) = run_over(alloc, words, &mut shelf, STEADY)?;
-    let image = String::from_str(alloc, "i")?;
-    let map = String::from_str(alloc, "m")?;
-    let is_none = shelf.file(&image).is_none() && shelf.file(&map).is_none();
-    assert!(rt; status == Status::NoFit && is_none);
+    let left = run_on(alloc, COMPILE_MAPPED, &files, STEADY)?;
+    assert!(rt; left.status == Status::NoFit);
+    assert!(rt; has_file(alloc, &left.shelf, "i", None)?);
+    assert!(rt; has_file(alloc, &left.shelf, "m", None)?);
     Ok(())
 }
 
@@ -186,15 +206,8 @@ fn no_map(rt: HostRuntime) -> Result<(), Fail> {
 fn smallest_map(rt: HostRuntime) -> Result<(), Fail> {
     let alloc = rt.alloc();
     let files = [("p", SMALLEST), ("e", b"".as_slice())];
-    let mut shelf = shelf_of(alloc, &files, STEADY)?;
-    let words = ["compile", "p", "e", "i", "m"].as_slice();
-    let (_status, _printed) = run_over(alloc, words, &mut shelf, STEADY)?;
-    let name = String::from_str(alloc, "m")?;
-    let is_told = match shelf.file(&name) {
-        Some(map) => map.as_slice() == SMALLEST_MAP.as_slice(),
-        None => false,
-    };
-    assert!(rt; is_told);
+    let left = run_on(alloc, COMPILE_MAPPED, &files, STEADY)?;
+    assert!(rt; has_file(alloc, &left.shelf, "m", Some(&SMALLEST_MAP))?);
     Ok(())
 }
 
@@ -216,21 +229,21 @@ fn to_another_port(alloc: Global, image: &[u8]) -> Result<Vec<u8>, Fail> {
     Ok(changed)
 }
 
+/// Whether the image of a program that sends to another port is told so, with the map of its own.
+fn is_other(alloc: Global, program: &[u8], entries: &str, told: &str) -> Result<bool, Fail> {
+    let files = [("p", program), ("e", entries.as_bytes())];
+    let mut shelf = shelf_of(alloc, &files, STEADY)?;
+    run_over(alloc, COMPILE_MAPPED, &mut shelf, STEADY)?;
+    let image = file_of(alloc, &shelf, "i")?;
+    let other = to_another_port(alloc, image.as_slice())?;
+    put(alloc, &mut shelf, "i", other.as_slice())?;
+    let told = Told::Is(told);
+    tells(alloc, VERIFY, &mut shelf, STEADY, Status::Done, told)
+}
+
 /// An image that sends to another port than its entry says, and the map of the entry.
 #[test]
 fn another_port(rt: HostRuntime) -> Result<(), Fail> {
-    let alloc = rt.alloc();
-    let files = [("p", STRICT_AND_WEAK), ("e", b"b 7 go 5\n".as_slice())];
-    let mut shelf = shelf_of(alloc, &files, STEADY)?;
-    let words = ["compile", "p", "e", "i", "m"].as_slice();
-    let (_status, _printed) = run_over(alloc, words, &mut shelf, STEADY)?;
-    let name = String::from_str(alloc, "i")?;
-    let image = match shelf.file(&name) {
-        Some(image) => to_another_port(alloc, image.as_slice())?,
-        None => Vec::new(alloc),
-    };
-    put(alloc, &mut shelf, "i", image.as_slice())?;
-    let (status, told) = run_over(alloc, &["verify", "p", "e", "i", "m"], &mut shelf, STEADY)?;
-    assert!(rt; status == Status::Done && told.as_slice() == b"no 4\n".as_slice());
+    assert!(rt; is_other(rt.alloc(), STRICT_AND_WEAK, "b 7 go 5\n", "no 4\n")?);
     Ok(())
 }

@@ -25,7 +25,7 @@ use Rattle.rmt_config.specs.Spelling.{four_bytes, spelled_list16, spelled_list8}
 use Rattle.rmt_entries.specs.Entries.{by_node, entries_at}
 use Rattle.rmt_entries.proofs.GatherLaws.{by_node_at, length-by_node}
 use Rattle.rmt_core.proofs.size.Lines.{rank_weight}
-use Rattle.rmt_image.proofs.size.Lists.{flat_map_short}
+use Rattle.rmt_items.proofs.size.Lists.{flat_map_short}
 use Rattle.rmt_core.proofs.size.Ranks.{ranked_entries, ranked_few, ranks_few}
 use Rattle.rmt_core.proofs.size.Sums.{by_number, one_least, only, sum_by-both, weight_at}
 use Rattle.rmt_core.proofs.size.Tables.{has_ranks, is_ranked, ranked_at, terms_have_ranks}

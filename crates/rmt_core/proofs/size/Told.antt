@@ -16,7 +16,7 @@ use Rattle.rmt_config.specs.UnitForm.{memory_is_formed, number_is_formed, slot_h
 use Rattle.rmt_config.proofs.SlotLaws.{unit-formed}
 use Rattle.rmt_build.specs.Told.{cell_told, cells_told, stages_told, unit_told}
 use Rattle.rmt_verify.specs.Spelling.{CellFits}
-use Rattle.rmt_image.proofs.size.Stages.{stage_parts}
+use Rattle.rmt_items.proofs.size.Stages.{stage_parts}
 use Rattle.rmt_core.proofs.size.Sums.{one_most, only, sum_by-both}
 
 -- ---- how many

@@ -6,7 +6,7 @@ ghost use Rattle.rmt_ast.specs.declared.entry.Entry.{Entry};
 ghost use Rattle.rmt_io.specs.Outside.{SinkState};
 ghost use Rattle.rmt_packets.specs.LineKinds.{kind_of};
 ghost use Rattle.rmt_packets.specs.PacketText.{packet_of};
-ghost use Rattle.rmt_update.specs.Running.{is_change, line_change};
+ghost use Rattle.rmt_lists.specs.Running.{is_change, line_change};
 ghost use Rattle.rmt_drive.specs.EventText.{EventReading, with_change, with_commit, with_line, with_packet};
 ghost use Rattle.rmt_drive.specs.PlainRunning.{BreaksOver, Goes, Leaves, StandsOver, StopsOver};
 

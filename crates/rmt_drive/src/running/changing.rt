@@ -3,7 +3,7 @@
 ghost use Rattle.std.specs.Prelude.{◌≡◌, ◌<◌, ◌≤◌, ◌⊎◌, ◌^◌, ◌+◌, ◌++◌, All, List, length, map, IsErrOf, IfErr, OnOk};
 ghost use Rattle.rmt_ast.specs.Events.{Event};
 ghost use Rattle.rmt_chip.specs.Stands.{entered_of, spare_of, version_of};
-ghost use Rattle.rmt_chip.specs.Writable.{IsTaken};
+ghost use Rattle.rmt_memory.specs.Writable.{IsTaken};
 ghost use Rattle.rmt_config.specs.declared.config.Config.{Config};
 ghost use Rattle.rmt_config.specs.Commits.{RunState};
 ghost use Rattle.rmt_config.specs.RunInputs.{Input, Writes};

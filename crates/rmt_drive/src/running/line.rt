@@ -5,7 +5,7 @@ ghost use Rattle.rmt_config.specs.declared.config.Config.{Config};
 ghost use Rattle.rmt_io.specs.Outside.{SinkState, PrintingFailed, OnlyPrinted};
 ghost use Rattle.rmt_packets.specs.declared.line_kind.LineKind.TheVariants as kind;
 ghost use Rattle.rmt_packets.specs.LineKinds.{kind_of};
-ghost use Rattle.rmt_update.specs.Running.{is_change};
+ghost use Rattle.rmt_lists.specs.Running.{is_change};
 ghost use Rattle.rmt_drive.specs.declared.running.state.Run.{Run};
 ghost use Rattle.rmt_drive.specs.declared.watch.Watch.{Watch};
 ghost use Rattle.rmt_drive.specs.EventText.{EventReading};

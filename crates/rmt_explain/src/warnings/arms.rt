@@ -5,7 +5,7 @@ use crate::reader::Step;
 use std::alloc::{AllocError, Global};
 
 /// An arm of an `apply` that is being read.
-#[derive(Clone, Copy, Debug)]
+#[derive(Clone, Copy)]
 struct Arm<'t> {
     /// How many braces were open before it.
     depth: u64,

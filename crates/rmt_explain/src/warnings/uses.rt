@@ -6,7 +6,7 @@ use crate::warnings::{Cause, Warning};
 use std::alloc::{AllocError, Global};
 
 /// A name where it is declared.
-#[derive(Clone, Copy, Debug)]
+#[derive(Clone, Copy)]
 struct Name<'t> {
     word: &'t [u8],
     position: usize,

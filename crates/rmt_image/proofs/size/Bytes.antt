@@ -15,10 +15,10 @@ use Rattle.rmt_config.specs.StageForm.{rows_are_formed, stage_is_formed}
 use Rattle.rmt_config.proofs.CountsLemmas.{counts_fit, stages_of_items}
 use Rattle.rmt_config.proofs.LimitLaws.{KeepsLimits, limits_kept}
 use Rattle.rmt_image.specs.Size.{ImageIsShort}
-use Rattle.rmt_image.proofs.size.Lists.{flat_map_by, flat_map_short}
-use Rattle.rmt_image.proofs.size.Front.{header_short, parser_short}
-use Rattle.rmt_image.proofs.size.Stages.{StageFits, stage_short}
-use Rattle.rmt_image.proofs.size.Tails.{all_tails_short}
+use Rattle.rmt_items.proofs.size.Lists.{flat_map_by, flat_map_short}
+use Rattle.rmt_items.proofs.size.Front.{header_short, parser_short}
+use Rattle.rmt_items.proofs.size.Stages.{StageFits, stage_short}
+use Rattle.rmt_items.proofs.size.Tails.{all_tails_short}
 
 stages_fit : (c : Config) → Formed c → CountsFit c → KeepsLimits c → All StageFits c.stages
 stages_fit c formed counts limits k d lt =

@@ -1,19 +1,19 @@
 //! What stands behind the version: the configuration, its names and its tails.
 
 ghost use Rattle.std.specs.Prelude.{◌≡◌};
-ghost use Rattle.rmt_image.specs.Readers.{Gives};
+ghost use Rattle.rmt_items.specs.Readers.{Gives};
 ghost use Rattle.rmt_image.specs.Reading.{ports_at, config_at, named_at, tailed_at, image_at};
 
-use crate::fault::Read;
-use crate::reading::header::headers_of;
-use crate::reading::lane::lane_of_bits;
-use crate::reading::names::names_of;
-use crate::reading::number::byte_of;
-use crate::reading::parser::parser_of;
-use crate::reading::stage::stages_of;
-use crate::reading::tails::tails_of;
 use rmt_bits::lane::Lane;
 use rmt_config::config::Config;
+use rmt_items::fault::Read;
+use rmt_items::reading::header::headers_of;
+use rmt_items::reading::lane::lane_of_bits;
+use rmt_items::reading::names::names_of;
+use rmt_items::reading::number::byte_of;
+use rmt_items::reading::parser::parser_of;
+use rmt_items::reading::stage::stages_of;
+use rmt_items::reading::tails::tails_of;
 use std::alloc::Global;
 
 /// The seed, and the lanes of the ports and of the drop bit.

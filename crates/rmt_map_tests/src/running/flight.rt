@@ -198,7 +198,7 @@ fn in_flight(rt: HostRuntime) -> Result<(), Fail> {
     };
     let words = words_of(alloc, &["sim", "i", "k"])?;
     let status = rmt(alloc, &words, &mut shelf, &mut out);
-    assert_eq!(rt; status, Status::Done);
+    assert!(rt; status == Status::Done);
     let first = out.first.unwrap_or(0);
     assert!(rt; FLIGHT <= first && first < PACKETS, "{first}");
     Ok(())

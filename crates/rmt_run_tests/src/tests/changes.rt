@@ -1,8 +1,8 @@
 //! What `plain` and `sim` print of packet texts that change entries: the same lines, and `sim` then the cycles and the flight.
 
-use rmt_command_tests::fixtures::commands::{STEADY, run_over, shelf_of};
+use crate::tests::runs::{Run, both_print, both_tell};
+use rmt_command_tests::fixtures::commands::{STEADY, shelf_of};
 use rmt_core::status::Status;
-use rmt_io::mem_shelf::MemShelf;
 use rmt_tests::fixtures::programs::STRICT_AND_WEAK;
 use std::alloc::Global;
 use std::test::*;
@@ -207,96 +207,65 @@ const ORDERED_ROWS: [Row; 6] = [
     ),
 ];
 
-/// Whether a command over a shelf ends so, and prints these two texts.
-fn prints(
+/// The number of the first row that a program with its entries doesn't keep.
+fn first_wrong<'a>(
     alloc: Global,
-    words: &[&str],
-    shelf: &mut MemShelf,
-    status: Status,
-    printed: (&str, &str),
-) -> Result<bool, Fail> {
-    let (ended, text) = run_over(alloc, words, shelf, STEADY)?;
-    let wanted = format!(in alloc; "{}{}", printed.0, printed.1)?;
-    Ok(ended == status && text.as_slice() == wanted.as_bytes())
-}
-
-/// Whether `plain` of a program and entries, and `sim` of their image, print what a row says.
-fn holds(alloc: Global, program: &[u8], entries: &str, row: &Row) -> Result<bool, Fail> {
-    let (packets, status, printed, run) = *row;
-    let files = [
-        ("p", program),
-        ("e", entries.as_bytes()),
-        ("k", packets.as_bytes()),
-    ];
-    let mut shelf = shelf_of(alloc, &files, STEADY)?;
-    let _compiled = run_over(alloc, &["compile", "p", "e", "i"], &mut shelf, STEADY)?;
-    let plain = ["plain", "p", "e", "k"].as_slice();
-    let sim = ["sim", "i", "k"].as_slice();
-    let is_plain = prints(alloc, plain, &mut shelf, status, (printed, ""))?;
-    Ok(is_plain && prints(alloc, sim, &mut shelf, status, (printed, run))?)
-}
-
-/// The number of the first row that a program with its entries doesn't keep, or how many there are.
-fn first_wrong(alloc: Global, program: &[u8], entries: &str, rows: &[Row]) -> Result<usize, Fail> {
-    for (number, row) in rows.iter().enumerate() {
-        if !holds(alloc, program, entries, row)? {
-            return Ok(number);
+    program: &'a [u8],
+    entries: &'a str,
+    rows: &[Row],
+) -> Result<Option<usize>, Fail> {
+    for (number, &(packets, status, lines, run)) in rows.iter().enumerate() {
+        let row = Run {
+            program,
+            entries,
+            packets,
+            status,
+            lines,
+            run,
+        };
+        if !both_print(alloc, row, STEADY)? {
+            return Ok(Some(number));
         }
     }
-    Ok(rows.len())
+    Ok(None)
 }
 
 #[test]
 fn changes(rt: HostRuntime) -> Result<(), Fail> {
     let alloc = rt.alloc();
-    assert_eq!(rt;
-        first_wrong(alloc, STRICT_AND_WEAK, ENTRIES, &UNCOUNTED_ROWS)?,
-        UNCOUNTED_ROWS.len()
-    );
-    assert_eq!(rt;
-        first_wrong(alloc, COUNTED, ENTRIES, &COUNTED_ROWS)?,
-        COUNTED_ROWS.len()
-    );
-    assert_eq!(rt;
-        first_wrong(alloc, ORDERED, "", &ORDERED_ROWS)?,
-        ORDERED_ROWS.len()
-    );
+    let uncounted = first_wrong(alloc, STRICT_AND_WEAK, ENTRIES, &UNCOUNTED_ROWS)?;
+    assert_eq!(rt; uncounted, None);
+    assert_eq!(rt; first_wrong(alloc, COUNTED, ENTRIES, &COUNTED_ROWS)?, None);
+    assert_eq!(rt; first_wrong(alloc, ORDERED, "", &ORDERED_ROWS)?, None);
     Ok(())
+}
+
+/// Whether the run over a change whose line has so many bytes comes out so.
+fn runs_long(
+    alloc: Global,
+    length: usize,
+    status: Status,
+    lines: &str,
+    run: &str,
+) -> Result<bool, Fail> {
+    let change = "+ b 8 go 6";
+    let spaces = " ".repeat(alloc, length.saturating_sub(change.len()))?;
+    let packets = format!(in alloc; "{change}{spaces}\ncommit\n0 08\n")?;
+    let files = [
+        ("p", STRICT_AND_WEAK),
+        ("e", ENTRIES.as_bytes()),
+        ("k", packets.as_bytes()),
+    ];
+    let mut shelf = shelf_of(alloc, &files, STEADY)?;
+    both_tell(alloc, &mut shelf, STEADY, status, lines, run)
 }
 
 /// A line of a change that is as long as it may be, and one byte longer.
 #[test]
 fn longest_change(rt: HostRuntime) -> Result<(), Fail> {
-    let alloc = rt.alloc();
-    let change = "+ b 8 go 6";
-    for &(length, status, printed, run) in &[
-        (
-            18_443usize,
-            Status::Done,
-            "0 6 08\n",
-            "cycles 27\nflight 1\n",
-        ),
-        (18_444, Status::BadPackets, "bad packets 5 line 1\n", ""),
-    ] {
-        let spaces = " ".repeat(alloc, length - change.len())?;
-        let packets = format!(in alloc; "{change}{spaces}\ncommit\n0 08\n")?;
-        let files = [
-            ("p", STRICT_AND_WEAK),
-            ("e", ENTRIES.as_bytes()),
-            ("k", packets.as_bytes()),
-        ];
-        let mut shelf = shelf_of(alloc, &files, STEADY)?;
-        let _compiled = run_over(alloc, &["compile", "p", "e", "i"], &mut shelf, STEADY)?;
-        let plain = ["plain", "p", "e", "k"].as_slice();
-        let sim = ["sim", "i", "k"].as_slice();
-        assert!(rt;
-            prints(alloc, plain, &mut shelf, status, (printed, ""))?,
-            "{length} bytes"
-        );
-        assert!(rt;
-            prints(alloc, sim, &mut shelf, status, (printed, run))?,
-            "{length} bytes"
-        );
-    }
+    let run = "cycles 27\nflight 1\n";
+    assert!(rt; runs_long(rt.alloc(), 18_443, Status::Done, "0 6 08\n", run)?);
+    let bad = "bad packets 5 line 1\n";
+    assert!(rt; runs_long(rt.alloc(), 18_444, Status::BadPackets, bad, "")?);
     Ok(())
 }

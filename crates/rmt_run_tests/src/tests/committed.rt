@@ -1,7 +1,8 @@
 //! What `sim` and `probe` print of packet texts that change entries, where `plain` has no such line.
 
 use crate::tests::changes::{COUNTED, ENTRIES};
-use rmt_command_tests::fixtures::commands::{STEADY, run_on, run_over, shelf_of};
+use rmt_command_tests::fixtures::cases::{COMPILE, Case, PLAIN, SIM, Told, ends, holds};
+use rmt_command_tests::fixtures::commands::{STEADY, run_over, shelf_of};
 use rmt_command_tests::fixtures::images::{SMALLEST_IMAGE, image_of};
 use rmt_command_tests::fixtures::programs::SMALLEST;
 use rmt_core::status::Status;
@@ -19,57 +20,68 @@ fn unnamed_image(alloc: Global) -> Result<Vec<u8>, AllocError> {
     Ok(image)
 }
 
+/// Packets over an image without names, and what is printed.
+const UNNAMED: &[(&str, &str)] = &[
+    ("commit\n", "bad packets 4 line 1\n"),
+    ("+ b 7 go 1\n", "bad packets 4 line 1\n"),
+    ("- \n", "bad packets 4 line 1\n"),
+    ("0 ff\n# none\ncommit", "0 1 ff\nbad packets 4 line 3\n"),
+    ("commits\n", "bad packets 1 line 1\n"),
+];
+
+/// Whether `sim` of an image over these packets refuses a line of them, and prints this.
+fn refuses(alloc: Global, image: &[u8], packets: &str, printed: &str) -> Result<bool, Fail> {
+    let files = [("i", image), ("k", packets.as_bytes())];
+    let told = Told::Is(printed);
+    ends(alloc, &files, SIM, Status::BadPackets, told)
+}
+
 /// Without names each change and each commit is refused, whatever its form; packets before it are answered.
 #[test]
 fn no_names(rt: HostRuntime) -> Result<(), Fail> {
-    let alloc = rt.alloc();
-    let image = unnamed_image(alloc)?;
-    for &(packets, printed) in &[
-        ("commit\n", "bad packets 4 line 1\n"),
-        ("+ b 7 go 1\n", "bad packets 4 line 1\n"),
-        ("- \n", "bad packets 4 line 1\n"),
-        ("0 ff\n# none\ncommit", "0 1 ff\nbad packets 4 line 3\n"),
-        ("commits\n", "bad packets 1 line 1\n"),
-    ] {
-        let files = [("i", image.as_slice()), ("k", packets.as_bytes())];
-        let left = run_on(alloc, &["sim", "i", "k"], &files, STEADY)?;
-        let is_printed = left.printed.as_slice() == printed.as_bytes();
-        assert!(rt;
-            left.status == Status::BadPackets && is_printed,
-            "{packets}"
-        );
+    let image = unnamed_image(rt.alloc())?;
+    for (number, &(packets, printed)) in UNNAMED.iter().enumerate() {
+        let is_refused = refuses(rt.alloc(), image.as_slice(), packets, printed)?;
+        assert!(rt; is_refused, "row {number}");
     }
     Ok(())
 }
 
+/// A packet text that is good, and one that is bad.
+const GOOD: &str = "0 ff\ncommit\n0 ff\n";
+
+const BAD: &str = "0 ff\ncommit\n1 abc\n";
+
+/// A packet text, a cycle, how the run ends, and what it prints.
+const VECTORS: &[(&str, &str, Status, &str)] = &[
+    (GOOD, "1", Status::Done, "0 1 0:02 1:ff\n"),
+    (GOOD, "2", Status::Done, "0 2 0:02 1:ff\n1 0 0:02 1:ff\n"),
+    (
+        BAD,
+        "1",
+        Status::BadPackets,
+        "0 1 0:02 1:ff\nbad packets 1 line 3\n",
+    ),
+    (BAD, "2", Status::BadPackets, "bad packets 1 line 3\n"),
+];
+
 /// A commit takes cycles, in which packets go on; vectors are printed before a bad line where more cycles were made.
 #[test]
 fn vectors_behind_a_commit(rt: HostRuntime) -> Result<(), Fail> {
-    let good = "0 ff\ncommit\n0 ff\n";
-    let bad = "0 ff\ncommit\n1 abc\n";
-    for &(packets, cycle, status, printed) in &[
-        (good, "1", Status::Done, "0 1 0:02 1:ff\n"),
-        (good, "2", Status::Done, "0 2 0:02 1:ff\n1 0 0:02 1:ff\n"),
-        (
-            bad,
-            "1",
-            Status::BadPackets,
-            "0 1 0:02 1:ff\nbad packets 1 line 3\n",
-        ),
-        (bad, "2", Status::BadPackets, "bad packets 1 line 3\n"),
-    ] {
+    for (number, &(packets, cycle, status, printed)) in VECTORS.iter().enumerate() {
         let files = [
             ("p", SMALLEST),
-            ("e", "".as_bytes()),
+            ("e", b"".as_slice()),
             ("k", packets.as_bytes()),
         ];
-        let mut shelf = shelf_of(rt.alloc(), &files, STEADY)?;
-        let alloc = rt.alloc();
-        let _compiled = run_over(alloc, &["compile", "p", "e", "i"], &mut shelf, STEADY)?;
-        let words = ["probe", "i", "k", cycle];
-        let (ended, text) = run_over(alloc, &words, &mut shelf, STEADY)?;
-        let is_printed = text.as_slice() == printed.as_bytes();
-        assert!(rt; ended == status && is_printed, "{packets} {cycle}");
+        let case = Case {
+            before: &[COMPILE],
+            words: &["probe", "i", "k", cycle],
+            outside: STEADY,
+            status,
+            told: Told::Is(printed),
+        };
+        assert!(rt; holds(rt.alloc(), &files, case)?, "row {number}");
     }
     Ok(())
 }
@@ -91,21 +103,23 @@ fn widened(alloc: Global) -> Result<Vec<u8>, Fail> {
     Ok(image)
 }
 
+/// So many additions, and a commit.
+fn many_keys(alloc: Global, count: u32) -> Result<String, AllocError> {
+    let mut packets = String::new(alloc);
+    for key in 0..count {
+        write!(packets, "+ b {key} go\n")?;
+    }
+    packets.push_str("commit\n")?;
+    Ok(packets)
+}
+
 /// One more key than a table has cells.
 #[test]
 fn a_commit_that_does_not_load(rt: HostRuntime) -> Result<(), Fail> {
-    let alloc = rt.alloc();
-    let image = widened(alloc)?;
-    let mut packets = String::new(alloc);
-    for key in 0..16_385u32 {
-        let line = format!(in alloc; "+ b {key} go\n")?;
-        packets.push_str(line.as_str())?;
-    }
-    packets.push_str("commit\n")?;
-    let files = [("i", image.as_slice()), ("k", packets.as_bytes())];
-    let left = run_on(alloc, &["sim", "i", "k"], &files, STEADY)?;
-    assert!(rt; left.status == Status::BadPackets);
-    assert!(rt; left.printed.as_slice() == "bad packets 10 line 16386\n".as_bytes());
+    let image = widened(rt.alloc())?;
+    let packets = many_keys(rt.alloc(), 16_385)?;
+    let line = "bad packets 10 line 16386\n";
+    assert!(rt; refuses(rt.alloc(), image.as_slice(), packets.as_str(), line)?);
     Ok(())
 }
 
@@ -117,33 +131,33 @@ fn many(alloc: Global, times: u32) -> Result<String, AllocError> {
             text.push_str("0 07\n")?;
         }
         let port = time % 512;
-        let lines = format!(in alloc; "- b 7\n+ b 7 go {port}\ncommit\n")?;
-        text.push_str(lines.as_str())?;
+        write!(text, "- b 7\n+ b 7 go {port}\ncommit\n")?;
     }
     Ok(text)
+}
+
+/// Whether `sim` of a program, its entries and packets prints what `plain` prints, and then of cycles.
+fn runs_on(alloc: Global, program: &[u8], entries: &str, packets: &str) -> Result<bool, Fail> {
+    let files = [
+        ("p", program),
+        ("e", entries.as_bytes()),
+        ("k", packets.as_bytes()),
+    ];
+    let mut shelf = shelf_of(alloc, &files, STEADY)?;
+    run_over(alloc, COMPILE, &mut shelf, STEADY)?;
+    let (said, plain) = run_over(alloc, PLAIN, &mut shelf, STEADY)?;
+    let (told, sim) = run_over(alloc, SIM, &mut shelf, STEADY)?;
+    let is_on = match sim.as_slice().strip_prefix(plain.as_slice()) {
+        Some(last) => last.starts_with(b"cycles "),
+        None => false,
+    };
+    Ok(said == Status::Done && told == Status::Done && is_on)
 }
 
 /// 20,000 packets and 2,000 commits: `sim` prints what `plain` prints, and then two lines.
 #[test]
 fn many_commits(rt: HostRuntime) -> Result<(), Fail> {
-    let alloc = rt.alloc();
-    let packets = many(alloc, 2_000)?;
-    let files = [
-        ("p", COUNTED),
-        ("e", ENTRIES.as_bytes()),
-        ("k", packets.as_bytes()),
-    ];
-    let mut shelf = shelf_of(alloc, &files, STEADY)?;
-    let _compiled = run_over(alloc, &["compile", "p", "e", "i"], &mut shelf, STEADY)?;
-    let plain_words = ["plain", "p", "e", "k"].as_slice();
-    let sim_words = ["sim", "i", "k"].as_slice();
-    let (plain_status, plain) = run_over(alloc, plain_words, &mut shelf, STEADY)?;
-    let (sim_status, sim) = run_over(alloc, sim_words, &mut shelf, STEADY)?;
-    assert!(rt; plain_status == Status::Done && sim_status == Status::Done);
-    let length = plain.len();
-    assert!(rt; sim.len() > length);
-    let (front, last) = sim.as_slice().split_at(length);
-    assert!(rt; front == plain.as_slice());
-    assert!(rt; last.starts_with("cycles ".as_bytes()));
+    let packets = many(rt.alloc(), 2_000)?;
+    assert!(rt; runs_on(rt.alloc(), COUNTED, ENTRIES, packets.as_str())?);
     Ok(())
 }

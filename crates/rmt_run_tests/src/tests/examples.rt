@@ -1,7 +1,9 @@
 //! What `compile`, `sim` and `plain` print for the examples, whose lines were worked out by hand.
 
 use crate::tests::example_texts::*;
-use rmt_command_tests::fixtures::commands::{STEADY, put, run_over, shelf_of};
+use crate::tests::runs::{Run, both_print};
+use rmt_command_tests::fixtures::cases::{COMPILE, Told, ends};
+use rmt_command_tests::fixtures::commands::STEADY;
 use rmt_core::status::Status;
 use std::alloc::Global;
 use std::test::*;
@@ -15,36 +17,28 @@ struct Example<'a> {
     lines: &'a str,
 }
 
-/// Whether `plain` of an example prints its lines.
-fn runs_plainly(alloc: Global, example: Example<'_>) -> Result<bool, Fail> {
-    let files = [
-        ("p", example.program.as_bytes()),
-        ("e", example.entries.as_bytes()),
-        ("k", example.packets.as_bytes()),
-    ];
-    let mut shelf = shelf_of(alloc, &files, STEADY)?;
-    let (status, printed) = run_over(alloc, &["plain", "p", "e", "k"], &mut shelf, STEADY)?;
-    Ok(status == Status::Done && printed.as_slice() == example.lines.as_bytes())
-}
-
-/// Whether `compile` of an example prints this, and `sim` of its image its lines and then the cycles and the flight.
-fn runs_on_chip(
+/// Whether `compile` of an example prints this, `plain` its lines, and `sim` of the image these and then the cycles and the
+/// flight.
+fn runs(
     alloc: Global,
-    example: Example<'_>,
-    compiled: &str,
-    run: &str,
+    example: Example<'static>,
+    compiled: &'static str,
+    run: &'static str,
 ) -> Result<bool, Fail> {
     let files = [
         ("p", example.program.as_bytes()),
         ("e", example.entries.as_bytes()),
     ];
-    let mut shelf = shelf_of(alloc, &files, STEADY)?;
-    let (_, said) = run_over(alloc, &["compile", "p", "e", "i"], &mut shelf, STEADY)?;
-    put(alloc, &mut shelf, "k", example.packets.as_bytes())?;
-    let (status, printed) = run_over(alloc, &["sim", "i", "k"], &mut shelf, STEADY)?;
-    let simulated = format!(in alloc; "{}{run}", example.lines)?;
-    let is_simulated = printed.as_slice() == simulated.as_bytes();
-    Ok(said.as_slice() == compiled.as_bytes() && status == Status::Done && is_simulated)
+    let told = Told::Is(compiled);
+    let ran = Run {
+        program: example.program.as_bytes(),
+        entries: example.entries,
+        packets: example.packets,
+        status: Status::Done,
+        lines: example.lines,
+        run,
+    };
+    Ok(ends(alloc, &files, COMPILE, Status::Done, told)? && both_print(alloc, ran, STEADY)?)
 }
 
 const ROUTER: Example<'static> = Example {
@@ -187,11 +181,8 @@ const ROWS: [Row; 11] = [
 
 #[test]
 fn examples(rt: HostRuntime) -> Result<(), Fail> {
-    let alloc = rt.alloc();
-    for &(example, compiled, run) in &ROWS {
-        let is_plain = runs_plainly(alloc, example)?;
-        let is_clocked = runs_on_chip(alloc, example, compiled, run)?;
-        assert!(rt; is_plain && is_clocked, "{compiled}");
+    for (number, &(example, compiled, run)) in ROWS.iter().enumerate() {
+        assert!(rt; runs(rt.alloc(), example, compiled, run)?, "row {number}");
     }
     Ok(())
 }

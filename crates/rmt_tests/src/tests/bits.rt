@@ -14,21 +14,26 @@ const HASHES: [(&[u8], u64); 3] = [
 #[test]
 fn hash_and_cells(rt: HostRuntime) {
     for &(bytes, hash) in &HASHES {
-        assert_eq!(rt; fnv(bytes), hash);
+        assert!(rt; fnv(bytes) == hash);
     }
     // the hash of the bytes 66, 6f, 6f and so on, under the seed and way 66 and 6f
-    assert_eq!(rt; hash_row(0x66, 0x6f, b"obar", 1024), 0x8594_4171 % 1024);
+    assert!(rt; hash_row(0x66, 0x6f, b"obar", 1024) == 0x8594_4171 % 1024);
+}
+
+/// Three bytes, and behind their first 6 bits 12 others.
+fn put_within() -> [u8; 3] {
+    let mut bytes = [0xab, 0xcd, 0xef];
+    bytes_of_bits(0x123, 12, &mut bytes, 6);
+    bytes
 }
 
 #[test]
 fn runs_of_bits(rt: HostRuntime) {
-    let mut bytes = [0xab, 0xcd, 0xef];
-    let taken = bits_of_bytes(&bytes, 4, 12);
-    bytes_of_bits(0x123, 12, &mut bytes, 6);
-    let size = word_size(159);
-    assert_eq!(rt; (taken, bytes, size), (0xbcd, [0xa8, 0x48, 0xef], 16));
-    let slices = [slice(u128::MAX, 0, 128), slice(u128::MAX, 128, 0)];
-    assert_eq!(rt; slices, [u128::MAX, 0]);
-    let deposits = [deposit(0xabcd, 4, 8, 0x12), deposit(7, 0, 128, u128::MAX)];
-    assert_eq!(rt; deposits, [0xa12d, u128::MAX]);
+    assert!(rt; bits_of_bytes(&[0xab, 0xcd, 0xef], 4, 12) == 0xbcd);
+    assert!(rt; put_within() == [0xa8, 0x48, 0xef]);
+    assert!(rt; word_size(159) == 16);
+    assert!(rt; slice(u128::MAX, 0, 128) == u128::MAX);
+    assert!(rt; slice(u128::MAX, 128, 0) == 0);
+    assert!(rt; deposit(0xabcd, 4, 8, 0x12) == 0xa12d);
+    assert!(rt; deposit(7, 0, 128, u128::MAX) == u128::MAX);
 }

@@ -10,11 +10,7 @@ fn lines(alloc: Global, counters: &Counts) -> Result<String, AllocError> {
     let mut out = String::new(alloc);
     for at in 0..counters.len() {
         if let Some(count) = counters.run_at(at).first() {
-            let entry = count.entry;
-            let packets = count.packets;
-            let bytes = count.bytes;
-            let line = format!(in alloc; "{entry} {packets} {bytes}\n")?;
-            out.push_str(line.as_str())?;
+            write!(out, "{} {} {}\n", count.entry, count.packets, count.bytes)?;
         }
     }
     Ok(out)
@@ -40,41 +36,55 @@ fn takes_numbers_in_any_order(rt: HostRuntime) -> Result<(), Fail> {
     counters.hit(30, u64::MAX);
     counters.hit(10, 64);
     counters.hit(11, 64);
-    let text = lines(rt.alloc(), &counters)?;
-    assert_eq!(rt;
-        text.as_str(),
-        "10 1 64\n20 1 100\n30 2 59\n40 0 0\n50 0 0\n"
-    );
+    let wanted = "10 1 64\n20 1 100\n30 2 59\n40 0 0\n50 0 0\n";
+    assert!(rt; lines(rt.alloc(), &counters)?.as_str() == wanted);
     Ok(())
+}
+
+/// How many counters there are, and for how many more there is room.
+fn sizes(counters: &Counts) -> (usize, usize) {
+    (counters.len(), counters.spare())
+}
+
+/// Whether the counters are those of the numbers from 0 on.
+fn are_from_zero(counters: &Counts) -> bool {
+    for at in 0..counters.len() {
+        match counters.get(at) {
+            Some(count) if count.entry as usize == at => {}
+            _ => return false,
+        }
+    }
+    true
+}
+
+/// The counter at a place: its number, packets and bytes.
+fn counter_at(counters: &Counts, at: usize) -> Option<(u32, u64, u64)> {
+    let count = counters.get(at)?;
+    Some((count.entry, count.packets, count.bytes))
+}
+
+/// Adds a thousand numbers in a mixed order, where there is room for each.
+fn add_thousand(rt: &impl Abort, counters: &mut Counts) {
+    for step in 0..1000u32 {
+        assert!(rt; counters.spare() > 0);
+        counters.add(step * 617 % 1000);
+    }
 }
 
 /// A thousand numbers in a mixed order: runs are cut, all are there in order, and the room falls by one each.
 #[test]
 fn cuts_long_runs(rt: HostRuntime) -> Result<(), Fail> {
     let mut counters = Counts::new(rt.alloc());
-    assert_eq!(rt; counters.spare(), 0);
+    assert!(rt; sizes(&counters) == (0, 0));
     counters.reserve(1000)?;
     let room = counters.spare();
     assert!(rt; room >= 1000);
-    for step in 0..1000u32 {
-        assert!(rt; counters.spare() > 0);
-        counters.add(step * 617 % 1000);
-    }
-    assert_eq!(rt; (counters.len(), counters.spare()), (1000, room - 1000));
+    add_thousand(&rt, &mut counters);
+    assert!(rt; sizes(&counters) == (1000, room - 1000));
     counters.hit(999, 5);
-    let mut in_order = true;
-    for at in 0..counters.len() {
-        in_order = in_order
-            && counters
-                .get(at)
-                .is_some_and(|count| count.entry as usize == at);
-    }
-    assert!(rt; in_order);
-    let last = counters
-        .get(999)
-        .map(|count| (count.entry, count.packets, count.bytes));
-    assert_eq!(rt; last, Some((999, 1, 5)));
-    assert_eq!(rt; counters.get(1000).is_some(), false);
+    assert!(rt; are_from_zero(&counters));
+    assert!(rt; counter_at(&counters, 999) == Some((999, 1, 5)));
+    assert!(rt; counter_at(&counters, 1000).is_none());
     Ok(())
 }
 
@@ -83,7 +93,6 @@ fn cuts_long_runs(rt: HostRuntime) -> Result<(), Fail> {
 fn pushes_rising_numbers(rt: HostRuntime) -> Result<(), Fail> {
     let mut counters = Counts::new(rt.alloc());
     counters.push(3)?;
-    let text = lines(rt.alloc(), &counters)?;
-    assert_eq!(rt; text.as_str(), "3 0 0\n");
+    assert!(rt; lines(rt.alloc(), &counters)?.as_str() == "3 0 0\n");
     Ok(())
 }

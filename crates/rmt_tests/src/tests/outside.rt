@@ -3,28 +3,40 @@
 use rmt_io::mem_sink::MemSink;
 use rmt_io::sink::{Sink, SinkFault};
 use rmt_io::true_sink::TrueSink;
+use std::alloc::{AllocError, Global};
 use std::cell::Cell;
 use std::fmt::Display;
 use std::io;
 use std::io::ErrorKind;
 use std::test::Fail;
 
+/// What a call of a sink in memory answers that takes a byte a call and fails at its call of this number.
+fn wanted_of(call: u64, number: u64) -> Result<usize, SinkFault> {
+    if call == number {
+        Err(SinkFault::Failed)
+    } else {
+        Ok(1)
+    }
+}
+
+/// Whether three calls of such a sink answer so, and it has two bytes then.
+fn fails_once(alloc: Global, number: u64) -> Result<bool, AllocError> {
+    let mut sink = MemSink::new(vec![in alloc; number]?, 1);
+    for call in 1..4u64 {
+        if sink.write(b"xyz") != wanted_of(call, number) {
+            return Ok(false);
+        }
+    }
+    Ok(sink.bytes().as_slice() == b"xx".as_slice())
+}
+
 #[test]
 fn sink_of_one_byte_a_call(rt: HostRuntime) -> Result<(), Fail> {
     for number in 1..4u64 {
-        let mut sink = MemSink::new(vec![in rt.alloc(); number]?, 1);
-        for call in 1..4u64 {
-            let answer = sink.write(b"xyz");
-            if call == number {
-                assert_eq!(rt; answer, Err(SinkFault::Failed));
-            } else {
-                assert_eq!(rt; answer, Ok(1));
-            }
-        }
-        assert_eq!(rt; sink.bytes().as_slice(), b"xx".as_slice());
+        assert!(rt; fails_once(rt.alloc(), number)?);
     }
     let mut wide = MemSink::new(vec![in rt.alloc()]?, 8);
-    assert_eq!(rt; wide.write(b"xyz"), Ok(3));
+    assert!(rt; wide.write(b"xyz") == Ok(3));
     Ok(())
 }
 
@@ -89,7 +101,7 @@ fn short_writes(rt: HostRuntime) -> Result<(), Fail> {
         Err(SinkFault::Failed),
         Ok(3),
     ] {
-        assert_eq!(rt; sink.write(b"abcd"), answer);
+        assert!(rt; sink.write(b"abcd") == answer);
     }
     Ok(())
 }

@@ -5,8 +5,7 @@ use rmt_packets::answer_line::write_line;
 use rmt_packets::line_kind::{LineKind, kind_of};
 use rmt_packets::lines::{Line, next_line};
 use rmt_packets::packet_line::{PacketFault, read_packet};
-use std::alloc::AllocError;
-use std::process::Abort;
+use std::alloc::{AllocError, Global};
 use std::test::*;
 
 #[test]
@@ -24,23 +23,28 @@ fn lines_of_a_text(rt: HostRuntime) {
         to: 21,
         next: 21,
     };
-    assert_eq!(rt; next_line(text, 0, 1), Some(first));
-    assert_eq!(rt; next_line(text, 13, 4), Some(second));
-    assert_eq!(rt; next_line(text, 21, 6), None);
+    assert!(rt; next_line(text, 0, 1) == Some(first));
+    assert!(rt; next_line(text, 13, 4) == Some(second));
+    assert!(rt; next_line(text, 21, 6).is_none());
 }
 
-/// Compares what is read of a line: the port, and the bytes of the frame.
-fn reads(
-    rt: &(impl Abort + AllocGlobal),
+/// Whether this is read of a line: the port, and the bytes of the frame.
+fn is_read(
+    alloc: Global,
     line: &[u8],
     answer: Result<u16, PacketFault>,
     bytes: &[u8],
-) -> Result<(), AllocError> {
-    let mut frame = Vec::new(rt.alloc());
+) -> Result<bool, AllocError> {
+    let mut frame = Vec::new(alloc);
     frame.push(7)?;
-    assert_eq!(rt; read_packet(line, &mut frame), answer);
-    assert_eq!(rt; frame.as_slice(), bytes);
-    Ok(())
+    Ok(read_packet(line, &mut frame) == answer && frame.as_slice() == bytes)
+}
+
+/// A line of so many digits behind the port 0.
+fn zeros(alloc: Global, digits: usize) -> Result<Vec<u8>, AllocError> {
+    let mut line = b"0 ".to_vec(alloc)?;
+    line.extend_from_slice(vec![in alloc; b'0'; digits]?.as_slice())?;
+    Ok(line)
 }
 
 /// A line, and what is read of it.
@@ -56,14 +60,20 @@ const LINES: [Row; 4] = [
 #[test]
 fn packets_of_lines(rt: HostRuntime) -> Result<(), Fail> {
     for &(line, answer, bytes) in &LINES {
-        reads(&rt, line, answer, bytes)?;
+        assert!(rt; is_read(rt.alloc(), line, answer, bytes)?);
     }
-    let mut longest = b"0 ".to_vec(rt.alloc())?;
-    longest.extend_from_slice(vec![in rt.alloc(); b'0'; 18432]?.as_slice())?;
-    let zeros = vec![in rt.alloc(); 0u8; 9216]?;
-    reads(&rt, longest.as_slice(), Ok(0), zeros.as_slice())?;
-    longest.push(b'0')?;
-    reads(&rt, longest.as_slice(), Err(PacketFault::Code(3)), &[])?;
+    Ok(())
+}
+
+/// The longest line that is read, and one digit more.
+#[test]
+fn packets_of_long_lines(rt: HostRuntime) -> Result<(), Fail> {
+    let bytes = vec![in rt.alloc(); 0u8; 9216]?;
+    let longest = zeros(rt.alloc(), 18432)?;
+    assert!(rt; is_read(rt.alloc(), longest.as_slice(), Ok(0), bytes.as_slice())?);
+    let longer = zeros(rt.alloc(), 18433)?;
+    let refused = Err(PacketFault::Code(3));
+    assert!(rt; is_read(rt.alloc(), longer.as_slice(), refused, &[])?);
     Ok(())
 }
 
@@ -87,7 +97,7 @@ const KINDS: [(&[u8], LineKind); 14] = [
 #[test]
 fn kinds_of_lines(rt: HostRuntime) {
     for &(line, kind) in &KINDS {
-        assert_eq!(rt; kind_of(line), kind);
+        assert!(rt; kind_of(line) == kind);
     }
 }
 
@@ -106,6 +116,6 @@ fn lines_of_answers(rt: HostRuntime) -> Result<(), Fail> {
         write_line(number, verdict, bytes, &mut text)?;
     }
     let wanted = b"9 drop short\n9 drop reject\n9 drop action\n9 5 -\n10 511 ff0a\n";
-    assert_eq!(rt; text.as_slice(), wanted.as_slice());
+    assert!(rt; text.as_slice() == wanted.as_slice());
     Ok(())
 }

@@ -56,81 +56,114 @@ fn in_pieces(alloc: Global, text: &[u8], first: usize, size: usize) -> Result<Ve
     Ok(told)
 }
 
+/// The lines of a text of at most 65,536 bytes in such pieces.
+fn told_in_pieces(alloc: Global, text: &[u8], first: usize, size: usize) -> Result<Vec<u8>, Fail> {
+    if text.len() > 65536 || first > text.len() || size == 0 {
+        return Err(Fail::new("no such pieces"));
+    }
+    in_pieces(alloc, text, first, size)
+}
+
+/// Whether these are the lines of a text, wherever its first piece ends.
+fn is_told_at_each_cut(
+    alloc: Global,
+    text: &[u8],
+    size: usize,
+    wanted: &[u8],
+) -> Result<bool, Fail> {
+    for first in 0..=text.len() {
+        if told_in_pieces(alloc, text, first, size)?.as_slice() != wanted {
+            return Ok(false);
+        }
+    }
+    Ok(true)
+}
+
+/// A text, and its packet lines, each behind its number.
+const TEXTS: [(&[u8], &[u8]); 7] = [
+    (b"", b""),
+    (b"\n \n# none", b""),
+    (b"0 ff", b"\x010 ff\n"),
+    (b"0 ff\n", b"\x010 ff\n"),
+    (
+        b"# none\n0 ff\n\n   \n1 00\n#x\n 2 ab",
+        b"\x020 ff\n\x051 00\n\x07 2 ab\n",
+    ),
+    (b"\n\n\nx\n\ny\n", b"\x04x\n\x06y\n"),
+    (b"  #\n#\r\n\r\n", b"\x01  #\n\x03\r\n"),
+];
+
 #[test]
 fn a_packet_text_cut_at_every_place(rt: HostRuntime) -> Result<(), Fail> {
-    let alloc = rt.alloc();
-    // a text, and its packet lines, each behind its number
-    let rows: [(&[u8], &[u8]); 7] = [
-        (b"", b""),
-        (b"\n \n# none", b""),
-        (b"0 ff", b"\x010 ff\n"),
-        (b"0 ff\n", b"\x010 ff\n"),
-        (
-            b"# none\n0 ff\n\n   \n1 00\n#x\n 2 ab",
-            b"\x020 ff\n\x051 00\n\x07 2 ab\n",
-        ),
-        (b"\n\n\nx\n\ny\n", b"\x04x\n\x06y\n"),
-        (b"  #\n#\r\n\r\n", b"\x01  #\n\x03\r\n"),
-    ];
-    for (text, wanted) in rows {
-        for first in 0..=text.len() {
-            assert_eq!(rt; in_pieces(alloc, text, first, 65536)?.as_slice(), wanted);
-            assert_eq!(rt; in_pieces(alloc, text, first, 1)?.as_slice(), wanted);
-            assert_eq!(rt; in_pieces(alloc, text, first, 3)?.as_slice(), wanted);
+    for &(text, wanted) in &TEXTS {
+        for &size in &[65536, 1, 3] {
+            assert!(rt; is_told_at_each_cut(rt.alloc(), text, size, wanted)?);
         }
     }
     Ok(())
 }
+
+/// A line of so many such bytes before `z`, and the line `0 ff` behind it.
+fn long_text(alloc: Global, count: u16, byte: u8) -> Result<Vec<u8>, AllocError> {
+    let mut text = vec![in alloc; byte; count as usize]?;
+    text.extend_from_slice(b"z\n0 ff")?;
+    Ok(text)
+}
+
+/// How many bytes of which kind a line has before `z`, and how many bytes tell it and the line `0 ff` behind it.
+const LONG: [(u16, u8, usize); 7] = [
+    (18442, b'1', 1 + 18443 + 1 + 6),
+    (18443, b'1', 1 + 18444 + 1 + 6),
+    (18444, b'1', 1 + 18444 + 1 + 6),
+    (30000, b'1', 1 + 18444 + 1 + 6),
+    (18444, b' ', 1 + 18444 + 1 + 6),
+    (30000, b' ', 1 + 18444 + 1 + 6),
+    (30000, b'#', 6),
+];
 
 #[test]
 fn long_lines_in_pieces(rt: HostRuntime) -> Result<(), Fail> {
-    let alloc = rt.alloc();
-    // how many bytes of which kind a line has before `z`, and how many bytes tell it and the line `0 ff` behind it
-    let rows: [(u16, u8, usize); 7] = [
-        (18442, b'1', 1 + 18443 + 1 + 6),
-        (18443, b'1', 1 + 18444 + 1 + 6),
-        (18444, b'1', 1 + 18444 + 1 + 6),
-        (30000, b'1', 1 + 18444 + 1 + 6),
-        (18444, b' ', 1 + 18444 + 1 + 6),
-        (30000, b' ', 1 + 18444 + 1 + 6),
-        (30000, b'#', 6),
-    ];
-    for (count, byte, wanted) in rows {
-        let mut text = vec![in alloc; byte; count as usize]?;
-        text.extend_from_slice(b"z\n0 ff")?;
-        assert!(rt; text.len() <= 65536);
+    for &(count, byte, wanted) in &LONG {
+        let text = long_text(rt.alloc(), count, byte)?;
         for &size in &[1usize, 4096, 40000] {
-            let told = in_pieces(alloc, text.as_slice(), 0, size)?;
-            assert_eq!(rt; told.len(), wanted);
+            assert!(rt; told_in_pieces(rt.alloc(), text.as_slice(), 0, size)?.len() == wanted);
         }
     }
-    let spaces = vec![in alloc; b' '; 30000]?;
-    assert_eq!(rt; in_pieces(alloc, spaces.as_slice(), 0, 1000)?.len(), 0);
+    let spaces = vec![in rt.alloc(); b' '; 30000]?;
+    assert!(rt; told_in_pieces(rt.alloc(), spaces.as_slice(), 0, 1000)?.is_empty());
     Ok(())
 }
 
+/// What a line's frame is read as.
+fn read(alloc: Global, line: &[u8]) -> Result<u16, PacketFault> {
+    let mut frame = Vec::new(alloc);
+    read_packet(line, &mut frame)
+}
+
+/// What is read of a line of so many digits behind the port 7: of the whole line, and of what is told of it in one piece.
+fn read_twice(alloc: Global, digits: u16) -> Result<[Result<u16, PacketFault>; 2], Fail> {
+    let mut line = b"7 ".to_vec(alloc)?;
+    line.resize(digits as usize + 2, b'0')?;
+    // behind its number, and before a line feed
+    let told = told_in_pieces(alloc, line.as_slice(), 0, 65536)?;
+    let front = told.as_slice().get(1..told.len().saturating_sub(1));
+    let front = read(alloc, front.unwrap_or(&[]));
+    Ok([read(alloc, line.as_slice()), front])
+}
+
+/// How many digits stand behind the port, and what is read.
+const DIGITS: [(u16, Result<u16, PacketFault>); 5] = [
+    (18432, Ok(7)),
+    (18433, Err(PacketFault::Code(3))),
+    (18434, Err(PacketFault::Code(3))),
+    (18442, Err(PacketFault::Code(3))),
+    (30000, Err(PacketFault::Code(3))),
+];
+
 #[test]
 fn a_long_line_is_read_as_its_front(rt: HostRuntime) -> Result<(), Fail> {
-    let alloc = rt.alloc();
-    let mut frame = Vec::new(alloc);
-    // how many digits stand behind the port, and what is read
-    let rows: [(u16, Result<u16, PacketFault>); 5] = [
-        (18432, Ok(7)),
-        (18433, Err(PacketFault::Code(3))),
-        (18434, Err(PacketFault::Code(3))),
-        (18442, Err(PacketFault::Code(3))),
-        (30000, Err(PacketFault::Code(3))),
-    ];
-    for (digits, wanted) in rows {
-        let mut line = b"7 ".to_vec(alloc)?;
-        line.resize(digits as usize + 2, b'0')?;
-        assert!(rt; line.len() <= 65536);
-        // behind its number, and before a line feed
-        let told = in_pieces(alloc, line.as_slice(), 0, 65536)?;
-        let front = told.as_slice().get(1..told.len().saturating_sub(1));
-        for &text in &[line.as_slice(), front.unwrap_or(&[])] {
-            assert_eq!(rt; read_packet(text, &mut frame), wanted);
-        }
+    for &(digits, wanted) in &DIGITS {
+        assert!(rt; read_twice(rt.alloc(), digits)? == [wanted, wanted]);
     }
     Ok(())
 }

@@ -2,7 +2,7 @@
 
 use rmt_io::mem_shelf::MemShelf;
 use rmt_io::shelf::{Shelf, ShelfFault};
-use rmt_io::true_shelf::TrueShelf;
+use rmt_io::true_shelf::{MachineFault, TrueShelf};
 use std::alloc::{AllocError, Global};
 use std::fs;
 use std::io::ErrorKind;
@@ -66,18 +66,22 @@ fn act<S: Shelf>(
     }
 }
 
+/// Whether a step is answered so, and leaves these bytes in the buffer.
+fn is_answered<S: Shelf>(alloc: Global, shelf: &mut S, row: Row) -> Result<bool, AllocError> {
+    let (name, step, answer, bytes) = row;
+    let mut read = Vec::new(alloc);
+    read.push(b'-')?;
+    Ok(act(alloc, shelf, name, step, &mut read)? == answer && read.as_slice() == bytes)
+}
+
 /// Takes steps, and compares their answers.
 fn run<S: Shelf>(
     rt: &(impl Abort + AllocGlobal),
     shelf: &mut S,
     rows: &[Row],
 ) -> Result<(), AllocError> {
-    let mut read = Vec::new(rt.alloc());
-    for (name, step, answer, bytes) in rows {
-        read.clear();
-        read.push(b'-')?;
-        assert_eq!(rt; act(rt.alloc(), shelf, name, *step, &mut read)?, *answer);
-        assert_eq!(rt; read.as_slice(), *bytes);
+    for &row in rows {
+        assert!(rt; is_answered(rt.alloc(), shelf, row)?);
     }
     Ok(())
 }
@@ -90,6 +94,21 @@ fn put(alloc: Global, shelf: &mut MemShelf, name: &str, bytes: &[u8]) -> Result<
         Ok(()) => Ok(()),
         Err(_) => Err(AllocError),
     }
+}
+
+/// A shelf in memory with the file `a`, of which the calls of these numbers fail, and a call reads so many bytes at most.
+fn shelf_with(
+    alloc: Global,
+    failing: &[u64],
+    most: u32,
+    bytes: &[u8],
+) -> Result<MemShelf, AllocError> {
+    if most == 0 {
+        return Err(AllocError);
+    }
+    let mut shelf = MemShelf::new(Vec::from_slice(alloc, failing)?, most);
+    put(alloc, &mut shelf, "a", bytes)?;
+    Ok(shelf)
 }
 
 /// How many bytes a file of a shelf in memory has.
@@ -113,10 +132,10 @@ const READ: [Row; 6] = [
 #[test]
 fn shelf_in_memory(rt: HostRuntime) -> Result<(), Fail> {
     let mut shelf = MemShelf::new(Vec::new(rt.alloc()), 5);
-    assert_eq!(rt; size_of(rt.alloc(), &shelf, "a")?, None);
+    assert!(rt; size_of(rt.alloc(), &shelf, "a")?.is_none());
     put(rt.alloc(), &mut shelf, "a", &[1, 2])?;
     run(&rt, &mut shelf, &READ)?;
-    assert_eq!(rt; size_of(rt.alloc(), &shelf, "a")?, Some(0));
+    assert!(rt; size_of(rt.alloc(), &shelf, "a")? == Some(0));
     Ok(())
 }
 
@@ -140,8 +159,7 @@ const FAILING: [(u64, &[Row]); 3] = [
 #[test]
 fn shelf_calls_fail_by_number(rt: HostRuntime) -> Result<(), Fail> {
     for &(number, rows) in &FAILING {
-        let mut shelf = MemShelf::new(vec![in rt.alloc(); number]?, 5);
-        put(rt.alloc(), &mut shelf, "a", b"7")?;
+        let mut shelf = shelf_with(rt.alloc(), &[number], 5, b"7")?;
         run(&rt, &mut shelf, rows)?;
     }
     Ok(())
@@ -205,17 +223,17 @@ const FAILING_OPEN: [(u64, &[Row]); 5] = [
 #[test]
 fn each_call_of_an_open_file_fails(rt: HostRuntime) -> Result<(), Fail> {
     for &(number, rows) in &FAILING_OPEN {
-        let mut shelf = MemShelf::new(vec![in rt.alloc(); number]?, 1);
-        put(rt.alloc(), &mut shelf, "a", b"ab")?;
+        let mut shelf = shelf_with(rt.alloc(), &[number], 1, b"ab")?;
         run(&rt, &mut shelf, rows)?;
     }
     Ok(())
 }
 
-/// The most bytes of a call, and how the file "abcde" is read.
-const PIECES: [(u32, &[Row]); 5] = [
+/// The most bytes of a call, the file, and how it is read.
+const PIECES: [(u32, &[u8], &[Row]); 6] = [
     (
         1,
+        b"abcde",
         &[
             OPENS,
             ("a", Step::Next(8), Ok(()), b"a"),
@@ -228,6 +246,7 @@ const PIECES: [(u32, &[Row]); 5] = [
     ),
     (
         8,
+        b"abcde",
         &[
             ("a", Step::Next(2), Ok(()), b""),
             OPENS,
@@ -240,6 +259,7 @@ const PIECES: [(u32, &[Row]); 5] = [
     ),
     (
         3,
+        b"abcde",
         &[
             OPENS,
             ("a", Step::Next(8), Ok(()), b"abc"),
@@ -251,6 +271,7 @@ const PIECES: [(u32, &[Row]); 5] = [
     ),
     (
         5,
+        b"abcde",
         &[
             OPENS,
             ("a", Step::Next(5), Ok(()), b"abcde"),
@@ -259,33 +280,30 @@ const PIECES: [(u32, &[Row]); 5] = [
     ),
     (
         9,
+        b"abcde",
         &[
             OPENS,
             ("a", Step::Next(9), Ok(()), b"abcde"),
             ("a", Step::Next(9), Ok(()), b""),
         ],
     ),
-];
-
-#[test]
-fn a_file_in_pieces(rt: HostRuntime) -> Result<(), Fail> {
-    for &(most, rows) in &PIECES {
-        assert!(rt; 0 < most);
-        let mut shelf = MemShelf::new(Vec::new(rt.alloc()), most);
-        put(rt.alloc(), &mut shelf, "a", b"abcde")?;
-        run(&rt, &mut shelf, rows)?;
-    }
-    let mut shelf = MemShelf::new(Vec::new(rt.alloc()), 1);
-    put(rt.alloc(), &mut shelf, "a", b"")?;
-    run(
-        &rt,
-        &mut shelf,
+    (
+        1,
+        b"",
         &[
             OPENS,
             ("a", Step::Next(1), Ok(()), b""),
             ("a", Step::Next(1), Ok(()), b""),
         ],
-    )?;
+    ),
+];
+
+#[test]
+fn a_file_in_pieces(rt: HostRuntime) -> Result<(), Fail> {
+    for &(most, bytes, rows) in &PIECES {
+        let mut shelf = shelf_with(rt.alloc(), &[], most, bytes)?;
+        run(&rt, &mut shelf, rows)?;
+    }
     Ok(())
 }
 
@@ -302,20 +320,21 @@ const CLOSED: [Row; 10] = [
     ("a", Step::Next(1), Ok(()), b""),
 ];
 
+/// What the file is made, and what is asked then: the first and the second byte are read, and it ends.
+const REPLACED: [(&[u8], &[Row]); 3] = [
+    (b"abc", &[OPENS, ("a", Step::Next(1), Ok(()), b"a")]),
+    (b"xyz", &[("a", Step::Next(1), Ok(()), b"y")]),
+    (b"x", &CLOSED),
+];
+
 /// A file that is replaced goes on in its new bytes, and ends where it has no more; a write, a read and a refusal close it.
 #[test]
 fn what_closes_a_file(rt: HostRuntime) -> Result<(), Fail> {
     let mut shelf = MemShelf::new(Vec::new(rt.alloc()), 2);
-    put(rt.alloc(), &mut shelf, "a", b"abc")?;
-    run(
-        &rt,
-        &mut shelf,
-        &[OPENS, ("a", Step::Next(1), Ok(()), b"a")],
-    )?;
-    put(rt.alloc(), &mut shelf, "a", b"xyz")?;
-    run(&rt, &mut shelf, &[("a", Step::Next(1), Ok(()), b"y")])?;
-    put(rt.alloc(), &mut shelf, "a", b"x")?;
-    run(&rt, &mut shelf, &CLOSED)?;
+    for &(bytes, rows) in &REPLACED {
+        put(rt.alloc(), &mut shelf, "a", bytes)?;
+        run(&rt, &mut shelf, rows)?;
+    }
     Ok(())
 }
 
@@ -386,16 +405,22 @@ const REFUSALS: [(&str, Step, Result<(), ShelfFault>, Refusal); 8] = [
     (".", Step::Read(9), CANNOT, FOLDER),
 ];
 
+/// Whether this was refused last.
+fn is_last(fault: Option<&MachineFault>, refusal: Refusal) -> bool {
+    match fault {
+        Some(fault) => fault.name.as_str() == refusal.0 && fault.kind == refusal.1,
+        None => false,
+    }
+}
+
 #[test]
 fn what_the_machine_refuses(rt: HostRuntime) -> Result<(), Fail> {
     let mut shelf = TrueShelf::new(&rt);
     let mut read = Vec::new(rt.alloc());
     assert!(rt; shelf.last_fault().is_none());
     for &(name, step, answer, refusal) in &REFUSALS {
-        assert_eq!(rt; act(rt.alloc(), &mut shelf, name, step, &mut read)?, answer);
-        let fault = shelf.last_fault().ok_or("no fault is kept")?;
-        assert_eq!(rt; fault.name.as_str(), refusal.0);
-        assert_eq!(rt; fault.kind, refusal.1);
+        assert!(rt; act(rt.alloc(), &mut shelf, name, step, &mut read)? == answer);
+        assert!(rt; is_last(shelf.last_fault(), refusal));
     }
     Ok(())
 }
@@ -403,22 +428,48 @@ fn what_the_machine_refuses(rt: HostRuntime) -> Result<(), Fail> {
 /// How many bytes a file has that is read in many calls of the system.
 const LONG: usize = 3 << 20;
 
+/// The bytes of that file.
+fn long_bytes(alloc: Global) -> Result<Vec<u8>, AllocError> {
+    let mut bytes = vec![in alloc; 0u8; LONG]?;
+    for (place, byte) in bytes.iter_mut().enumerate() {
+        *byte = (place % 251) as u8;
+    }
+    Ok(bytes)
+}
+
+/// Whether a file is written and read back where it may be so long.
+fn comes_back<S: Shelf>(
+    alloc: Global,
+    shelf: &mut S,
+    name: &String,
+    bytes: &Vec<u8>,
+) -> Result<bool, ShelfFault> {
+    let mut into = Vec::new(alloc);
+    shelf.write(alloc, name, bytes)?;
+    shelf.read(alloc, name, LONG as u64, &mut into)?;
+    Ok(into.as_slice() == bytes.as_slice())
+}
+
+/// Whether a file is too long for a limit, and nothing of it stands in the buffer then.
+fn is_too_long<S: Shelf>(
+    alloc: Global,
+    shelf: &mut S,
+    name: &String,
+    limit: u64,
+) -> Result<bool, AllocError> {
+    let mut into = Vec::new(alloc);
+    into.push(7)?;
+    Ok(shelf.read(alloc, name, limit, &mut into) == TOO_LONG && into.is_empty())
+}
+
 #[test]
 fn a_long_file_of_the_machine(rt: HostRuntime) -> Result<(), Fail> {
     let mut shelf = TrueShelf::new(&rt);
     let name = String::from_str(rt.alloc(), LONG_NAME)?;
-    let mut bytes = vec![in rt.alloc(); 0u8; LONG]?;
-    for (place, byte) in bytes.iter_mut().enumerate() {
-        *byte = (place % 251) as u8;
-    }
-    let mut into = Vec::new(rt.alloc());
-    shelf.write(rt.alloc(), &name, &bytes)?;
-    shelf.read(rt.alloc(), &name, LONG as u64, &mut into)?;
-    assert!(rt; into.as_slice() == bytes.as_slice());
+    let bytes = long_bytes(rt.alloc())?;
+    assert!(rt; comes_back(rt.alloc(), &mut shelf, &name, &bytes) == Ok(true));
     for &limit in &[LONG as u64 - 1, 0] {
-        let answer = shelf.read(rt.alloc(), &name, limit, &mut into);
-        assert_eq!(rt; answer, Err(ShelfFault::TooLong));
-        assert_eq!(rt; into.len(), 0);
+        assert!(rt; is_too_long(rt.alloc(), &mut shelf, &name, limit)?);
     }
     fs::remove_file(&rt, LONG_NAME)?;
     Ok(())

@@ -2,6 +2,7 @@
 
 ghost use Rattle.std.specs.Prelude.{◌<◌, length};
 
+use crate::tests::compare::same_text;
 use rmt_ast::program::Program;
 use rmt_check::check;
 use rmt_lexer::fault::ProgramFault;
@@ -12,7 +13,7 @@ use rmt_tests::fixtures::programs::{
 };
 use rmt_tests::fixtures::shown::shown;
 use rmt_tests::fixtures::texts::repeated;
-use std::alloc::Global;
+use std::alloc::{AllocError, Global};
 use std::process::Abort;
 use std::test::*;
 
@@ -499,45 +500,48 @@ const LONG_FAULTS: [LongRow; 7] = [
     ),
 ];
 
+/// The code, the line and the column of a text's fault; None where it means a program, or memory is wanting.
+fn fault_of(alloc: Global, text: &[u8]) -> Option<(u8, u32, u32)>
+    requires { length text.now < 4294967295 }
+{
+    match answer(alloc, text) {
+        Err(ProgramFault::At { code, line, column }) => Some((code, line, column)),
+        _ => None,
+    }
+}
+
 /// Compares the fault of a text.
 fn tells(rt: &(impl Abort + AllocGlobal), text: &[u8], code: u8, line: u32, column: u32) {
     assert!(rt; text.len() < 10000000);
-    match answer(rt.alloc(), text) {
-        Ok(_) => assert!(rt; false, "a program, and not code {code}"),
-        Err(
-            ProgramFault::At {
-                code: told,
-                line: at,
-                column: behind,
-            },
-        ) => assert_eq!(rt; (told, at, behind), (code, line, column)),
-        Err(ProgramFault::NoMemory) => assert!(rt; false, "no memory"),
-    }
+    let is_told = fault_of(rt.alloc(), text) == Some((code, line, column));
+    assert!(rt; is_told, "not code {code} at {line}:{column}");
 }
 
 #[test]
 fn tells_faults(rt: HostRuntime) {
-    for (text, code, line, column) in &FAULTS {
-        tells(&rt, text, *code, *line, *column);
+    for &(text, code, line, column) in &FAULTS {
+        tells(&rt, text, code, line, column);
     }
 }
 
 #[test]
 fn tells_faults_of_long_texts(rt: HostRuntime) {
-    for (front, piece, times, back, code, line, column) in &LONG_FAULTS {
-        let text = repeated(rt.alloc(), front, piece, *times, back).expect(&rt, "memory");
-        tells(&rt, text.as_slice(), *code, *line, *column);
+    for &(front, piece, times, back, code, line, column) in &LONG_FAULTS {
+        let text = repeated(rt.alloc(), front, piece, times, back).expect(&rt, "memory");
+        tells(&rt, text.as_slice(), code, line, column);
     }
 }
 
 /// A header of a very long name, with so many fields that its bits are too many.
+fn long_header(alloc: Global) -> Result<Vec<u8>, AllocError> {
+    let front = repeated(alloc, b"header ", b"h", 50000, b" { ")?;
+    let back = b"} next accept; control { }";
+    repeated(alloc, front.as_slice(), b"f# : 1; ", 50000, back)
+}
+
 #[test]
 fn tells_of_a_long_name_with_many_fields(rt: HostRuntime) {
-    let front = repeated(rt.alloc(), b"header ", b"h", 50000, b" { ").expect(&rt, "memory");
-    let back = b"} next accept; control { }";
-    let text = repeated(rt.alloc(), front.as_slice(), b"f# : 1; ", 50000, back).expect(
-        &rt, "memory",
-    );
+    let text = long_header(rt.alloc()).expect(&rt, "memory");
     tells(&rt, text.as_slice(), 8, 1, 8);
 }
 
@@ -555,12 +559,22 @@ const PROGRAMS: [(&[u8], &str); 4] = [
     ),
 ];
 
+/// The lines of a text's program.
+fn lines_of(alloc: Global, text: &[u8]) -> Result<String, ProgramFault>
+    requires { length text.now < 4294967295 }
+{
+    let program = answer(alloc, text)?;
+    match shown(alloc, &program) {
+        Ok(lines) => Ok(lines),
+        Err(_) => Err(ProgramFault::NoMemory),
+    }
+}
+
 #[test]
 fn reads_programs(rt: HostRuntime) {
     for &(text, want) in &PROGRAMS {
         assert!(rt; text.len() < 10000);
-        let program = answer(rt.alloc(), text).expect(&rt, "a program");
-        let got = shown(rt.alloc(), &program).expect(&rt, "memory");
-        assert_eq!(rt; got.as_str(), want);
+        let got = lines_of(rt.alloc(), text).expect(&rt, "a program");
+        same_text(&rt, got.as_str(), want);
     }
 }

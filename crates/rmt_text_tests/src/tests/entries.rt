@@ -1,5 +1,8 @@
 //! Entry texts: the lists of good lines of each kind of table, and each code of bad ones.
 
+ghost use Rattle.std.specs.Prelude.{◌<◌, length};
+
+use crate::tests::compare::same_text;
 use rmt_ast::entry::{Entry, EntryLists};
 use rmt_entries::entries;
 use rmt_entries::fault::EntryFault;
@@ -47,16 +50,22 @@ fn shown(alloc: Global, answer: Result<EntryLists, EntryFault>) -> Result<String
     Ok(out)
 }
 
+/// What a text says of a program that a text means.
+fn told(alloc: Global, program: &[u8], text: &[u8]) -> Result<String, AllocError>
+    requires program { length program.now < 4294967295 }
+    requires entries { length text.now < 4294967295 }
+{
+    match program_of(alloc, program) {
+        Ok(program) => shown(alloc, entries(alloc, &program, text)),
+        Err(_) => Err(AllocError),
+    }
+}
+
 /// Whether a text says this of a program.
 fn says(rt: &(impl Abort + AllocGlobal), program: &[u8], text: &[u8], wanted: &str) {
     assert!(rt; program.len() < 1000000 && text.len() < 1000000);
-    match program_of(rt.alloc(), program) {
-        Ok(program) => match shown(rt.alloc(), entries(rt.alloc(), &program, text)) {
-            Ok(told) => assert_eq!(rt; told.as_str(), wanted),
-            Err(_) => panic!(rt; "no memory"),
-        },
-        Err(_) => panic!(rt; "a bad program"),
-    }
+    let told = told(rt.alloc(), program, text).expect(rt, "a program");
+    same_text(rt, told.as_str(), wanted);
 }
 
 /// A text, and what it says of the program with a table `b` that is exact.

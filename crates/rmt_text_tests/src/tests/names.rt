@@ -2,6 +2,7 @@
 
 ghost use Rattle.std.specs.Prelude.{◌<◌, length};
 
+use crate::tests::compare::same_text;
 use rmt_ast::name::NamesFault;
 use rmt_ast::names::Names;
 use rmt_ast::naming::names_of;
@@ -97,6 +98,6 @@ fn tells_names(rt: HostRuntime) {
     for &(program, text, wanted) in &ROWS {
         assert!(rt; program.len() < 10000 && text.len() < 10000);
         let told = copied(&rt, program, text).expect(&rt, "memory");
-        assert_eq!(rt; told.as_str(), wanted);
+        same_text(&rt, told.as_str(), wanted);
     }
 }

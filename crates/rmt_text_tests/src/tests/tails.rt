@@ -2,6 +2,7 @@
 
 ghost use Rattle.std.specs.Prelude.{◌<◌, length};
 
+use crate::tests::compare::same_text;
 use rmt_ast::program::Program;
 use rmt_check::read_program;
 use rmt_lexer::fault::ProgramFault;
@@ -49,10 +50,10 @@ type Row = (&'static [u8], &'static str);
 
 /// Compares the meaning of each text.
 fn compares(rt: &(impl Abort + AllocGlobal), rows: &[Row]) {
-    for (text, want) in rows {
+    for &(text, want) in rows {
         assert!(rt; text.len() < 10000);
         let got = meaning(rt.alloc(), text).expect(rt, "memory");
-        assert_eq!(rt; got.as_str(), *want);
+        same_text(rt, got.as_str(), want);
     }
 }
 

@@ -2,6 +2,7 @@
 
 ghost use Rattle.std.specs.Prelude.{◌<◌, length};
 
+use crate::tests::compare::same_text;
 use rmt_lexer::fault::ProgramFault;
 use rmt_lexer::token::{Token, TokenKind};
 use rmt_lexer::tokens;
@@ -73,9 +74,8 @@ const TEXTS: [(&[u8], &str); 18] = [
 #[test]
 fn reads_texts(rt: HostRuntime) {
     for &(text, want) in &TEXTS {
-        let short = text.len() < 1000;
-        assert!(rt; short);
+        assert!(rt; text.len() < 1000);
         let got = shown(rt.alloc(), text).expect(&rt, "memory");
-        assert_eq!(rt; got.as_str(), want);
+        same_text(&rt, got.as_str(), want);
     }
 }

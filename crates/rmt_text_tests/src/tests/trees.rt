@@ -2,6 +2,7 @@
 
 ghost use Rattle.std.specs.Prelude.{◌<◌, length};
 
+use crate::tests::compare::same_text;
 use rmt_lexer::fault::ProgramFault;
 use rmt_lexer::token::{Token, TokenKind};
 use rmt_lexer::tokens;
@@ -102,9 +103,8 @@ const TREES: [(&[u8], &str); 15] = [
 #[test]
 fn reads_trees(rt: HostRuntime) {
     for &(text, want) in &TREES {
-        let short = text.len() < 1000;
-        assert!(rt; short);
+        assert!(rt; text.len() < 1000);
         let got = read(rt.alloc(), text).expect(&rt, "memory");
-        assert_eq!(rt; got.as_str(), want);
+        same_text(&rt, got.as_str(), want);
     }
 }

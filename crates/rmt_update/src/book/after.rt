@@ -7,17 +7,17 @@ ghost use Rattle.std.specs.Ordering.{nat_cmp};
 ghost use Rattle.rmt_ast.specs.declared.entry.Entry.{Entry as EntryOf};
 ghost use Rattle.rmt_config.specs.NamesForm.{by_number};
 ghost use Rattle.rmt_update.specs.After.{AreOrders, left_of, with_come, without_gone};
-ghost use Rattle.rmt_update.specs.Numbered.{IsOrder};
+ghost use Rattle.rmt_book.specs.Numbered.{IsOrder};
 ghost use Rattle.rmt_update.specs.Planned.{changed_lists};
-ghost use Rattle.rmt_update.specs.Running.{is_among};
-ghost use Rattle.rmt_update.specs.Seen.{HaveNumbers};
+ghost use Rattle.rmt_lists.specs.Running.{is_among};
+ghost use Rattle.rmt_book.specs.Seen.{HaveNumbers};
 
 use crate::book::number_set::number_set;
-use crate::book::ordered::{Ordered, in_order, put};
-use crate::lists::Changes;
-use crate::settle::copied;
 use rmt_ast::entry::{Entry, EntryLists};
 use rmt_bits::sequence::Sequence;
+use rmt_book::ordered::{Ordered, in_order, put};
+use rmt_lists::lists::Changes;
+use rmt_lists::settle::copied;
 use std::alloc::{AllocError, Global};
 use std::collections::BTreeSet;
 

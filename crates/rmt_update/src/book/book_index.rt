@@ -9,16 +9,16 @@ ghost use Rattle.rmt_update.specs.BookIndex.{AreApart, IsBookIndex};
 ghost use Rattle.rmt_update.specs.BookStands.{BookStands};
 ghost use Rattle.rmt_update.specs.IndexCells.{HasGathered, all_cells, part_cells, table_cells};
 ghost use Rattle.rmt_update.specs.RowIndex.{IsIndex, never};
-ghost use Rattle.rmt_update.specs.declared.book.kept.Kept.{Kept as KeptOf};
-ghost use Rattle.rmt_update.specs.declared.book.spot.BookSpot.{BookSpot as SpotOf};
+ghost use Rattle.rmt_book.specs.declared.kept.Kept.{Kept as KeptOf};
+ghost use Rattle.rmt_book.specs.declared.spot.BookSpot.{BookSpot as SpotOf};
 
 use crate::book::Book;
 use crate::book::index::{TableIndex, index_of};
-use crate::book::kept::Kept;
 use crate::book::placing::all_ordered;
-use crate::book::spot::BookSpot;
-use crate::book::spots::Spot;
-use crate::book::table::{PartCells, TableCells};
+use rmt_book::kept::Kept;
+use rmt_book::spot::BookSpot;
+use rmt_book::spots::Spot;
+use rmt_book::table::{PartCells, TableCells};
 use std::alloc::{AllocError, Global};
 use std::collections::BTreeMap;
 

@@ -3,13 +3,13 @@
 ghost use Rattle.std.specs.Prelude.{◌≡◌, ◌<◌, IfOk, OnOk};
 ghost use Rattle.std.specs.BTreeMap.{insert_entry};
 ghost use Rattle.rmt_update.specs.Changing.{key_cmp};
-ghost use Rattle.rmt_update.specs.Coming.{empty_write as empty_write_of, kept_write as kept_write_of};
+ghost use Rattle.rmt_book.specs.Coming.{empty_write as empty_write_of, kept_write as kept_write_of};
 ghost use Rattle.rmt_update.specs.Differences.{changes_in};
 
-use crate::book::kept::Kept;
-use crate::book::spot::BookSpot;
-use crate::book::table::PartCells;
-use crate::book::written::{empty_write, kept_write};
+use rmt_book::kept::Kept;
+use rmt_book::spot::BookSpot;
+use rmt_book::table::PartCells;
+use rmt_book::written::{empty_write, kept_write};
 use rmt_config::cell_write::CellWrite;
 use std::alloc::{AllocError, Global};
 

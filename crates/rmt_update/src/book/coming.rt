@@ -7,15 +7,15 @@ ghost use Rattle.rmt_ast.specs.NameRules.{table_is_formed, terms_of_name};
 ghost use Rattle.rmt_ast.specs.declared.names.ActionName.{ActionName as ActionOf};
 ghost use Rattle.rmt_config.specs.Rooms.{args_as_one, tests_as_one};
 ghost use Rattle.rmt_config.specs.BlockCounts.{divided_up};
-ghost use Rattle.rmt_update.specs.Coming.{HasSizes, KeepsEntry, key_bytes};
+ghost use Rattle.rmt_book.specs.Coming.{HasSizes, KeepsEntry, key_bytes};
 ghost use Rattle.rmt_config.specs.Rooms.{mask_or_value};
-ghost use Rattle.rmt_update.specs.Told.{is_whole};
+ghost use Rattle.rmt_book.specs.Told.{is_whole};
 
 use crate::book::encoded::{args_bytes, tests_bytes};
-use crate::book::kept::Kept;
 use rmt_ast::entry::Entry;
 use rmt_ast::names::TableName;
 use rmt_ast::program::Kind;
+use rmt_book::kept::Kept;
 use std::alloc::{AllocError, Global};
 
 /// The mask of an entry; nothing where all bits of its key count. The only fault is want of memory.

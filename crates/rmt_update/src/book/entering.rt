@@ -3,19 +3,19 @@
 ghost use Rattle.std.specs.Prelude.{◌≡◌, ◌<◌, All, IfOk, List, OnErr, OnOk, Option, Some, length};
 ghost use Rattle.std.specs.BTreeMap.{get};
 ghost use Rattle.std.specs.Ordering.{nat_cmp};
-ghost use Rattle.rmt_update.specs.BookSpots.{kept_at};
+ghost use Rattle.rmt_book.specs.BookSpots.{kept_at};
 ghost use Rattle.rmt_update.specs.Turning.{HaveCells, IsSpotIn, LeadBack, PartWith, PartsWith, TablesWith, cell_at, come_to, turn_to};
-ghost use Rattle.rmt_update.specs.declared.book.kept.Kept.{Kept as KeptOf};
+ghost use Rattle.rmt_book.specs.declared.kept.Kept.{Kept as KeptOf};
 ghost use Rattle.rmt_update.specs.declared.book.placing.Coming.{Coming as ComingOf};
-ghost use Rattle.rmt_update.specs.declared.book.table.TableCells.{TableCells as TableOf};
+ghost use Rattle.rmt_book.specs.declared.table.TableCells.{TableCells as TableOf};
 
-use crate::book::kept::Kept;
 use crate::book::placing::Coming;
-use crate::book::spot::BookSpot;
-use crate::book::spots::Spot;
-use crate::book::table::{PartCells, TableCells};
 use crate::book::turning::{CellTurn, Turn, turn_all, turn_cell};
 use rmt_bits::sequence::Sequence;
+use rmt_book::kept::Kept;
+use rmt_book::spot::BookSpot;
+use rmt_book::spots::Spot;
+use rmt_book::table::{PartCells, TableCells};
 use std::alloc::{AllocError, Global};
 
 /// An entry comes to a cell of a part; what was kept of it is given back. The only fault is want of memory.

@@ -3,18 +3,18 @@
 ghost use Rattle.std.specs.Prelude.{◌≡◌, ℕ, Bool, Some, length, slice_get};
 ghost use Rattle.std.specs.List.{AllZip};
 ghost use Rattle.rmt_update.specs.BookIndex.{AreApart, FindsCells};
-ghost use Rattle.rmt_update.specs.BookSpots.{kept_at as kept_at_of};
+ghost use Rattle.rmt_book.specs.BookSpots.{kept_at as kept_at_of};
 ghost use Rattle.rmt_update.specs.RowIndex.{IsIndex, IsRowGone, kept_key, never, or_is};
-ghost use Rattle.rmt_update.specs.Running.{is_among};
+ghost use Rattle.rmt_lists.specs.Running.{is_among};
 ghost use Rattle.rmt_update.specs.Turning.{IsSpotIn};
-ghost use Rattle.rmt_update.specs.declared.book.kept.Kept.{Kept as KeptOf};
-ghost use Rattle.rmt_update.specs.declared.book.table.TableCells.{TableCells as TableOf};
+ghost use Rattle.rmt_book.specs.declared.kept.Kept.{Kept as KeptOf};
+ghost use Rattle.rmt_book.specs.declared.table.TableCells.{TableCells as TableOf};
 
 use crate::book::book_index::BookIndex;
 use crate::book::index::TableIndex;
-use crate::book::row_order::row_key;
-use crate::book::spot::{BookSpot, kept_at};
-use crate::book::table::TableCells;
+use rmt_book::row_order::row_key;
+use rmt_book::spot::{BookSpot, kept_at};
+use rmt_book::table::TableCells;
 
 /// The entry of a cell leaves the rows of its table.
 fn leave_row(tables: &[TableCells], spot: BookSpot, index: &mut TableIndex)

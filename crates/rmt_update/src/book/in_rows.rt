@@ -4,7 +4,7 @@ ghost use Rattle.std.specs.Prelude.{◌≡◌, ◌≤◌, ◌<◌, ◌^◌, ◌�
 ghost use Rattle.std.specs.List.Sorted.{IsNonDecreasingBy, IsPermutation};
 ghost use Rattle.rmt_ast.specs.RowOrder.{goes_first};
 ghost use Rattle.rmt_ast.specs.declared.entry.Entry.{Entry as EntryOf};
-ghost use Rattle.rmt_update.specs.Spots.{order_by, rank_by};
+ghost use Rattle.rmt_book.specs.Spots.{order_by, rank_by};
 
 use rmt_ast::entry::Entry;
 use rmt_ast::program::Kind;

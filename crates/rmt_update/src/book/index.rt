@@ -2,13 +2,13 @@
 
 ghost use Rattle.std.specs.Prelude.{◌≡◌, ◌+◌, ◌≤◌, ◌^◌, ◌++◌, ◌∷◌, [], All, IfOk, List, OnOk, Option, length, option_copied, true};
 ghost use Rattle.rmt_update.specs.RowIndex.{AreRows, HaveOwnRows, IsIndex, IsNone, has_rows as has_rows_of, never, part_rows, rows_of};
-ghost use Rattle.rmt_update.specs.declared.book.kept.Kept.{Kept as KeptOf};
+ghost use Rattle.rmt_book.specs.declared.kept.Kept.{Kept as KeptOf};
 
-use crate::book::kept::Kept;
-use crate::book::row_order::{RowOrder, row_key};
 use crate::book::seen::is_seen;
-use crate::book::table::{PartCells, TableCells};
 use rmt_ast::program::Kind;
+use rmt_book::kept::Kept;
+use rmt_book::row_order::{RowOrder, row_key};
+use rmt_book::table::{PartCells, TableCells};
 use std::alloc::{AllocError, Global};
 use std::collections::{BTreeMap, BTreeSet};
 

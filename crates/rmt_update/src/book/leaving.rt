@@ -3,19 +3,19 @@
 ghost use Rattle.std.specs.Prelude.{◌≡◌, ◌<◌, ℕ, AllPairs, Contains, OnOk, Some, option_copied, option_map};
 ghost use Rattle.std.specs.BTreeMap.{get};
 ghost use Rattle.std.specs.Ordering.{nat_cmp};
-ghost use Rattle.rmt_update.specs.BookSpots.{kept_at};
+ghost use Rattle.rmt_book.specs.BookSpots.{kept_at};
 ghost use Rattle.rmt_update.specs.Differences.{Puts, changes_in};
-ghost use Rattle.rmt_update.specs.Running.{is_among};
+ghost use Rattle.rmt_lists.specs.Running.{is_among};
 ghost use Rattle.rmt_update.specs.TurnWrites.{AreOnWay, AreSmall, HaveOwnSlots, MoreChanged, PutsLeft, shown_write};
 ghost use Rattle.rmt_update.specs.Turning.{left_kept, part_of};
-ghost use Rattle.rmt_update.specs.declared.book.kept.Kept.{Kept as KeptOf};
-ghost use Rattle.rmt_update.specs.declared.book.spot.BookSpot.{BookSpot as SpotOf};
+ghost use Rattle.rmt_book.specs.declared.kept.Kept.{Kept as KeptOf};
+ghost use Rattle.rmt_book.specs.declared.spot.BookSpot.{BookSpot as SpotOf};
 
 use crate::book::changing::{CellChanges, put_empty, put_kept};
-use crate::book::kept::Kept;
 use crate::book::seen::is_seen;
-use crate::book::spot::BookSpot;
-use crate::book::table::{PartCells, TableCells};
+use rmt_book::kept::Kept;
+use rmt_book::spot::BookSpot;
+use rmt_book::table::{PartCells, TableCells};
 use std::alloc::{AllocError, Global};
 use std::collections::BTreeMap;
 

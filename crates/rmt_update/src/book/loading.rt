@@ -11,24 +11,24 @@ ghost use Rattle.rmt_ast.specs.declared.program.Kind.TheVariants as kind;
 ghost use Rattle.rmt_config.specs.declared.config.Config.{Config as ConfigOf};
 ghost use Rattle.rmt_cuckoo.specs.declared.layout.Ways.{Ways as WaysOf};
 ghost use Rattle.rmt_cuckoo.specs.Loading.{cells_in, cells_of};
-ghost use Rattle.rmt_update.specs.Coming.{key_bytes};
+ghost use Rattle.rmt_book.specs.Coming.{key_bytes};
 ghost use Rattle.rmt_update.specs.FirstFull.{keys_of as keys_as_bytes};
 ghost use Rattle.rmt_update.specs.Loads.{AreLoadedKeys, AreTables, AreTried, CanFill, IsLoaded, IsNotLoaded, IsTried, IsTriedAt, layout_in, table_of, ways_for};
 
 use crate::book::encoded::tests_bytes;
-use crate::book::grid::Grid;
 use crate::book::in_rows::rows_of;
 use crate::book::seen::table_at;
-use crate::book::spots::{Spots, spots_of};
-use crate::book::table::{PartCells, TableCells};
-use crate::fault::UpdateFault;
 use rmt_ast::entry::{Entry, EntryLists};
 use rmt_ast::names::TableName;
 use rmt_ast::program::Kind;
 use rmt_bits::sequence::Sequence;
+use rmt_book::grid::Grid;
+use rmt_book::spots::{Spots, spots_of};
+use rmt_book::table::{PartCells, TableCells};
 use rmt_cuckoo::fault::LoadFault;
 use rmt_cuckoo::layout::{Keys, Layout, Ways};
 use rmt_cuckoo::{load, never_both};
+use rmt_lists::fault::UpdateFault;
 use std::alloc::{AllocError, Global};
 
 /// Where the entries of all nodes stand, and the seed under which those of exact tables are loaded.

@@ -16,9 +16,9 @@ use crate::book::differences::differences;
 use crate::book::loading::load_all;
 use crate::book::plan::Plan;
 use crate::book::refill::moved_parts;
-use crate::book::table::{PartCells, TableCells};
-use crate::fault::UpdateFault;
-use crate::lists::Changes;
+use rmt_book::table::{PartCells, TableCells};
+use rmt_lists::fault::UpdateFault;
+use rmt_lists::lists::Changes;
 use std::alloc::Global;
 
 /// Puts parts in the place of those of tables.

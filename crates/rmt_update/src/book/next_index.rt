@@ -18,18 +18,18 @@ ghost use Rattle.rmt_update.specs.RowIndex.{IsNone, row_number};
 ghost use Rattle.rmt_update.specs.Turning.{AreNext, IsSpotIn};
 ghost use Rattle.rmt_update.specs.declared.book.index.TableIndex.{TableIndex as IndexOf};
 ghost use Rattle.rmt_update.specs.declared.book.placing.Coming.{Coming as ComingOf};
-ghost use Rattle.rmt_update.specs.declared.book.table.TableCells.{TableCells as TableOf};
+ghost use Rattle.rmt_book.specs.declared.table.TableCells.{TableCells as TableOf};
 
 use crate::book::Book;
 use crate::book::book_index::BookIndex;
 use crate::book::index::TableIndex;
 use crate::book::placing::Coming;
 use crate::book::seen::is_seen;
-use crate::book::spot::{BookSpot, kept_at};
-use crate::book::spots::Spot;
-use crate::book::table::{PartCells, TableCells};
-use crate::lists::Changes;
 use rmt_bits::sequence::Sequence;
+use rmt_book::spot::{BookSpot, kept_at};
+use rmt_book::spots::Spot;
+use rmt_book::table::{PartCells, TableCells};
+use rmt_lists::lists::Changes;
 use std::alloc::{AllocError, Global};
 use std::collections::{BTreeMap, BTreeSet};
 

@@ -3,13 +3,13 @@
 ghost use Rattle.std.specs.Prelude.{◌≡◌, ◌+◌, ◌^◌, ◌<◌, find, length};
 ghost use Rattle.std.specs.List.{range_with_len};
 ghost use Rattle.rmt_update.specs.Open.{first_open as first_open_of, is_open as is_open_of};
-ghost use Rattle.rmt_update.specs.PartShape.{cells_for, row_cells};
+ghost use Rattle.rmt_book.specs.PartShape.{cells_for, row_cells};
 ghost use Rattle.rmt_update.specs.Taking.{cells_of_parts};
 
-use crate::book::grid::Grid;
 use crate::book::seen::is_seen;
-use crate::book::spots::Spot;
-use crate::book::table::PartCells;
+use rmt_book::grid::Grid;
+use rmt_book::spots::Spot;
+use rmt_book::table::PartCells;
 use rmt_config::part_ways::PartWays;
 use rmt_config::way_rows::row_of;
 use std::collections::BTreeSet;

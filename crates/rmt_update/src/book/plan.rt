@@ -10,9 +10,9 @@ ghost use Rattle.rmt_update.specs.Planned.{IsPlanned, IsUnplanned, MayChange, ch
 ghost use Rattle.rmt_update.specs.Recent.{recent};
 
 use crate::book::Book;
-use crate::fault::UpdateFault;
-use crate::lists::Changes;
 use rmt_config::cell_write::CellWrite;
+use rmt_lists::fault::UpdateFault;
+use rmt_lists::lists::Changes;
 use std::alloc::Global;
 
 /// How a commit changes the cells of a run.

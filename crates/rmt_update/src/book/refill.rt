@@ -5,15 +5,15 @@ ghost use Rattle.std.specs.List.{AllZip};
 ghost use Rattle.rmt_ast.specs.EntryLists.{IsEntry};
 ghost use Rattle.rmt_ast.specs.NameRules.{table_is_formed, terms_of_name};
 ghost use Rattle.rmt_update.specs.Refill.{AreRefilled, FitsInto, HasRoomIn, IsCleared, IsMoved, TableFits, WithEntry};
-ghost use Rattle.rmt_update.specs.declared.book.table.PartCells.{PartCells as PartOf};
+ghost use Rattle.rmt_book.specs.declared.table.PartCells.{PartCells as PartOf};
 ghost use Rattle.std.specs.declared.vec.Vec.{Vec as VecOf};
 
 use crate::book::coming::kept_of;
 use crate::book::loading::key_of;
-use crate::book::spots::{Spot, Spots};
-use crate::book::table::{PartCells, TableCells};
 use rmt_ast::entry::{Entry, EntryLists};
 use rmt_ast::names::TableName;
+use rmt_book::spots::{Spot, Spots};
+use rmt_book::table::{PartCells, TableCells};
 use std::alloc::{AllocError, Global};
 use std::collections::BTreeMap;
 

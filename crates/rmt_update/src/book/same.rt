@@ -4,8 +4,8 @@ ghost use Rattle.std.specs.Prelude.{◌≡◌, ◌≤◌, ◌==◌, length};
 ghost use Rattle.rmt_bits.specs.Bits.{number_of};
 ghost use Rattle.rmt_update.specs.Differences.{is_same_kept};
 
-use crate::book::kept::Kept;
 use crate::book::loading::are_bytes;
+use rmt_book::kept::Kept;
 
 /// Whether all bytes are 0.
 fn is_zero(bytes: &[u8]) -> bool

@@ -3,15 +3,15 @@
 ghost use Rattle.std.specs.Prelude.{◌≡◌, ◌==◌, ◌++◌, All, IfOk, IsTrue, OnOk, find, option_copied};
 ghost use Rattle.rmt_ast.specs.NameRules.{table_is_formed};
 ghost use Rattle.rmt_config.specs.NamesForm.{by_number};
-ghost use Rattle.rmt_update.specs.Seen.{IsReadable, entries_at as entries_at_of, entries_by_part, entries_in, is_seen as is_seen_of};
-ghost use Rattle.rmt_update.specs.declared.book.table.TableCells.{TableCells as TableOf};
+ghost use Rattle.rmt_book.specs.Seen.{IsReadable, entries_at as entries_at_of, entries_by_part, entries_in, is_seen as is_seen_of};
+ghost use Rattle.rmt_book.specs.declared.table.TableCells.{TableCells as TableOf};
 
-use crate::book::kept::Kept;
-use crate::book::table::{PartCells, TableCells};
-use crate::book::told::entry_told;
 use rmt_ast::entry::Entry;
 use rmt_ast::names::TableName;
 use rmt_bits::sequence::Sequence;
+use rmt_book::kept::Kept;
+use rmt_book::table::{PartCells, TableCells};
+use rmt_book::told::entry_told;
 use std::alloc::{AllocError, Global};
 
 /// Whether a cell is seen by odd versions, or by even ones.

@@ -7,7 +7,7 @@ ghost use Rattle.rmt_config.specs.Commits.{AreWrites, settled};
 ghost use Rattle.rmt_config.specs.RunCells.{RunCells, with_version};
 ghost use Rattle.rmt_config.specs.declared.config.Config.{Config as ConfigOf};
 ghost use Rattle.rmt_update.specs.BookIndex.{FindsCells};
-ghost use Rattle.rmt_update.specs.BookSpots.{kept_at};
+ghost use Rattle.rmt_book.specs.BookSpots.{kept_at};
 ghost use Rattle.rmt_update.specs.BookStands.{BookStands};
 ghost use Rattle.rmt_update.specs.Changing.{ChangeKey};
 ghost use Rattle.rmt_update.specs.ComeIndex.{HasPlaced};
@@ -18,9 +18,9 @@ ghost use Rattle.rmt_update.specs.Recent.{recent};
 ghost use Rattle.rmt_update.specs.TurnWrites.{AreChanged, AreSmall, HaveOwnSlots, IsFresh, IsOfTables, cell_turn, turn_of as turn_of_bits};
 ghost use Rattle.rmt_update.specs.Turning.{HaveCells, IsSpotIn, come_to, left_kept, turned};
 ghost use Rattle.rmt_update.specs.declared.book.changing.CellChange.{CellChange as ChangeOf};
-ghost use Rattle.rmt_update.specs.declared.book.kept.Kept.{Kept as KeptOf};
+ghost use Rattle.rmt_book.specs.declared.kept.Kept.{Kept as KeptOf};
 ghost use Rattle.rmt_update.specs.declared.book.placing.Coming.{Coming as ComingOf};
-ghost use Rattle.rmt_update.specs.declared.book.spot.BookSpot.{BookSpot as SpotOf};
+ghost use Rattle.rmt_book.specs.declared.spot.BookSpot.{BookSpot as SpotOf};
 
 use crate::book::Book;
 use crate::book::book_index::BookIndex;
@@ -28,11 +28,11 @@ use crate::book::changing::{CellChanges, in_order, put_kept};
 use crate::book::entering::enter;
 use crate::book::leaving::{part_at, put_gone, put_recent};
 use crate::book::placing::{Coming, all_ordered};
-use crate::book::table::TableCells;
 use crate::book::turning::{CellTurn, Turn, turn_cell};
-use crate::lists::Changes;
 use rmt_bits::sequence::Sequence;
+use rmt_book::table::TableCells;
 use rmt_config::cell_write::CellWrite;
+use rmt_lists::lists::Changes;
 use std::alloc::{AllocError, Global};
 
 /// Adds the cells to which entries come. The only fault is want of memory.

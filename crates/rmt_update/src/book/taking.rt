@@ -2,15 +2,15 @@
 
 ghost use Rattle.std.specs.Prelude.{◌≡◌, ◌<◌, IfOk, IfSome, OnOk, length};
 ghost use Rattle.rmt_ast.specs.declared.entry.Entry.{Entry as EntryOf};
-ghost use Rattle.rmt_update.specs.Coming.{key_bytes};
+ghost use Rattle.rmt_book.specs.Coming.{key_bytes};
 ghost use Rattle.rmt_update.specs.Taking.{HaveRoom, IsGiven, MayGive, TakesFrom, TakesOpen, TakesRow};
 
 use crate::book::index::TableIndex;
 use crate::book::open::open_cell;
-use crate::book::row_order::{RowOrder, row_key};
-use crate::book::spots::{Spot, spot_of};
-use crate::book::table::TableCells;
 use rmt_ast::entry::Entry;
+use rmt_book::row_order::{RowOrder, row_key};
+use rmt_book::spots::{Spot, spot_of};
+use rmt_book::table::TableCells;
 use std::alloc::AllocError;
 use std::collections::BTreeSet;
 

@@ -1,14 +1,14 @@
 //! Cells of a book turn in their places, which needs no memory.
 
 ghost use Rattle.std.specs.Prelude.{◌<◌, All, length};
-ghost use Rattle.rmt_update.specs.BookSpots.{kept_at};
+ghost use Rattle.rmt_book.specs.BookSpots.{kept_at};
 ghost use Rattle.rmt_update.specs.Turning.{HaveCells, IsSpotIn, PartWith, PartsWith, TablesWith, turned, turned_by};
 ghost use Rattle.rmt_update.specs.declared.book.turning.CellTurn.{CellTurn as CellTurnOf};
 
-use crate::book::kept::Kept;
-use crate::book::spot::BookSpot;
-use crate::book::spots::Spot;
-use crate::book::table::{PartCells, TableCells};
+use rmt_book::kept::Kept;
+use rmt_book::spot::BookSpot;
+use rmt_book::spots::Spot;
+use rmt_book::table::{PartCells, TableCells};
 
 /// What becomes of a cell.
 #[derive(Drop)]

@@ -92,14 +92,14 @@ const ROWS: [Row; 8] = [
 fn two_tails_joined(rt: HostRuntime) -> Result<(), Fail> {
     let plain = parser_of(rt.alloc(), TWO_TAILS, Rule::Plain)?;
     let clustered = parser_of(rt.alloc(), TWO_TAILS, Rule::Clustered)?;
-    assert_eq!(rt; (plain.states.len(), plain.entries.len()), (4, 8));
-    assert_eq!(rt; (clustered.states.len(), clustered.entries.len()), (2, 6));
+    assert!(rt; (plain.states.len(), plain.entries.len()) == (4, 8));
+    assert!(rt; (clustered.states.len(), clustered.entries.len()) == (2, 6));
     for &(frame, whole, enough) in &ROWS {
         assert!(rt; frame.len() < 9217);
         for len in 0..frame.len() + 1 {
             let want = if len < enough { Parsed::Short } else { whole };
             let got = both_parsed(&plain, &clustered, &frame[..len]);
-            assert_eq!(rt; got, Some(want));
+            assert!(rt; got == Some(want));
         }
     }
     Ok(())

@@ -101,10 +101,10 @@ fn far(alloc: Global) -> Result<ParserConfig, AllocError> {
 #[test]
 fn joins_without_end(rt: HostRuntime) -> Result<(), Fail> {
     let joins = all_of_them(rt.alloc())?;
-    assert_eq!(rt; joins.len(), 65535);
+    assert!(rt; joins.len() == 65535);
     let parser = chain(rt.alloc())?;
     let counts = counts_behind(rt.alloc(), parser, joins.as_slice()).expect(&rt, "memory");
-    assert_eq!(rt; counts, Some((1, usize::from(FIRST))));
+    assert!(rt; counts == Some((1, usize::from(FIRST))));
     Ok(())
 }
 
@@ -113,7 +113,7 @@ fn one_join_more(rt: HostRuntime) -> Result<(), Fail> {
     let parser = chain(rt.alloc())?;
     let joins = [Join { state: 0, entry: 0 }; 6];
     let counts = counts_behind(rt.alloc(), parser, &joins).expect(&rt, "memory");
-    assert_eq!(rt; counts, None);
+    assert!(rt; counts == None);
     Ok(())
 }
 
@@ -121,6 +121,6 @@ fn one_join_more(rt: HostRuntime) -> Result<(), Fail> {
 fn far_states(rt: HostRuntime) -> Result<(), Fail> {
     let parser = far(rt.alloc())?;
     let counts = counts_behind(rt.alloc(), parser, &[]).expect(&rt, "memory");
-    assert_eq!(rt; counts, Some((3, 16382)));
+    assert!(rt; counts == Some((3, 16382)));
     Ok(())
 }

@@ -54,7 +54,7 @@ fn joins_made_again(rt: HostRuntime) -> Result<(), Fail> {
     let want = written(rt.alloc(), &clustered)?;
     let joins = joins_of_text(rt.alloc(), HEADERS)?;
     let got = behind(rt.alloc(), HEADERS, joins.as_slice())?;
-    assert_eq!(rt; got.as_str(), want.as_str());
+    assert!(rt; got.as_str() == want.as_str());
     assert!(rt; !joins.is_empty());
     Ok(())
 }
@@ -89,7 +89,7 @@ const ABSENT: [Join; 3] = [
 fn joins_that_cannot_be_made(rt: HostRuntime) -> Result<(), Fail> {
     for &join in &ABSENT {
         let got = behind(rt.alloc(), HEADERS, &[join])?;
-        assert_eq!(rt; got.as_str(), "none");
+        assert!(rt; got.as_str() == "none");
     }
     Ok(())
 }

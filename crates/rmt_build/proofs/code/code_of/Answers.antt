@@ -6,7 +6,7 @@ use Rattle.std.specs.Prelude.{List}
 use Rattle.rmt_refine.specs.Units.{UnitCarried, nodes_in}
 use Rattle.rmt_build.specs.UnitCode.{DoUnit, DoUnits}
 use Rattle.rmt_build.proofs.AssemblyLaws.{units_push}
-use Rattle.rmt_build.proofs.ListLaws.{zip_item}
+use Rattle.rmt_filling.proofs.ListLaws.{zip_item}
 use Rattle.rmt_build.proofs.code.code_of.Goals as goal
 
 pub push_unit-requires-clause-unit : goal.push_unit-requires-clause-unit

@@ -4,9 +4,10 @@ use Rattle.rmt_build.specs.Types.{Memory}
 use Rattle.rmt_config.specs.StageForm.{memory_sram_blocks, memory_tcam_blocks}
 use Rattle.rmt_pack.specs.Placements.{data_bits, key_bits}
 use Rattle.rmt_pack.specs.Rows.{blocks_of}
-use Rattle.rmt_build.specs.Holding.{Held, PartHolds}
-use Rattle.rmt_build.specs.Listing.{masks_of, values_of}
-use Rattle.rmt_build.specs.Rooms.{HasBlocks}
+use Rattle.rmt_filling.specs.Holding.{Held}
+use Rattle.rmt_build.specs.HeldParts.{PartHolds}
+use Rattle.rmt_filling.specs.Listing.{masks_of, values_of}
+use Rattle.rmt_filling.specs.Rooms.{HasBlocks}
 use Rattle.rmt_build.proofs.HoldLaws.{exact-holds, ternary-holds}
 use Rattle.rmt_build.proofs.filling.write_part.Goals as goal
 
@@ -32,7 +33,7 @@ returns-in_ok-write_exact_part-in-Exact c =
     let blocks = subst (HasBlocks p t) c.in-Exact.is c.requires.blocks in
     record {
       holds = subst (PartHolds p t es stands c.args.part.now.first (key_bits p t) (data_bits p t) h) (sym c.in-Exact.is)
-          (exact-holds p t c.requires.entries.0 es c.args.part.now.first c.requires.entries.1 c.requires.few h (key_bits p t) (data_bits p t) c.in-Exact.quanta c.in-Exact.keys c.in-Exact.records c.in-Exact.counters stands
+          (exact-holds p t c.requires.part.entries.0 es c.args.part.now.first c.requires.part.entries.1 c.requires.part.few h (key_bits p t) (data_bits p t) c.in-Exact.quanta c.in-Exact.keys c.in-Exact.records c.in-Exact.counters stands
           c.in-Exact.width c.in-Exact.per c.in-Exact.first_way blocks.0 refl c.in_ok-write_exact_part-in-Exact.ensures.holds);
       others = subst (λ (m : Memory). (b r : ℕ) → (Contains (memory_sram_blocks m) b → ⊥) → blocks_of c.write_exact_part.new.sram b r ≡ blocks_of c.args.sram.now b r) (sym c.in-Exact.is)
           c.in_ok-write_exact_part-in-Exact.ensures.others;
@@ -49,7 +50,7 @@ returns-in_ok-write_ternary_part-in-Ternary c =
     let h : Held = record { sram = blocks_of c.write_ternary_part.new.sram; values = values_of c.write_ternary_part.new.tcam; masks = masks_of c.write_ternary_part.new.tcam } in
     record {
       holds = subst (PartHolds p t es stands c.args.part.now.first (key_bits p t) (data_bits p t) h) (sym c.in-Ternary.is)
-          (ternary-holds p t c.requires.entries.0 es c.args.part.now.first c.requires.entries.1 c.requires.few h (key_bits p t) (data_bits p t) c.in-Ternary.quanta c.in-Ternary.keys c.in-Ternary.records c.in-Ternary.counters stands
+          (ternary-holds p t c.requires.part.entries.0 es c.args.part.now.first c.requires.part.entries.1 c.requires.part.few h (key_bits p t) (data_bits p t) c.in-Ternary.quanta c.in-Ternary.keys c.in-Ternary.records c.in-Ternary.counters stands
           c.in_ok-write_ternary_part-in-Ternary.ensures.holds);
       others = subst (λ (m : Memory). (b r : ℕ) → (Contains (memory_sram_blocks m) b → ⊥) → blocks_of c.write_ternary_part.new.sram b r ≡ blocks_of c.args.sram.now b r) (sym c.in-Ternary.is)
           c.in_ok-write_ternary_part-in-Ternary.ensures.others;

@@ -1,11 +1,17 @@
-use Rattle.std.proofs.Common.{◌≡◌, List, Some, get_or, ◌∙◌, subst, sym, ap}
+use Rattle.std.proofs.Common.{◌≡◌, ◌+◌, ◌≤◌, List, Some, get_or, length, ◌∙◌, subst, sym, ap, arith}
 use Rattle.std.proofs.lemmas.Option.{none-some, same_Some}
 use Rattle.rmt_ast.specs.declared.entry.Entry.{Entry}
 use Rattle.rmt_pack.specs.Placements.{data_bits, key_bits}
 use Rattle.rmt_pack.specs.Rows.{blocks_of}
-use Rattle.rmt_build.specs.declared.stands.Stand.{Stand}
-use Rattle.rmt_build.specs.Holding.{Held, PartHolds}
-use Rattle.rmt_build.specs.Listing.{masks_of, values_of}
+use Rattle.rmt_filling.specs.declared.stands.Stand.{Stand}
+use Rattle.rmt_filling.specs.Holding.{Held}
+use Rattle.rmt_build.specs.HeldParts.{PartHolds}
+use Rattle.rmt_filling.specs.Listing.{masks_of, values_of}
+use Rattle.rmt_build.specs.Types.{Table}
+use Rattle.rmt_config.specs.Cells.{cells_in}
+use Rattle.rmt_filling.specs.Rooms.{AreOf, HasBlocks, StandApart}
+use Rattle.rmt_build.specs.Plans.{stands_of_part}
+use Rattle.rmt_build.proofs.PlanLaws.{is_table}
 use Rattle.rmt_build.proofs.UnitsLaws.{applied-here, below}
 use Rattle.rmt_build.proofs.filling.write_slot.Goals as goal
 
@@ -13,6 +19,35 @@ pub returns-clause-written : goal.returns-clause-written
 returns-clause-written c =
     let fits = c.requires.slot in
     absurd (none-some fits.table (c.in_default.ensures ∙ applied-here c.args.planned.now.program.now c.as_slice.result.now c.args.slot.now.node _ fits.table c.as_slice.ensures fits.is_table))
+
+pub write_part-requires : goal.write_part-requires
+write_part-requires c =
+    let fits = c.requires.slot in
+    let p = c.args.planned.now.program.now in
+    let lists = c.args.planned.now.entries.now in
+    let slot = c.args.slot.now in
+    let n = slot.node in
+    let t = c.in-Some.table.now in
+    let own = c.as_slice-own.result.now in
+    let list = c.index-as_slice-node.result in
+    let same_table : t ≡ fits.table = same_Some t fits.table (c.in-Some.ensures ∙ applied-here p c.as_slice.result.now n _ fits.table c.as_slice.ensures fits.is_table) in
+    let same_own : own ≡ fits.entries =
+    c.as_slice-own.ensures ∙ c.index-as_slice-node.is ∙ ap (λ (xs : List (List Entry)). get_or xs n list) c.as_slice-in-Some.ensures ∙ (below lists n fits.entries fits.is_entries).1 list in
+    record {
+      part = record {
+        program = c.requires.planned.program;
+        table = is_table p c.requires.planned.program n t (fits.is_table ∙ ap Some (sym same_table));
+        entries = subst (λ (x : Table). AreOf p x own) (sym same_table) (subst (AreOf p fits.table) (sym same_own) fits.of_table);
+        few = let few = c.requires.few in let actions = fits.actions ∙ ap (λ (x : Table). length x.actions) (sym same_table) in omega (arith, few, actions);
+      };
+      blocks = subst (λ (x : Table). HasBlocks p x slot.memory) (sym same_table) fits.blocks;
+      stands = subst (λ (xs : List Stand). StandApart (length own) (cells_in slot.memory) xs) (sym (c.as_slice-stands.ensures ∙ c.in_ok-stands.ensures))
+          (subst (λ (x : Table). StandApart (length own) (cells_in slot.memory) (stands_of_part p c.args.planned.now.plan.now x n c.args.planned.now.stage)) (sym same_table)
+          (subst (λ (es : List Entry). StandApart (length es) (cells_in slot.memory) (stands_of_part p c.args.planned.now.plan.now fits.table n c.args.planned.now.stage)) (sym same_own) fits.stands));
+      zeros = c.requires.zeros;
+      zero_values = c.requires.zero_values;
+      zero_masks = c.requires.zero_masks;
+    }
 
 pub returns-in-Some-clause-written : goal.returns-in-Some-clause-written
 returns-in-Some-clause-written c =

@@ -4,9 +4,9 @@ use Rattle.rmt_bits.proofs.ListLaws.{slice_get-seen}
 use Rattle.rmt_config.specs.Instructions.{unit_instructions}
 use Rattle.rmt_pack.specs.declared.rows.Rows.{Rows}
 use Rattle.rmt_pack.specs.Rows.{blocks_of}
-use Rattle.rmt_build.specs.declared.tcam.TcamRows.{TcamRows}
-use Rattle.rmt_build.specs.Holding.{Held}
-use Rattle.rmt_build.specs.Listing.{masks_of, values_of}
+use Rattle.rmt_filling.specs.declared.tcam.TcamRows.{TcamRows}
+use Rattle.rmt_filling.specs.Holding.{Held}
+use Rattle.rmt_filling.specs.Listing.{masks_of, values_of}
 use Rattle.rmt_build.specs.Written.{SlotWritten, UnitsWritten}
 use Rattle.rmt_build.proofs.UnitsLaws.{instructions-more, units-gate, units-slot, units-zero}
 use Rattle.rmt_build.proofs.filling.write_units.Goals as goal

@@ -2,7 +2,7 @@ use Rattle.std.proofs.Common.{◌≡◌, take}
 use Rattle.std.specs.Prelude.{sum_by}
 use Rattle.rmt_config.specs.Instructions.{unit_instructions}
 use Rattle.rmt_pack.specs.Rows.{blocks_of}
-use Rattle.rmt_build.specs.Listing.{masks_of, values_of}
+use Rattle.rmt_filling.specs.Listing.{masks_of, values_of}
 use Rattle.rmt_build.specs.Written.{UnitsWritten}
 use Rattle.rmt_build.proofs.filling.write_units.Given as goal
 

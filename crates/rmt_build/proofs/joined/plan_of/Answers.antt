@@ -17,10 +17,17 @@ use Rattle.rmt_build.proofs.joined.plan_of.Goals as goal
 pub offsets-requires : goal.offsets-requires
 offsets-requires c = λ i d lt. (c.requires.placed.parts i d lt).stage
 
-pub load_all-requires-clause-parts : goal.load_all-requires-clause-parts
-load_all-requires-clause-parts c =
+pub load_all-requires : goal.load_all-requires
+load_all-requires c =
     let p = c.args.program.now in
-    subst (AreParts p) (sym c.as_slice-parts.ensures) (parts_are p c.args.places c.args.placement.parts c.requires.program c.requires.placed)
+    record {
+      placed = record {
+        program = c.requires.program;
+        entries = c.requires.entries;
+        by_rule = c.as_slice.ensures ∙ c.in_ok-formats.ensures;
+        are_parts = subst (AreParts p) (sym c.as_slice-parts.ensures) (parts_are p c.args.places c.args.placement.parts c.requires.program c.requires.placed);
+      };
+    }
 
 pub returns-clause-seed : goal.returns-clause-seed
 returns-clause-seed c =

@@ -3,8 +3,8 @@ use Rattle.std.specs.Prelude.{All, AllPairs, sum_by, ◌≤◌}
 use Rattle.rmt_build.specs.Types.{Stage, Unit}
 use Rattle.rmt_config.specs.Instructions.{unit_instructions}
 use Rattle.rmt_pack.specs.Rows.{blocks_of}
-use Rattle.rmt_build.specs.Holding.{Held}
-use Rattle.rmt_build.specs.Listing.{masks_of, values_of}
+use Rattle.rmt_filling.specs.Holding.{Held}
+use Rattle.rmt_filling.specs.Listing.{masks_of, values_of}
 use Rattle.rmt_build.specs.UnitCode.{DoUnits}
 use Rattle.rmt_build.specs.Written.{UnitFits, UnitsApart, UnitsWritten}
 use Rattle.rmt_build.proofs.BuiltLaws.{few_code, stage_built, units_apart, units_fit}
@@ -13,19 +13,19 @@ use Rattle.rmt_build.proofs.joined.stage_of.Goals as goal
 pub write_units-requires-clause-units : goal.write_units-requires-clause-units
 write_units-requires-clause-units c =
     subst (All (UnitFits c.args.program.now c.args.entries.now c.args.plan.now c.args.stage)) (sym c.as_slice-2.ensures)
-    (units_fit c.args.program.now c.args.entries.now c.args.plan.now c.args.stage c.requires.program c.requires.entries c.requires.plan c.requires.stage c.in_ok-units.units
+    (units_fit c.args.program.now c.args.entries.now c.args.plan.now c.args.stage c.requires.planned.program c.requires.planned.entries c.requires.planned.is_plan c.requires.planned.stage c.in_ok-units.units
     c.in_ok-units.ensures.units c.in_ok-units.ensures.parts)
 
 pub write_units-requires-clause-apart : goal.write_units-requires-clause-apart
 write_units-requires-clause-apart c =
     subst (AllPairs UnitsApart) (sym c.as_slice-2.ensures)
-    (units_apart c.args.program.now c.args.entries.now c.args.plan.now c.args.stage c.requires.program c.requires.entries c.requires.plan c.requires.stage c.in_ok-units.units
+    (units_apart c.args.program.now c.args.entries.now c.args.plan.now c.args.stage c.requires.planned.program c.requires.planned.entries c.requires.planned.is_plan c.requires.planned.stage c.in_ok-units.units
     c.in_ok-units.ensures.units c.in_ok-units.ensures.parts)
 
 pub write_units-requires-clause-few : goal.write_units-requires-clause-few
 write_units-requires-clause-few c =
     subst (λ (us : List Unit). sum_by unit_instructions us ≤ 32) (sym c.as_slice-2.ensures)
-    (few_code c.args.program.now c.args.entries.now c.args.plan.now c.args.stage c.requires.program c.requires.entries c.requires.plan c.requires.stage c.in_ok-units.units
+    (few_code c.args.program.now c.args.entries.now c.args.plan.now c.args.stage c.requires.planned.program c.requires.planned.entries c.requires.planned.is_plan c.requires.planned.stage c.in_ok-units.units
     c.in_ok-units.ensures.units c.in_ok-units.ensures.parts c.requires.limits)
 
 pub returns-clause-stage : goal.returns-clause-stage
@@ -38,5 +38,5 @@ returns-clause-stage c =
     let stage : Stage = record { start = c.args.start; units = c.in_ok-units.units; code = c.in_ok-code.code; srows = c.in_ok-srows.srows; trows = c.in_ok-trows.trows } in
     let written = subst (λ (us : List Unit). UnitsWritten p lists plan k us (length us) h) c.as_slice-2.ensures c.in_ok-write_units.ensures in
     let code = subst (λ (us : List Unit). DoUnits p plan.places us c.in_ok-code.code) c.as_slice.ensures c.in_ok-code.ensures in
-    stage_built p lists plan k c.requires.program c.requires.entries c.requires.plan c.requires.stage stage c.in_ok-units.ensures.units c.in_ok-units.ensures.parts h written
+    stage_built p lists plan k c.requires.planned.program c.requires.planned.entries c.requires.planned.is_plan c.requires.planned.stage stage c.in_ok-units.ensures.units c.in_ok-units.ensures.parts h written
     c.in_ok-srows.ensures c.in_ok-trows.ensures c.requires.start code c.in_ok-units.ensures.small

@@ -1,8 +1,16 @@
-use Rattle.std.proofs.Common.{◌∷◌, [], length, length-append, ap, sym, subst, arith}
+use Rattle.std.proofs.Common.{◌∷◌, [], length, length-append, ap, sym, subst, arith, rules, tests}
 use Rattle.rmt_ast.specs.WellFormed.{AllNumbered}
 use Rattle.rmt_build.specs.BuiltStage.{IsBuiltStage}
 use Rattle.rmt_build.proofs.joined.stages_of.Goals as goal
 use Rattle.rmt_ast.proofs.WellFormedLemmas.{AllNumbered-push}
+
+pub stage_of-requires-clause-planned : goal.stage_of-requires-clause-planned
+stage_of-requires-clause-planned c = record {
+  program = c.requires.program;
+  entries = c.requires.entries;
+  is_plan = c.requires.plan.is_plan;
+  stage = search (rules, tests);
+}
 
 pub loop-number-preserved : goal.loop-number-preserved
 loop-number-preserved c =

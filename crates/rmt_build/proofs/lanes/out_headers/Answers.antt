@@ -6,7 +6,7 @@ use Rattle.rmt_ast.specs.State.{width_of}
 use Rattle.rmt_phv.specs.Packing.{pieces}
 use Rattle.rmt_refine.specs.Places.{HeaderCarried}
 use Rattle.rmt_build.proofs.LaneLaws.{one_lane}
-use Rattle.rmt_build.proofs.ListLaws.{zip_more}
+use Rattle.rmt_filling.proofs.ListLaws.{zip_more}
 use Rattle.rmt_build.proofs.lanes.out_headers.Goals as goal
 
 pub out_header-requires : goal.out_header-requires

@@ -7,9 +7,9 @@ use Rattle.rmt_build.proofs.loading.load_all.Goals as goal
 
 pub loop-seed-preserved : goal.loop-seed-preserved
 loop-seed-preserved c s lt =
-    let p = c.args.program.now in
-    let lists = c.args.entries.now in
-    let parts = c.args.parts.now in
+    let p = c.args.placed.now.program.now in
+    let lists = c.args.placed.now.entries.now in
+    let parts = c.args.placed.now.parts.now in
     let full = subst (AreTried p lists parts c.loop-seed.seed) c.in_default.is c.in_ok-stands.ensures in
     elim (cases_lt s c.loop-seed.seed) [
       | inl less ↦ c.loop-seed.invariant s less
@@ -20,9 +20,9 @@ loop-seed-preserved c s lt =
 
 pub returns-in-Stand-clause-seed : goal.returns-in-Stand-clause-seed
 returns-in-Stand-clause-seed c =
-    let p = c.args.program.now in
-    let lists = c.args.entries.now in
-    let parts = c.args.parts.now in
+    let p = c.args.placed.now.program.now in
+    let lists = c.args.placed.now.entries.now in
+    let parts = c.args.placed.now.parts.now in
     let stand = subst (AreTried p lists parts c.loop-seed.seed) c.in-Stand.is c.in_ok-stands.ensures in
     record {
       few = let low = c.loop-seed-test.true in omega (arith, low);
@@ -32,9 +32,9 @@ returns-in-Stand-clause-seed c =
 
 pub returns-in-Stand-2-clause-seed : goal.returns-in-Stand-2-clause-seed
 returns-in-Stand-2-clause-seed c =
-    let p = c.args.program.now in
-    let lists = c.args.entries.now in
-    let parts = c.args.parts.now in
+    let p = c.args.placed.now.program.now in
+    let lists = c.args.placed.now.entries.now in
+    let parts = c.args.placed.now.parts.now in
     let stand = subst (AreTried p lists parts 7) c.in-Stand-2.is c.in_ok-stands-2.ensures in
     let end = c.loop-seed-test.false in
     record {
@@ -45,9 +45,9 @@ returns-in-Stand-2-clause-seed c =
 
 pub returns-in-Overfull-clause-refused : goal.returns-in-Overfull-clause-refused
 returns-in-Overfull-clause-refused c =
-    let p = c.args.program.now in
-    let lists = c.args.entries.now in
-    let parts = c.args.parts.now in
+    let p = c.args.placed.now.program.now in
+    let lists = c.args.placed.now.entries.now in
+    let parts = c.args.placed.now.parts.now in
     let full = subst (AreTried p lists parts 7) c.in-Overfull.is c.in_ok-stands-2.ensures in
     let end = c.loop-seed-test.false in
     record {

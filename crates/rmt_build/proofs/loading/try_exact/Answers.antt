@@ -3,50 +3,50 @@ use Rattle.rmt_ast.specs.WellFormed.{HasKey}
 use Rattle.rmt_cuckoo.specs.declared.layout.Ways.{Ways}
 use Rattle.rmt_cuckoo.specs.Loading.{cells_of}
 use Rattle.rmt_build.specs.Loads.{layout_in, layout_of}
-use Rattle.rmt_build.specs.Tries.{IsTried}
+use Rattle.rmt_filling.specs.Keys.{IsTried}
 use Rattle.rmt_build.proofs.LayoutLaws.{few_entries, few_quanta_in, small_exact}
 use Rattle.rmt_build.proofs.PlanLaws.{is_table}
 use Rattle.rmt_build.proofs.TriedLaws.{tried_stands}
 use Rattle.rmt_build.proofs.loading.try_exact.Goals as goal
 
 pub layout_of-requires-clause-few : goal.layout_of-requires-clause-few
-layout_of-requires-clause-few c = few_quanta_in c.args.program.now c.requires.program c.args.own.now.node c.args.own.now.table.now c.requires.table c.requires.exact c.args.parts.now c.requires.parts
+layout_of-requires-clause-few c = few_quanta_in c.args.placed.now.program.now c.requires.placed.program c.args.own.now.node c.args.own.now.table.now c.requires.own.table c.requires.exact c.args.placed.now.parts.now c.requires.placed.are_parts
 
 pub keys_of-requires-clause-table : goal.keys_of-requires-clause-table
 keys_of-requires-clause-table c =
-    subst (λ kind. HasKey c.args.program.now kind c.args.own.now.table.now) c.requires.exact (is_table c.args.program.now c.requires.program c.args.own.now.node c.args.own.now.table.now c.requires.table).key
+    subst (λ kind. HasKey c.args.placed.now.program.now kind c.args.own.now.table.now) c.requires.exact (is_table c.args.placed.now.program.now c.requires.placed.program c.args.own.now.node c.args.own.now.table.now c.requires.own.table).key
 
 pub load_exact-requires-clause-parts : goal.load_exact-requires-clause-parts
 load_exact-requires-clause-parts c =
-    let same : c.in_ok-layout.layout ≡ layout_of c.args.program.now c.args.parts.now c.args.own.now.node = c.in_ok-layout.ensures ∙ ap (λ f. layout_in f.per c.args.parts.now c.args.own.now.node) c.requires.format in
-    let small = small_exact c.args.program.now c.requires.program c.args.own.now.node c.args.own.now.table.now c.requires.table c.requires.exact c.args.parts.now c.requires.parts in
+    let same : c.in_ok-layout.layout ≡ layout_of c.args.placed.now.program.now c.args.placed.now.parts.now c.args.own.now.node = c.in_ok-layout.ensures ∙ ap (λ f. layout_in f.per c.args.placed.now.parts.now c.args.own.now.node) c.requires.own.by_rule in
+    let small = small_exact c.args.placed.now.program.now c.requires.placed.program c.args.own.now.node c.args.own.now.table.now c.requires.own.table c.requires.exact c.args.placed.now.parts.now c.requires.placed.are_parts in
     subst (λ ws. length ws ≤ 64) (sym same) small.long
 
 pub load_exact-requires-clause-rows : goal.load_exact-requires-clause-rows
 load_exact-requires-clause-rows c =
-    let same : c.in_ok-layout.layout ≡ layout_of c.args.program.now c.args.parts.now c.args.own.now.node = c.in_ok-layout.ensures ∙ ap (λ f. layout_in f.per c.args.parts.now c.args.own.now.node) c.requires.format in
-    let small = small_exact c.args.program.now c.requires.program c.args.own.now.node c.args.own.now.table.now c.requires.table c.requires.exact c.args.parts.now c.requires.parts in
+    let same : c.in_ok-layout.layout ≡ layout_of c.args.placed.now.program.now c.args.placed.now.parts.now c.args.own.now.node = c.in_ok-layout.ensures ∙ ap (λ f. layout_in f.per c.args.placed.now.parts.now c.args.own.now.node) c.requires.own.by_rule in
+    let small = small_exact c.args.placed.now.program.now c.requires.placed.program c.args.own.now.node c.args.own.now.table.now c.requires.own.table c.requires.exact c.args.placed.now.parts.now c.requires.placed.are_parts in
     subst (All (λ (part : Ways). 1 ≤ part.rows)) (sym same) small.rows
 
 pub load_exact-requires-clause-few_cells : goal.load_exact-requires-clause-few_cells
 load_exact-requires-clause-few_cells c =
-    let same : c.in_ok-layout.layout ≡ layout_of c.args.program.now c.args.parts.now c.args.own.now.node = c.in_ok-layout.ensures ∙ ap (λ f. layout_in f.per c.args.parts.now c.args.own.now.node) c.requires.format in
-    let small = small_exact c.args.program.now c.requires.program c.args.own.now.node c.args.own.now.table.now c.requires.table c.requires.exact c.args.parts.now c.requires.parts in
+    let same : c.in_ok-layout.layout ≡ layout_of c.args.placed.now.program.now c.args.placed.now.parts.now c.args.own.now.node = c.in_ok-layout.ensures ∙ ap (λ f. layout_in f.per c.args.placed.now.parts.now c.args.own.now.node) c.requires.own.by_rule in
+    let small = small_exact c.args.placed.now.program.now c.requires.placed.program c.args.own.now.node c.args.own.now.table.now c.requires.own.table c.requires.exact c.args.placed.now.parts.now c.requires.placed.are_parts in
     let cells = small.cells in
     let e = ap cells_of same in
     omega (arith, cells, e)
 
 pub load_exact-requires-clause-few_keys : goal.load_exact-requires-clause-few_keys
 load_exact-requires-clause-few_keys c =
-    let few = few_entries c.args.program.now c.requires.program c.args.own.now.node c.args.own.now.table.now c.requires.table c.requires.exact c.args.own.now.entries.now c.requires.entries in
+    let few = few_entries c.args.placed.now.program.now c.requires.placed.program c.args.own.now.node c.args.own.now.table.now c.requires.own.table c.requires.exact c.args.own.now.entries.now c.requires.own.entries in
     let e = ap length c.in_ok-keys.ensures in
     omega (arith, few, e)
 
 pub returns : goal.returns
 returns c =
-    let p = c.args.program.now in
+    let p = c.args.placed.now.program.now in
     let t = c.args.own.now.table.now in
-    let same : c.in_ok-layout.layout ≡ layout_of p c.args.parts.now c.args.own.now.node = c.in_ok-layout.ensures ∙ ap (λ f. layout_in f.per c.args.parts.now c.args.own.now.node) c.requires.format in
-    tried_stands p c.args.parts.now c.args.seed c.args.own.now.node t c.args.own.now.entries.now c.requires.exact c.in_ok-tried.tried
-    (subst (λ ks. IsTried (layout_of p c.args.parts.now c.args.own.now.node) c.args.seed ks c.in_ok-tried.tried) c.in_ok-keys.ensures
+    let same : c.in_ok-layout.layout ≡ layout_of p c.args.placed.now.parts.now c.args.own.now.node = c.in_ok-layout.ensures ∙ ap (λ f. layout_in f.per c.args.placed.now.parts.now c.args.own.now.node) c.requires.own.by_rule in
+    tried_stands p c.args.placed.now.parts.now c.args.seed c.args.own.now.node t c.args.own.now.entries.now c.requires.exact c.in_ok-tried.tried
+    (subst (λ ks. IsTried (layout_of p c.args.placed.now.parts.now c.args.own.now.node) c.args.seed ks c.in_ok-tried.tried) c.in_ok-keys.ensures
     (subst (λ ws. IsTried ws c.args.seed c.in_ok-keys.keys c.in_ok-tried.tried) same c.in_ok-tried.ensures))

@@ -1,6 +1,6 @@
 use Rattle.std.proofs.Common.{◌++◌, ◌∙◌, sym, ap}
 use Rattle.rmt_build.specs.Planned.{node_planned}
-use Rattle.rmt_build.proofs.ListLaws.{flat_range_more}
+use Rattle.rmt_filling.proofs.ListLaws.{flat_range_more}
 use Rattle.rmt_build.proofs.told.cells_of.Goals as goal
 
 pub loop-node-preserved : goal.loop-node-preserved

@@ -3,7 +3,7 @@ use Rattle.std.specs.List.{flat_map, range_with_len}
 use Rattle.std.proofs.lemmas.List.{append-nil}
 use Rattle.rmt_refine.specs.Units.{table_at}
 use Rattle.rmt_build.specs.Planned.{part_planned}
-use Rattle.rmt_build.proofs.ListLaws.{flat_range_more}
+use Rattle.rmt_filling.proofs.ListLaws.{flat_range_more}
 use Rattle.rmt_build.proofs.PlannedLaws.{node_of_gate, node_of_table, table_seen}
 use Rattle.rmt_build.proofs.told.push_node.Goals as goal
 
@@ -18,6 +18,14 @@ returns-in_default c =
 pub push_part-requires-clause-table : goal.push_part-requires-clause-table
 push_part-requires-clause-table c =
     sym (c.in-Some.ensures ∙ sym (table_seen c.args.program.now c.args.entries.now c.args.plan.now c.as_slice.result.now c.args.node _ c.as_slice.ensures c.requires.node))
+
+pub push_part-requires-clause-planned : goal.push_part-requires-clause-planned
+push_part-requires-clause-planned c = record {
+  program = c.requires.program;
+  entries = c.requires.entries;
+  is_plan = c.requires.plan;
+  stage = omega (arith, c.loop-stage-test.true, c.loop-stage.auto.stage-end, c.len-stage-end.ensures, c.requires.stages);
+}
 
 pub loop-stage-preserved : goal.loop-stage-preserved
 loop-stage-preserved c =

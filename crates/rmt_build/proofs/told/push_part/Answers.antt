@@ -6,7 +6,7 @@ use Rattle.rmt_ast.specs.declared.entry.Entry.{Entry}
 use Rattle.rmt_ast.specs.EntryLists.{terms_at}
 use Rattle.rmt_pack.specs.Placements.{quanta_in}
 use Rattle.rmt_build.specs.Types.{Node}
-use Rattle.rmt_build.specs.declared.stands.Stand.{Stand}
+use Rattle.rmt_filling.specs.declared.stands.Stand.{Stand}
 use Rattle.rmt_build.specs.Plans.{stands_of_part}
 use Rattle.rmt_build.proofs.EntryCellLaws.{entries_of_part}
 use Rattle.rmt_build.proofs.PlannedLaws.{part_absent}
@@ -31,9 +31,9 @@ numbers_of-requires c =
     let t = c.args.table.now in
     let es = c.index-as_slice-node.result in
     let terms = length-map p.nodes (λ (x : Node). terms_at p x.what) in
-    let all = c.requires.entries.for_each_node in
+    let all = c.requires.planned.entries.for_each_node in
     let at : slice_get lists n ≡ Some es =
     slice_get_read lists (length lists) n es refl (omega (arith, all, terms, c.requires.node)) (c.index-as_slice-node.is ∙ ap (λ xs. get_or xs n es) c.as_slice.ensures) in
-    let those = entries_of_part p lists plan t n k es c.requires.entries c.requires.plan c.requires.node at in
+    let those = entries_of_part p lists plan t n k es c.requires.planned.entries c.requires.planned.is_plan c.requires.node at in
     subst (λ (xs : List Stand). All (λ (s : Stand). s.entry < length c.as_slice-list.result.now) xs) (sym (c.as_slice-2.ensures ∙ c.in_ok-stands.ensures))
     (subst (λ (xs : List Entry). All (λ (s : Stand). s.entry < length xs) (stands_of_part p plan t n k)) (sym c.as_slice-list.ensures) those)

@@ -7,13 +7,12 @@ use Rattle.rmt_build.specs.Types.{Node, Guard, Memory}
 use Rattle.rmt_ast.specs.declared.program.What.TheVariants.{Apply}
 use Rattle.rmt_ast.specs.EntryLists.{terms_at}
 use Rattle.rmt_pack.specs.Placements.{quanta_in}
-use Rattle.rmt_pack.proofs.NeedLaws.{data_bits-few, params-small}
 use Rattle.rmt_phv.specs.Places.{high_first}
 use Rattle.rmt_refine.specs.Units.{HasKind, guard_of, last_stage}
-use Rattle.rmt_build.specs.declared.stands.Stand.{Stand}
+use Rattle.rmt_filling.specs.declared.stands.Stand.{Stand}
 use Rattle.rmt_build.specs.Plans.{need_in, stands_of_part}
-use Rattle.rmt_build.specs.Memories.{memory_for}
-use Rattle.rmt_build.specs.Numbers.{number_at}
+use Rattle.rmt_filling.specs.Memories.{memory_for}
+use Rattle.rmt_filling.specs.Numbers.{number_at}
 use Rattle.rmt_build.proofs.PlanLaws.{is_table}
 use Rattle.rmt_build.proofs.UnitPartLaws.{slot_part}
 use Rattle.rmt_build.proofs.EntryCellLaws.{entries_of_part}
@@ -28,12 +27,12 @@ numbers_of-requires c =
     let es = c.index-as_slice-node.result in
     let lists = c.as_slice-2.ensures in
     let terms = length-map p.nodes (λ (x : Node). terms_at p x.what) in
-    let all = c.requires.entries.for_each_node in
+    let all = c.requires.planned.entries.for_each_node in
     let at : slice_get c.args.planned.now.entries.now n ≡ Some es =
     slice_get_read c.args.planned.now.entries.now (length c.args.planned.now.entries.now) n es refl (omega (arith, all, terms, c.requires.node)) (c.index-as_slice-node.is ∙ ap (λ xs. get_or xs n es) lists) in
     let t = c.args.table.now in
     let k = c.args.planned.now.stage in
-    let those = entries_of_part p c.args.planned.now.entries.now plan t n k es c.requires.entries c.requires.plan c.requires.node at in
+    let those = entries_of_part p c.args.planned.now.entries.now plan t n k es c.requires.planned.entries c.requires.planned.is_plan c.requires.node at in
     subst (λ (xs : List Stand). All (λ (s : Stand). s.entry < length c.as_slice-list.result.now) xs) (sym (c.as_slice-3.ensures ∙ c.in_ok-stands.ensures))
     (subst (λ (xs : List Entry). All (λ (s : Stand). s.entry < length xs) (stands_of_part p plan t n k)) (sym c.as_slice-list.ensures) those)
 
@@ -42,23 +41,15 @@ guard_of-requires c =
     let p = c.args.planned.now.program.now in
     let n = c.args.node in
     let a = node_applies p n c.args.table.now c.requires.table in
-    let few = c.requires.program.counts.nodes in
+    let few = c.requires.planned.program.counts.nodes in
     let zero : Node = record { guard = None; what = Apply 0 } in
     let same : get_or c.as_slice-4.result.now n zero ≡ a.node = ap (λ xs. get_or xs n zero) c.as_slice-4.ensures ∙ get_or_from_slice_get p.nodes n a.node zero a.at in
-    subst (λ (x : Node). IfSome x.guard (λ (g : Guard). g.parent < 256)) (sym same) (guard_small n a.node.guard (c.requires.program.nodes n a.node a.at).guard (omega (arith, c.requires.node, few)))
+    subst (λ (x : Node). IfSome x.guard (λ (g : Guard). g.parent < 256)) (sym same) (guard_small n a.node.guard (c.requires.planned.program.nodes n a.node a.at).guard (omega (arith, c.requires.node, few)))
 
 pub overflow_cast-result-2 : goal.overflow_cast-result-2
 overflow_cast-result-2 c =
-    let few = (is_table c.args.planned.now.program.now c.requires.program c.args.node c.args.table.now c.requires.table).few_actions in
+    let few = (is_table c.args.planned.now.program.now c.requires.planned.program c.args.node c.args.table.now c.requires.table).few_actions in
     omega (arith, few, c.len.ensures)
-
-pub data_bits-data-requires : goal.data_bits-data-requires
-data_bits-data-requires c = params-small c.args.planned.now.program.now c.requires.program c.args.table.now
-
-pub overflow_cast-data : goal.overflow_cast-data
-overflow_cast-data c =
-    let few = data_bits-few c.args.planned.now.program.now c.requires.program c.args.table.now in
-    omega (arith, few, c.data_bits-data.ensures)
 
 pub returns-clause-unit : goal.returns-clause-unit
 returns-clause-unit c =
@@ -78,7 +69,7 @@ returns-clause-unit c =
       actions = c.len.ensures;
       keys = c.in_ok-keys.ensures ∙ ap (high_first plan.places) c.as_slice.ensures;
       memory = subst (λ (m : Memory). HasKind t.kind (quanta_in parts n k) m) (sym c.in_ok-memory.ensures.memory) (kind_of_memory t.kind (need_in p parts t n k) c.args.taken.now);
-      last = ap (λ x. k == x) (c.last_stage.ensures ∙ ap (λ ps. last_stage ps n) c.as_slice-5.ensures);
+      last = c.stands_last.ensures ∙ ap (λ ps. k == last_stage ps n) c.as_slice-5.ensures;
     })
 
 pub returns-clause-parts : goal.returns-clause-parts
@@ -89,12 +80,12 @@ returns-clause-parts c =
     let t = c.args.table.now in
     let es = c.index-as_slice-node.result in
     let terms = length-map p.nodes (λ (x : Node). terms_at p x.what) in
-    let all = c.requires.entries.for_each_node in
+    let all = c.requires.planned.entries.for_each_node in
     let at : slice_get c.args.planned.now.entries.now n ≡ Some es =
     slice_get_read c.args.planned.now.entries.now (length c.args.planned.now.entries.now) n es refl (omega (arith, all, terms, c.requires.node)) (c.index-as_slice-node.is ∙ ap (λ xs. get_or xs n es) c.as_slice-2.ensures) in
     slot_part p c.args.planned.now.entries.now plan c.args.planned.now.stage _ t es c.requires.table at (record {
       memory = c.in_ok-memory.ensures.memory ∙ ap (memory_for t.kind (need_in p plan.placement.parts t n c.args.planned.now.stage)) c.requires.taken;
-      held = c.data_bits-data.ensures;
+      held = c.held_bits.ensures.bits;
       numbers = c.in_ok-numbers.ensures.numbers ∙ (ap (λ (xs : List Entry). map (number_at xs) c.as_slice-3.result.now) c.as_slice-list.ensures ∙ ap (map (number_at es)) (c.as_slice-3.ensures ∙ c.in_ok-stands.ensures));
     })
 

@@ -5,9 +5,10 @@ use Rattle.rmt_ast.specs.declared.program.Kind.TheVariants.{Keyless}
 use Rattle.rmt_pack.specs.declared.format.Format.{Format}
 use Rattle.rmt_pack.specs.declared.placement.Part.{Part}
 use Rattle.rmt_pack.specs.Placements.{quanta_in}
-use Rattle.rmt_build.specs.declared.stands.Stand.{Stand}
-use Rattle.rmt_build.specs.Plans.{format_at, quanta_before, stands_of_part}
-use Rattle.rmt_build.specs.EntryCells.{cells_for, stands_within}
+use Rattle.rmt_filling.specs.declared.stands.Stand.{Stand}
+use Rattle.rmt_filling.specs.Formats.{format_at}
+use Rattle.rmt_build.specs.Plans.{quanta_before, stands_of_part}
+use Rattle.rmt_filling.specs.EntryCells.{cells_for, stands_within}
 use Rattle.rmt_build.proofs.PlanLaws.{few_in, few_per, format_seen, formats_long}
 use Rattle.rmt_build.proofs.EntryCellLaws.{within_none}
 use Rattle.rmt_build.proofs.units.stands_in.Goals as goal
@@ -24,32 +25,32 @@ returns-then-eq c =
     c.new.ensures ∙ sym (ap (λ kind. stands_within (cells_for kind per (quanta_before parts c.args.node c.args.planned.now.stage)) (cells_for kind per (quanta_in parts c.args.node c.args.planned.now.stage)) own) keyless ∙ within_none own)
 
 pub bounds-as_slice-node : goal.bounds-as_slice-node
-bounds-as_slice-node c = formats_long c.args.planned.now.program.now c.requires.program c.args.node c.args.table.now c.requires.table c.as_slice.result.now (c.as_slice.ensures ∙ c.requires.formats)
+bounds-as_slice-node c = formats_long c.args.planned.now.program.now c.requires.planned.program c.args.node c.args.table.now c.requires.table c.as_slice.result.now (c.as_slice.ensures ∙ c.requires.planned.is_plan.formats)
 
 pub quanta_before-requires-clause-few : goal.quanta_before-requires-clause-few
 quanta_before-requires-clause-few c = λ k.
     (let keyed : c.args.table.now.kind ≢ Keyless = search rules in
     subst (λ (ps : List Part). quanta_in ps c.args.node k ≤ 106) (sym c.as_slice-parts.ensures)
-    (few_in c.args.planned.now.program.now c.requires.program c.args.node c.args.table.now c.requires.table c.args.planned.now.plan.now.placement.parts k c.requires.parts keyed))
+    (few_in c.args.planned.now.program.now c.requires.planned.program c.args.node c.args.table.now c.requires.table c.args.planned.now.plan.now.placement.parts k c.requires.planned.is_plan.parts keyed))
 
 pub cells_of-first-requires-clause-per : goal.cells_of-first-requires-clause-per
 cells_of-first-requires-clause-per c =
     let keyed : c.args.table.now.kind ≢ Keyless = search rules in
-    let seen = format_seen c.args.planned.now.program.now c.requires.program c.args.node c.args.table.now c.requires.table c.as_slice.result.now zero_format (c.as_slice.ensures ∙ c.requires.formats) in
-    subst (λ (f : Format). f.per < 100) (sym seen) (few_per c.args.planned.now.program.now c.requires.program c.args.node c.args.table.now c.requires.table keyed)
+    let seen = format_seen c.args.planned.now.program.now c.requires.planned.program c.args.node c.args.table.now c.requires.table c.as_slice.result.now zero_format (c.as_slice.ensures ∙ c.requires.planned.is_plan.formats) in
+    subst (λ (f : Format). f.per < 100) (sym seen) (few_per c.args.planned.now.program.now c.requires.planned.program c.args.node c.args.table.now c.requires.table keyed)
 
 pub cells_of-cells-requires-clause-quanta : goal.cells_of-cells-requires-clause-quanta
 cells_of-cells-requires-clause-quanta c =
     let keyed : c.args.table.now.kind ≢ Keyless = search rules in
-    let few = few_in c.args.planned.now.program.now c.requires.program c.args.node c.args.table.now c.requires.table c.args.planned.now.plan.now.placement.parts c.args.planned.now.stage c.requires.parts keyed in
+    let few = few_in c.args.planned.now.program.now c.requires.planned.program c.args.node c.args.table.now c.requires.table c.args.planned.now.plan.now.placement.parts c.args.planned.now.stage c.requires.planned.is_plan.parts keyed in
     let same = c.quanta_in.ensures ∙ ap (λ ps. quanta_in ps c.args.node c.args.planned.now.stage) c.as_slice-parts.ensures in
     omega (arith, few, same)
 
 pub cells_of-cells-requires-clause-per : goal.cells_of-cells-requires-clause-per
 cells_of-cells-requires-clause-per c =
     let keyed : c.args.table.now.kind ≢ Keyless = search rules in
-    let seen = format_seen c.args.planned.now.program.now c.requires.program c.args.node c.args.table.now c.requires.table c.as_slice.result.now zero_format (c.as_slice.ensures ∙ c.requires.formats) in
-    subst (λ (f : Format). f.per < 100) (sym seen) (few_per c.args.planned.now.program.now c.requires.program c.args.node c.args.table.now c.requires.table keyed)
+    let seen = format_seen c.args.planned.now.program.now c.requires.planned.program c.args.node c.args.table.now c.requires.table c.as_slice.result.now zero_format (c.as_slice.ensures ∙ c.requires.planned.is_plan.formats) in
+    subst (λ (f : Format). f.per < 100) (sym seen) (few_per c.args.planned.now.program.now c.requires.planned.program c.args.node c.args.table.now c.requires.table keyed)
 
 pub returns : goal.returns
 returns c =
@@ -57,7 +58,7 @@ returns c =
     let k = c.args.planned.now.stage in
     let kind = c.args.table.now.kind in
     let parts = c.args.planned.now.plan.now.placement.parts in
-    let seen = format_seen c.args.planned.now.program.now c.requires.program n c.args.table.now c.requires.table c.as_slice.result.now zero_format (c.as_slice.ensures ∙ c.requires.formats) in
+    let seen = format_seen c.args.planned.now.program.now c.requires.planned.program n c.args.table.now c.requires.table c.as_slice.result.now zero_format (c.as_slice.ensures ∙ c.requires.planned.is_plan.formats) in
     let cells : ℕ → ℕ → ℕ = λ per q. cells_for kind per q in
     let first : c.cells_of-first.result ≡ cells (format_at c.args.planned.now.program.now n).per (quanta_before parts n k) =
     c.cells_of-first.ensures ∙ (ap (λ (f : Format). cells f.per c.quanta_before.result) seen

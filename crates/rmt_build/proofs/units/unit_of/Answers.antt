@@ -6,7 +6,7 @@ use Rattle.rmt_ast.specs.declared.program.What.TheVariants.{Apply, Gate}
 use Rattle.rmt_build.specs.Plans.{taken_upto}
 use Rattle.rmt_ast.specs.declared.entry.Entry.{Entry}
 use Rattle.rmt_build.specs.BuiltStage.{HaveParts}
-use Rattle.rmt_build.proofs.ListLaws.{if_ok, on_ok}
+use Rattle.rmt_filling.proofs.ListLaws.{if_ok, on_ok}
 use Rattle.rmt_build.proofs.PlanLaws.{gate_taken}
 use Rattle.rmt_build.proofs.units.unit_of.Goals as goal
 

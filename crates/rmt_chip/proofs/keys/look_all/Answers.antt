@@ -1,18 +1,19 @@
 use Rattle.std.proofs.Common.{◌<◌, ap, sym, subst, ℕ, List, length, get_or, arith}
 use Rattle.std.specs.Prelude.{slice_index}
 use Rattle.rmt_chip.specs.Types.{Unit}
-use Rattle.rmt_chip.specs.Looked.{HasRoom, LookedFor}
-use Rattle.rmt_chip.specs.Memory.{MemoryFits, UnitHeld}
+use Rattle.rmt_memory.specs.Looked.{HasRoom, LookedFor}
+use Rattle.rmt_memory.specs.Memory.{MemoryFits, UnitHeld}
 use Rattle.rmt_chip.specs.Looks.{LooksAt}
-use Rattle.rmt_chip.specs.declared.memory.SlotMemory.{SlotMemory}
-use Rattle.rmt_chip.proofs.LookLaws.{room_kept, looked_more, unit_at}
+use Rattle.rmt_memory.specs.declared.memory.SlotMemory.{SlotMemory}
+use Rattle.rmt_chip.proofs.LookLaws.{room_kept, looked_more}
+use Rattle.rmt_memory.proofs.StageMemoriesLaws.{item_at}
 use Rattle.rmt_chip.proofs.keys.look_all.Goals as goal
 
 pub look_unit-requires-clause-fits : goal.look_unit-requires-clause-fits
 look_unit-requires-clause-fits c =
     let unit = c.index-units-at.result in
     let memory = c.index-memories-at.result in
-    let (inside, at) = unit_at c.args.stage.now.units c.as_slice-units.result.now c.loop-at.at unit c.as_slice-units.ensures c.loop-at-test.true c.index-units-at.is in
+    let (inside, at) = item_at c.args.stage.now.units c.as_slice-units.result.now c.loop-at.at unit c.as_slice-units.ensures c.loop-at-test.true c.index-units-at.is in
     subst (λ (u : Unit). MemoryFits u memory) at
     (subst (λ (m : SlotMemory). MemoryFits (get_or c.args.stage.now.units c.loop-at.at unit) m) (sym c.index-memories-at.is) (c.requires.fit.each c.loop-at.at unit memory inside))
 
@@ -21,7 +22,7 @@ loop-at-preserved c =
     let units = c.args.stage.now.units in
     let i = c.loop-at.at in
     let unit = c.index-units-at.result in
-    let (inside, at) = unit_at units c.as_slice-units.result.now i unit c.as_slice-units.ensures c.loop-at-test.true c.index-units-at.is in
+    let (inside, at) = item_at units c.as_slice-units.result.now i unit c.as_slice-units.ensures c.loop-at-test.true c.index-units-at.is in
     let memory = c.index-memories-at.result in
     let was = c.loop-at.invariant in
     let new = c.look_unit.new.into in

@@ -2,10 +2,10 @@ use Rattle.std.proofs.Common.{◌≡◌, ◌<◌, ℕ, get_or}
 use Rattle.std.specs.Prelude.{slice_index}
 use Rattle.rmt_chip.specs.Types.{Unit}
 use Rattle.rmt_config.specs.Life.{Look}
-use Rattle.rmt_chip.specs.declared.looked.Looked.{Looked}
-use Rattle.rmt_chip.specs.Looked.{HaveRoom, LookedFor}
+use Rattle.rmt_memory.specs.declared.looked.Looked.{Looked}
+use Rattle.rmt_memory.specs.Looked.{HaveRoom, LookedFor}
 use Rattle.rmt_config.specs.RunCells.{RunCells}
-use Rattle.rmt_chip.specs.Memory.{StageHeld}
+use Rattle.rmt_memory.specs.Memory.{StageHeld}
 use Rattle.rmt_chip.specs.Looks.{LooksInto}
 use Rattle.rmt_chip.proofs.keys.look_all.Given as goal
 

@@ -5,7 +5,7 @@ use Rattle.rmt_bits.specs.declared.lane.Lane.{Lane}
 use Rattle.rmt_config.specs.LaneForm.{bits_of_lanes}
 use Rattle.rmt_config.specs.RunCells.{found_in_slot}
 use Rattle.rmt_config.specs.Life.{key_of}
-use Rattle.rmt_chip.specs.Looked.{Finds}
+use Rattle.rmt_memory.specs.Looked.{Finds}
 use Rattle.rmt_chip.proofs.LookLaws.{key_of-lt}
 use Rattle.rmt_chip.proofs.keys.look_slot.Goals as goal
 

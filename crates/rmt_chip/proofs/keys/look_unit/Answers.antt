@@ -4,7 +4,7 @@ use Rattle.rmt_chip.specs.Types.{Unit}
 use Rattle.rmt_config.specs.declared.config.Unit.TheVariants.{Slot}
 use Rattle.rmt_config.specs.Cells.{Found}
 use Rattle.rmt_config.specs.Life.{has_memory, key_of}
-use Rattle.rmt_chip.specs.Looked.{Finds, LookedFor}
+use Rattle.rmt_memory.specs.Looked.{Finds, LookedFor}
 use Rattle.rmt_chip.proofs.keys.look_unit.Goals as goal
 
 pub returns-in-Slot-clause-looked : goal.returns-in-Slot-clause-looked

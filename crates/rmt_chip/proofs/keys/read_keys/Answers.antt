@@ -4,10 +4,10 @@ use Rattle.std.specs.Vec.{with_items}
 use Rattle.std.proofs.lemmas.List.{with_items_is}
 use Rattle.std.proofs.lemmas.Option.{slice_get-get_or, get_or_from_slice_get}
 use Rattle.rmt_chip.specs.Types.{Stage}
-use Rattle.rmt_chip.specs.declared.looked.Looked.{Looked}
+use Rattle.rmt_memory.specs.declared.looked.Looked.{Looked}
 use Rattle.rmt_chip.specs.declared.pending.Pending.{Pending}
-use Rattle.rmt_chip.specs.Looked.{AllLooked, HaveRoom}
-use Rattle.rmt_chip.specs.Memory.{StageHeld}
+use Rattle.rmt_memory.specs.Looked.{AllLooked, HaveRoom}
+use Rattle.rmt_memory.specs.Memory.{StageHeld}
 use Rattle.rmt_chip.specs.Looks.{LooksInto}
 use Rattle.rmt_chip.proofs.PendingLaws.{looked_by, room_put}
 use Rattle.rmt_chip.proofs.keys.read_keys.Goals as goal

@@ -1,6 +1,6 @@
 use Rattle.std.proofs.Common.{◌≡◌, ◌≤◌, ◌*◌, ℕ, length, vec_len, vec_capacity}
 use Rattle.rmt_config.specs.Life.{Look, Words}
-use Rattle.rmt_chip.specs.Looked.{AllLooked}
+use Rattle.rmt_memory.specs.Looked.{AllLooked}
 use Rattle.rmt_chip.proofs.DecidingLaws.{DoneUpto}
 use Rattle.rmt_chip.proofs.outcomes.decide_all.Given as goal
 

@@ -2,7 +2,7 @@ use Rattle.std.proofs.Common.{◌≡◌, ◌<◌, ◌-◌, ◌+◌, ◌++◌, []
 use Rattle.std.proofs.lemmas.List.{get_or_default}
 use Rattle.rmt_chip.specs.Types.{SlotUnit}
 use Rattle.rmt_config.specs.Life.{Acts, runs, slot_acts}
-use Rattle.rmt_chip.specs.declared.looked.Looked.{Looked}
+use Rattle.rmt_memory.specs.declared.looked.Looked.{Looked}
 use Rattle.rmt_chip.specs.declared.ran.Ran.{Ran}
 use Rattle.rmt_chip.specs.Ran.{HaveDone, CountsAlso}
 use Rattle.rmt_chip.proofs.DecidingLaws.{done_if, slot_found, slot_missed, slot_rests, one_if}

@@ -3,7 +3,7 @@ use Rattle.rmt_chip.specs.Types.{Unit}
 use Rattle.rmt_config.specs.declared.config.Unit.TheVariants.{Slot}
 use Rattle.rmt_config.specs.Instructions.{first_code}
 use Rattle.rmt_config.specs.Life.{runs, slot_acts, looked_up, unit_acts}
-use Rattle.rmt_chip.specs.Looked.{LookedFor}
+use Rattle.rmt_memory.specs.Looked.{LookedFor}
 use Rattle.rmt_chip.specs.Ran.{HaveDone}
 use Rattle.rmt_chip.proofs.DecidingLaws.{moved}
 use Rattle.rmt_chip.proofs.outcomes.decide_unit.Goals as goal

@@ -5,7 +5,7 @@ use Rattle.rmt_config.specs.Life.{acts_of}
 use Rattle.rmt_chip.specs.Types.{Stage}
 use Rattle.rmt_chip.specs.Counting.{hits_made}
 use Rattle.rmt_chip.specs.Held.{is_accepted}
-use Rattle.rmt_chip.specs.Looked.{AllLooked}
+use Rattle.rmt_memory.specs.Looked.{AllLooked}
 use Rattle.rmt_chip.specs.Ran.{CountsAlso}
 use Rattle.rmt_chip.proofs.PendingLaws.{counted_by}
 use Rattle.rmt_chip.proofs.outcomes.set_outcomes.Goals as goal

@@ -3,7 +3,7 @@ use Rattle.std.specs.Prelude.{slice_get}
 use Rattle.std.proofs.lemmas.Option.{slice_get-get_or}
 use Rattle.rmt_config.specs.RunCells.{look_in}
 use Rattle.rmt_chip.specs.Types.{Stage}
-use Rattle.rmt_chip.specs.Memory.{StageHeld}
+use Rattle.rmt_memory.specs.Memory.{StageHeld}
 use Rattle.rmt_chip.specs.Looks.{LooksInto}
 use Rattle.rmt_chip.specs.Pending.{HaveRoomFor}
 use Rattle.rmt_chip.proofs.PassLaws.{ring_set, look_turn, look_done}

@@ -2,7 +2,7 @@ use Rattle.std.proofs.Common.{◌≡◌, ℕ, Option}
 use Rattle.rmt_config.specs.RunCells.{RunCells}
 use Rattle.rmt_chip.specs.Held.{Entered}
 use Rattle.rmt_chip.specs.Ring.{now, partly_next, done_before, AllHold, IsRing, LooksNow}
-use Rattle.rmt_chip.specs.StageMemories.{MemoriesHold}
+use Rattle.rmt_memory.specs.StageMemories.{MemoriesHold}
 use Rattle.rmt_chip.proofs.ring.read_keys.Given as goal
 
 abbrev pub invariant-loop-k : goal.invariant-loop-k

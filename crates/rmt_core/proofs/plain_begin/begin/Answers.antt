@@ -10,8 +10,8 @@ use Rattle.rmt_ast.specs.NameRules.{AreEntriesOf, CanBeNamed, names_are_formed}
 use Rattle.rmt_ast.proofs.NamingLaws.{names_of-formed}
 use Rattle.rmt_plain.proofs.EventLaws.{taken_first}
 use Rattle.rmt_refine.proofs.NamedLaws.{entries_named}
-use Rattle.rmt_update.specs.Running.{fresh}
-use Rattle.rmt_update.specs.Stands.{Stands}
+use Rattle.rmt_lists.specs.Running.{fresh}
+use Rattle.rmt_lists.specs.Stands.{Stands}
 use Rattle.rmt_drive.specs.EventText.{most_additions}
 use Rattle.rmt_runs.specs.Waiting.{Written}
 use Rattle.rmt_drive.proofs.EditedLaws.{edited_first}

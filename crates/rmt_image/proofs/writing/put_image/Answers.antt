@@ -4,9 +4,9 @@ use Rattle.rmt_config.specs.Spelling.{two_bytes, spelled_config}
 use Rattle.rmt_config.specs.ImageSpelling.{spelled_names, spelled_tails, version_of}
 use Rattle.rmt_config.proofs.CountsLemmas.{counts_fit}
 use Rattle.rmt_image.specs.Types.{TailOf}
-use Rattle.rmt_image.proofs.Appending.{appended_five}
-use Rattle.rmt_image.proofs.TailItems.{few_tails}
-use Rattle.rmt_image.proofs.NamesCounts.{names_counts_fit}
+use Rattle.rmt_items.proofs.Appending.{appended_five}
+use Rattle.rmt_items.proofs.TailItems.{few_tails}
+use Rattle.rmt_items.proofs.NamesCounts.{names_counts_fit}
 use Rattle.rmt_image.proofs.writing.put_image.Goals as goal
 
 pub put_config-requires : goal.put_config-requires
@@ -25,7 +25,7 @@ returns c =
     (codes "RMTI") (two_bytes (version_of config)) (spelled_config config) (spelled_names config.names) (spelled_tails config.parser.tails)
     c.extend_from_slice.new.self.items c.put_two.new.out.items c.put_config.new.out.items c.put_names.new.out.items c.put_tails.new.out.items
     c.in_ok-extend_from_slice.ensures.items
-    (c.in_ok-put_two.ensures ∙ ap (λ (version : ℕ). c.extend_from_slice.new.self.items ++ two_bytes version) c.version.ensures)
+    (c.in_ok-put_two.ensures.put ∙ ap (λ (version : ℕ). c.extend_from_slice.new.self.items ++ two_bytes version) c.version.ensures)
     c.in_ok-put_config.ensures
-    c.in_ok-put_names.ensures
-    (subst (λ (ts : List TailOf). OnOk c.put_tails.result (c.put_tails.new.out.items ≡ c.put_names.new.out.items ++ spelled_tails ts)) c.as_slice.ensures c.put_tails.ensures)
+    c.in_ok-put_names.ensures.put
+    (subst (λ (ts : List TailOf). OnOk c.put_tails.result (c.put_tails.new.out.items ≡ c.put_names.new.out.items ++ spelled_tails ts)) c.as_slice.ensures c.put_tails.ensures.put)

@@ -1,7 +1,9 @@
 //! The codes of lines that change entries, of captures and of maps.
 
+use crate::tests::compare::same_bytes;
 use crate::tests::messages::message;
 use rmt_explain::ending::Texts;
+use std::alloc::{AllocError, Global};
 use std::test::*;
 
 const PLAIN: &[&str] = &["plain", "p", "e", "k"];
@@ -71,28 +73,34 @@ const FILES: [(&[&str], u8, &str, &str); 3] = [
     ),
 ];
 
-#[test]
-fn lines_that_change_entries(rt: HostRuntime) -> Result<(), Fail> {
-    let alloc = rt.alloc();
-    for &(words, code, line, says) in &CHANGES {
-        let last_line = format!(in alloc; "bad packets {code} line 3\n")?;
-        let texts = Texts {
-            packet_line: Some(line.as_bytes()),
-            ..Texts::none()
-        };
-        let told = message(alloc, words, 8, last_line.as_str(), &texts)?;
-        let wanted = format!(in alloc; "k:3:1: {says}\n  3 | {line}\n    | ^\n")?;
-        assert!(rt; told.as_slice() == wanted.as_bytes(), "{wanted}: {told:?}");
-    }
-    Ok(())
+/// The message where line 3 of a packet text has this code.
+fn told(alloc: Global, words: &[&str], code: u64, line: &str) -> Result<Vec<u8>, AllocError> {
+    let last_line = format!(in alloc; "bad packets {code} line 3\n")?;
+    let texts = Texts {
+        packet_line: Some(line.as_bytes()),
+        ..Texts::none()
+    };
+    message(alloc, words, 8, last_line.as_str(), &texts)
+}
+
+/// The whole message that says this of the line.
+fn wanted(alloc: Global, line: &str, says: &str) -> Result<String, AllocError> {
+    format!(in alloc; "k:3:1: {says}\n  3 | {line}\n    | ^\n")
 }
 
 #[test]
-fn files_of_other_kinds(rt: HostRuntime) -> Result<(), Fail> {
-    let alloc = rt.alloc();
-    for &(words, status, last_line, wanted) in &FILES {
-        let told = message(alloc, words, status, last_line, &Texts::none())?;
-        assert!(rt; told.as_slice() == wanted.as_bytes(), "{wanted}: {told:?}");
+fn lines_that_change_entries(rt: HostRuntime) {
+    for &(words, code, line, says) in &CHANGES {
+        let told = told(rt.alloc(), words, code, line).expect(&rt, "memory");
+        let wanted = wanted(rt.alloc(), line, says).expect(&rt, "memory");
+        same_bytes(&rt, told.as_slice(), wanted.as_str());
     }
-    Ok(())
+}
+
+#[test]
+fn files_of_other_kinds(rt: HostRuntime) {
+    for &(words, status, last_line, wanted) in &FILES {
+        let told = message(rt.alloc(), words, status, last_line, &Texts::none());
+        same_bytes(&rt, told.expect(&rt, "memory").as_slice(), wanted);
+    }
 }

@@ -1,5 +1,6 @@
 //! Mistakes in entries.
 
+use crate::tests::compare::same_bytes;
 use crate::tests::messages::message;
 use rmt_entries::entries;
 use rmt_entries::fault::EntryFault;
@@ -242,19 +243,21 @@ e:2:1: the key stands here first
     ),
 ];
 
+/// What is told of an entry text of that program.
+fn told(alloc: Global, text: &str) -> Result<Vec<u8>, AllocError> {
+    let line = entry_line(alloc, text.as_bytes())?;
+    let texts = Texts {
+        program: Some(TABLES.as_bytes()),
+        entries: Some(text.as_bytes()),
+        packet_line: None,
+    };
+    message(alloc, &["compile", "p", "e", "i"], 5, line.as_str(), &texts)
+}
+
 #[test]
-fn mistakes_in_entries(rt: HostRuntime) -> Result<(), Fail> {
-    let alloc = rt.alloc();
-    for (text, wanted) in ENTRIES.iter() {
-        let line = entry_line(alloc, text.as_bytes())?;
-        let texts = Texts {
-            program: Some(TABLES.as_bytes()),
-            entries: Some(text.as_bytes()),
-            packet_line: None,
-        };
-        let words = ["compile", "p", "e", "i"];
-        let told = message(alloc, &words, 5, line.as_str(), &texts)?;
-        assert!(rt; told.as_slice() == wanted.as_bytes(), "{text}: {told:?}");
+fn mistakes_in_entries(rt: HostRuntime) {
+    for &(text, wanted) in &ENTRIES {
+        let told = told(rt.alloc(), text).expect(&rt, "memory");
+        same_bytes(&rt, told.as_slice(), wanted);
     }
-    Ok(())
 }

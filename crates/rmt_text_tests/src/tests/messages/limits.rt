@@ -1,7 +1,9 @@
 //! The limit of each kind of file, told where the file is too long.
 
+use crate::tests::compare::same_bytes;
 use crate::tests::messages::message_of;
 use rmt_explain::ending::Texts;
+use std::alloc::{AllocError, Global};
 use std::io::ErrorKind;
 use std::test::*;
 
@@ -62,14 +64,22 @@ const ROWS: [(&[&str], &str, &str); 11] = [
     ),
 ];
 
+/// The message where a file of this name is too long.
+fn told(alloc: Global, words: &[&str], name: &str) -> Result<Vec<u8>, AllocError> {
+    let fault = Some((name, ErrorKind::FileTooLarge));
+    message_of(alloc, words, 9, "", fault, &Texts::none())
+}
+
+/// The whole message that ends in these lines.
+fn wanted(alloc: Global, lines: &str) -> Result<String, AllocError> {
+    format!(in alloc; "rmt: a file is longer than its limit\n{lines}")
+}
+
 #[test]
-fn limits_of_files(rt: HostRuntime) -> Result<(), Fail> {
-    let alloc = rt.alloc();
+fn limits_of_files(rt: HostRuntime) {
     for &(words, name, lines) in &ROWS {
-        let wanted = format!(in alloc; "rmt: a file is longer than its limit\n{lines}")?;
-        let fault = Some((name, ErrorKind::FileTooLarge));
-        let text = message_of(alloc, words, 9, "", fault, &Texts::none())?;
-        assert!(rt; text.as_slice() == wanted.as_bytes(), "{wanted}: {text:?}");
+        let wanted = wanted(rt.alloc(), lines).expect(&rt, "memory");
+        let told = told(rt.alloc(), words, name).expect(&rt, "memory");
+        same_bytes(&rt, told.as_slice(), wanted.as_str());
     }
-    Ok(())
 }

@@ -1,5 +1,6 @@
 //! Words that are no command, files, images, packets, and programs that don't fit.
 
+use crate::tests::compare::same_bytes;
 use crate::tests::messages::{message, message_of};
 use rmt_explain::commands::FORMS;
 use rmt_explain::ending::Texts;
@@ -639,9 +640,9 @@ fn forms(alloc: Global) -> Result<String, AllocError> {
         text.push_str("  rmt ")?;
         text.push_str(form.name)?;
         for operand in form.operands {
-            text.push_str(format!(in alloc; " {operand}")?.as_str())?;
+            write!(text, " {operand}")?;
         }
-        text.push_str(format!(in alloc; "\n      {}\n", form.purpose)?.as_str())?;
+        write!(text, "\n      {}\n", form.purpose)?;
     }
     Ok(text)
 }
@@ -679,11 +680,10 @@ fn told(alloc: Global, row: &Row) -> Result<Vec<u8>, AllocError> {
 
 /// Compares the message of each row.
 fn compares(rt: &(impl Abort + AllocGlobal), rows: &[Row]) {
-    let alloc = rt.alloc();
     for row in rows {
-        let told = told(alloc, row).expect(rt, "memory");
-        let wanted = wanted(alloc, row).expect(rt, "memory");
-        assert!(rt; told.as_slice() == wanted.as_bytes(), "{wanted}: {told:?}");
+        let told = told(rt.alloc(), row).expect(rt, "memory");
+        let wanted = wanted(rt.alloc(), row).expect(rt, "memory");
+        same_bytes(rt, told.as_slice(), wanted.as_str());
     }
 }
 
@@ -712,15 +712,18 @@ fn groups_and_captures(rt: HostRuntime) {
     compares(&rt, &SWITCHES);
 }
 
-#[test]
-fn whole_help(rt: HostRuntime) -> Result<(), Fail> {
-    let alloc = rt.alloc();
+/// The whole help.
+fn help(alloc: Global) -> Result<String, AllocError> {
     let forms = forms(alloc)?;
     let head = "rmt: a compiler and a simulator for a match-action switch chip\n";
-    let wanted = format!(in alloc; "{head}{forms}{NOTES}")?;
+    format!(in alloc; "{head}{forms}{NOTES}")
+}
+
+#[test]
+fn whole_help(rt: HostRuntime) {
+    let wanted = help(rt.alloc()).expect(&rt, "memory");
     for &word in &["help", "--help", "-h"] {
-        let told = message(alloc, &[word], 1, "", &Texts::none())?;
-        assert!(rt; told.as_slice() == wanted.as_bytes(), "{word}: {told:?}");
+        let told = message(rt.alloc(), &[word], 1, "", &Texts::none());
+        same_bytes(&rt, told.expect(&rt, "memory").as_slice(), wanted.as_str());
     }
-    Ok(())
 }

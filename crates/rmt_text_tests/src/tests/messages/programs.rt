@@ -1,5 +1,6 @@
 //! Mistakes in programs.
 
+use crate::tests::compare::same_bytes;
 use crate::tests::messages::message;
 use rmt_check::read_program;
 use rmt_explain::ending::Texts;
@@ -24,18 +25,21 @@ fn program_line(alloc: Global, text: &[u8]) -> Result<String, AllocError> {
 /// A program's text, and its message.
 type Row = (&'static str, &'static str);
 
+/// What is told of a program text.
+fn told(alloc: Global, text: &str) -> Result<Vec<u8>, AllocError> {
+    let line = program_line(alloc, text.as_bytes())?;
+    let texts = Texts {
+        program: Some(text.as_bytes()),
+        ..Texts::none()
+    };
+    message(alloc, &["compile", "p", "e", "i"], 4, line.as_str(), &texts)
+}
+
 /// Compares the message of each row's program.
 fn compares(rt: &(impl Abort + AllocGlobal), rows: &[Row]) {
-    let alloc = rt.alloc();
-    for (text, wanted) in rows {
-        let line = program_line(alloc, text.as_bytes()).expect(rt, "memory");
-        let texts = Texts {
-            program: Some(text.as_bytes()),
-            ..Texts::none()
-        };
-        let words = ["compile", "p", "e", "i"];
-        let told = message(alloc, &words, 4, line.as_str(), &texts).expect(rt, "memory");
-        assert!(rt; told.as_slice() == wanted.as_bytes(), "{text}: {told:?}");
+    for &(text, wanted) in rows {
+        let told = told(rt.alloc(), text).expect(rt, "memory");
+        same_bytes(rt, told.as_slice(), wanted);
     }
 }
 

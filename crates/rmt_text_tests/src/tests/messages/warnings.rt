@@ -1,7 +1,9 @@
 //! What programs that compile can't mean.
 
+use crate::tests::compare::same_bytes;
 use crate::tests::messages::message;
 use rmt_explain::ending::Texts;
+use std::alloc::{AllocError, Global};
 use std::test::*;
 
 /// A program's text, and its warnings.
@@ -99,17 +101,25 @@ p:5:1: warning: no action of a table assigns `out_port`, so each packet that is 
     ),
 ];
 
+/// What is told of a program that compiles.
+fn told(alloc: Global, text: &str) -> Result<Vec<u8>, AllocError> {
+    let texts = Texts {
+        program: Some(text.as_bytes()),
+        ..Texts::none()
+    };
+    message(
+        alloc,
+        &["compile", "p", "e", "i"],
+        0,
+        "minimal yes\n",
+        &texts,
+    )
+}
+
 #[test]
-fn warnings(rt: HostRuntime) -> Result<(), Fail> {
-    let alloc = rt.alloc();
-    for (text, wanted) in WARNINGS.iter() {
-        let texts = Texts {
-            program: Some(text.as_bytes()),
-            ..Texts::none()
-        };
-        let words = ["compile", "p", "e", "i"];
-        let told = message(alloc, &words, 0, "minimal yes\n", &texts)?;
-        assert!(rt; told.as_slice() == wanted.as_bytes(), "{text}: {told:?}");
+fn warnings(rt: HostRuntime) {
+    for &(text, wanted) in &WARNINGS {
+        let told = told(rt.alloc(), text).expect(&rt, "memory");
+        same_bytes(&rt, told.as_slice(), wanted);
     }
-    Ok(())
 }

@@ -7,10 +7,10 @@ use Rattle.std.proofs.lemmas.Iterator.Adapters.{YieldsList-from_vec}
 use Rattle.std.proofs.lemmas.Iterator.Consumers.{YieldsList-end, YieldsList-turn}
 use Rattle.std.proofs.lemmas.Slice.Zip.{all_zipped_more}
 use Rattle.rmt_ast.specs.declared.names.TableName.{TableName}
-use Rattle.rmt_update.specs.declared.book.table.TableCells.{TableCells}
-use Rattle.rmt_update.specs.Listed.{IsTable}
+use Rattle.rmt_book.specs.declared.table.TableCells.{TableCells}
+use Rattle.rmt_book.specs.Listed.{IsTable}
 use Rattle.rmt_update.proofs.BookLaws.{TableFacts, named-facts}
-use Rattle.rmt_update.proofs.OrderedLaws.{map-same}
+use Rattle.rmt_book.proofs.OrderedLaws.{map-same}
 use Rattle.rmt_update.proofs.book.tables_of.Goals as goal
 use Rattle.rmt_update.proofs.book.tables_of.Goals.{In-Some}
 

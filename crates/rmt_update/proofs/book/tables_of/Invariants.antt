@@ -1,5 +1,5 @@
 use Rattle.std.specs.List.{AllZip}
-use Rattle.rmt_update.specs.Listed.{IsTable}
+use Rattle.rmt_book.specs.Listed.{IsTable}
 use Rattle.rmt_update.proofs.book.tables_of.Given as goal
 
 -- the tables so far

@@ -1,5 +1,5 @@
-use Rattle.rmt_update.specs.Running.{Running}
-use Rattle.rmt_update.specs.Stands.{Stands}
+use Rattle.rmt_lists.specs.Running.{Running}
+use Rattle.rmt_lists.specs.Stands.{Stands}
 use Rattle.rmt_update_tests.proofs.changes.take_all.Given as goal
 
 -- the lists stand for some run

@@ -6,8 +6,8 @@ use Rattle.rmt_ast.specs.NameRules.{AreEntriesOf}
 use Rattle.rmt_bits.proofs.OptionLaws.{IsSome-value}
 use Rattle.rmt_config.specs.NamesForm.{entries_spelled}
 use Rattle.rmt_config.specs.RunCells.{own_cells}
-use Rattle.rmt_update.specs.Running.{fresh}
-use Rattle.rmt_update.specs.Stands.{Stands}
+use Rattle.rmt_lists.specs.Running.{fresh}
+use Rattle.rmt_lists.specs.Stands.{Stands}
 use Rattle.rmt_update.proofs.SpelledEntries.{spelled_entries}
 use Rattle.rmt_update_tests.proofs.PlanReady.{new_ready, small_numbers}
 use Rattle.rmt_update_tests.proofs.plans.lists_of.Goals as goal

@@ -5,7 +5,7 @@ use Rattle.rmt_chip.specs.Types.{Config}
 use Rattle.rmt_config.specs.RunInputs.{Writes, counts_in, hits_from, numbers_brought}
 use Rattle.rmt_config.specs.RunCells.{with_write}
 use Rattle.rmt_chip.specs.PacketsInFlight.{cells_after, numbers_after}
-use Rattle.rmt_chip.specs.StageMemories.{MemoriesHold}
+use Rattle.rmt_memory.specs.StageMemories.{MemoriesHold}
 use Rattle.rmt_chip.proofs.KnownLaws.{hits-known}
 use Rattle.rmt_chip.proofs.StandsLaws.{numbers_push, stands_next, took_counting}
 use Rattle.rmt_chip.proofs.chip.Chip.clock_write.Goals as goal

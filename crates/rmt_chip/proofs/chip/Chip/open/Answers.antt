@@ -12,11 +12,11 @@ use Rattle.rmt_chip.specs.Types.{Config, Stage}
 use Rattle.rmt_chip.specs.declared.packet_slot.PacketSlot.{PacketSlot}
 use Rattle.rmt_chip.specs.Pending.{HaveRoomFor}
 use Rattle.rmt_chip.specs.Ring.{ring_at}
-use Rattle.rmt_chip.specs.StageMemories.{AllSlotsFormed, MemoriesOf}
+use Rattle.rmt_memory.specs.StageMemories.{AllSlotsFormed, MemoriesOf}
 use Rattle.rmt_config.specs.ChipRun.{latency_of}
 use Rattle.rmt_chip.proofs.FormedRuns.{runnable}
 use Rattle.rmt_chip.proofs.RingLaws.{ring_at-lt}
-use Rattle.rmt_chip.proofs.StageSlots.{slots_formed}
+use Rattle.rmt_memory.proofs.StageSlots.{slots_formed}
 use Rattle.rmt_chip.proofs.chip.Chip.open.Goals as goal
 
 -- nothing has entered

@@ -3,13 +3,13 @@ use Rattle.std.specs.Prelude.{is_some}
 use Rattle.std.proofs.lemmas.List.{with_items_is}
 use Rattle.std.proofs.Common.{Vec, Global}
 use Rattle.rmt_chip.specs.declared.packet_slot.PacketSlot.{PacketSlot}
-use Rattle.rmt_chip.specs.declared.memory.SlotMemory.{SlotMemory}
+use Rattle.rmt_memory.specs.declared.memory.SlotMemory.{SlotMemory}
 use Rattle.rmt_chip.specs.declared.moment.Moment.{Moment}
 use Rattle.rmt_config.specs.ChipRun.{latency_of}
 use Rattle.rmt_chip.specs.FrameList.{frames_of}
 use Rattle.rmt_chip.specs.Pending.{HaveRoomFor}
 use Rattle.rmt_chip.specs.Ring.{ring_after}
-use Rattle.rmt_chip.specs.StageMemories.{MemoriesOf}
+use Rattle.rmt_memory.specs.StageMemories.{MemoriesOf}
 use Rattle.rmt_chip.proofs.FormedRuns.{runnable}
 use Rattle.rmt_chip.proofs.StandsLaws.{CycleGives, turn_right, no_limit}
 use Rattle.rmt_chip.proofs.chip.Chip.turn.Goals as goal

@@ -8,7 +8,7 @@ use Rattle.rmt_packets.specs.declared.line_kind.LineKind.{LineKind}
 use Rattle.rmt_packets.specs.declared.line_kind.LineKind.TheVariants as line
 use Rattle.rmt_packets.specs.LineKinds.{kind_of}
 use Rattle.rmt_packets.specs.PacketText.{packet_of}
-use Rattle.rmt_update.specs.Running.{line_change}
+use Rattle.rmt_lists.specs.Running.{line_change}
 use Rattle.rmt_drive.specs.declared.plain_run.PlainRun.{PlainRun}
 use Rattle.rmt_drive.specs.EventText.{EventReading, with_change, with_line, with_packet}
 use Rattle.rmt_drive.specs.PlainRunning.{Goes, Leaves}

@@ -1,7 +1,7 @@
 -- The change is made, or its line has a code.
 use Rattle.std.proofs.Common.{◌≡◌, ℕ, Result, Err, refl, ap}
-use Rattle.rmt_update.specs.Running.{Running, line_change}
-use Rattle.rmt_update.specs.Stands.{Stands}
+use Rattle.rmt_lists.specs.Running.{Running, line_change}
+use Rattle.rmt_lists.specs.Stands.{Stands}
 use Rattle.rmt_drive.specs.EventText.{with_change}
 use Rattle.rmt_drive.proofs.FaultLaws.{of_refusal}
 use Rattle.rmt_drive.proofs.PlainRunLaws.{goes_changed, goes_still}

@@ -2,7 +2,7 @@
 use Rattle.std.proofs.Common.{refl, ◌∙◌}
 use Rattle.rmt_ast.specs.Changes.{at_first}
 use Rattle.rmt_ast.specs.Events.{lists_from, met_from}
-use Rattle.rmt_update.specs.Running.{commit_of}
+use Rattle.rmt_lists.specs.Running.{commit_of}
 use Rattle.rmt_drive.specs.PlainRunning.{committed_by}
 use Rattle.rmt_drive.proofs.PlainRunLaws.{goes_commit}
 use Rattle.rmt_drive.proofs.plain_run.line.take_commit.Goals as goal

@@ -11,7 +11,7 @@ use Rattle.rmt_config.specs.declared.config.Config.{Config}
 use Rattle.rmt_config.specs.RunInputs.{Input, Writes}
 use Rattle.rmt_chip.specs.Inputs.{packets_of}
 use Rattle.rmt_chip.specs.Stands.{entered_of, spare_of}
-use Rattle.rmt_chip.specs.Writable.{IsTaken}
+use Rattle.rmt_memory.specs.Writable.{IsTaken}
 use Rattle.rmt_drive.specs.ChipText.{lines_of}
 use Rattle.rmt_runs.specs.Cuts.{Cut}
 use Rattle.rmt_drive.specs.ChipCycles.{Goes}

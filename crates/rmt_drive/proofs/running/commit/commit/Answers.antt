@@ -4,9 +4,9 @@ use Rattle.std.specs.Prelude.{All}
 use Rattle.rmt_config.specs.declared.cell_write.CellWrite.{CellWrite}
 use Rattle.rmt_config.specs.declared.config.Config.{Config}
 use Rattle.rmt_config.specs.Commits.{RunState}
-use Rattle.rmt_chip.specs.Writable.{IsTaken}
-use Rattle.rmt_update.specs.declared.fault.UpdateFault.{UpdateFault}
-use Rattle.rmt_update.specs.declared.fault.UpdateFault.TheVariants.{LoadFull}
+use Rattle.rmt_memory.specs.Writable.{IsTaken}
+use Rattle.rmt_lists.specs.declared.fault.UpdateFault.{UpdateFault}
+use Rattle.rmt_lists.specs.declared.fault.UpdateFault.TheVariants.{LoadFull}
 use Rattle.rmt_drive.specs.ChipEvents.{IsRefused, commit_cycles, names_in}
 use Rattle.rmt_drive.specs.EventText.{EventReading}
 use Rattle.rmt_drive.specs.ChipCycles.{Goes}

@@ -9,8 +9,8 @@ use Rattle.rmt_ast.specs.NameRules.{AreEntriesOf}
 use Rattle.rmt_config.specs.NamesForm.{entries_spelled}
 use Rattle.rmt_config.specs.RunCells.{own_cells}
 use Rattle.rmt_update.specs.BookStands.{BookStands}
-use Rattle.rmt_update.specs.Running.{fresh}
-use Rattle.rmt_update.specs.Stands.{Stands}
+use Rattle.rmt_lists.specs.Running.{fresh}
+use Rattle.rmt_lists.specs.Stands.{Stands}
 use Rattle.rmt_update.proofs.SpelledEntries.{spelled_entries}
 use Rattle.rmt_drive.specs.ChipEvents.{lists_in, names_in}
 use Rattle.rmt_drive.specs.EventText.{most_additions}

@@ -1,7 +1,7 @@
 -- The change is made, or its line has a code.
 use Rattle.std.proofs.Common.{◌≡◌, ℕ, Option, Result, Err, refl, ap, subst, ◌∙◌}
-use Rattle.rmt_update.specs.Running.{Running, line_change}
-use Rattle.rmt_update.specs.Stands.{Stands}
+use Rattle.rmt_lists.specs.Running.{Running, line_change}
+use Rattle.rmt_lists.specs.Stands.{Stands}
 use Rattle.rmt_drive.specs.declared.running.commits.Commits.{Commits}
 use Rattle.rmt_drive.specs.EventText.{with_change}
 use Rattle.rmt_drive.specs.Running.{Follows}

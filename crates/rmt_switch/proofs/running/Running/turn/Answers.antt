@@ -1,12 +1,8 @@
-use Rattle.std.proofs.Common.{◌≡◌, ◌+◌, ◌-◌, ◌++◌, ◌%◌, ◌∙◌, [], List, ℕ, Bool, cond, true, false, eqb, ap, sym, subst, arith}
-use Rattle.std.proofs.lemmas.Bool.{eq-eqb, ne_eqb}
-use Rattle.std.proofs.lemmas.List.{append-nil, length-append}
+use Rattle.std.proofs.Common.{◌≡◌, ◌+◌, ◌-◌, ◌++◌, ◌∙◌, List, ℕ, ap, sym, subst, arith}
+use Rattle.std.proofs.lemmas.List.{length-append}
 use Rattle.rmt_config.specs.ChipRun.{latency_of}
 use Rattle.rmt_chip.specs.declared.chip.Chip.{Chip}
-use Rattle.rmt_queues.specs.Calls.{Call}
 use Rattle.rmt_switch.specs.Clocked.{IsClocked}
-use Rattle.rmt_switch.specs.Copies.{round}
-use Rattle.rmt_switch.specs.Ports.{Holds}
 use Rattle.rmt_switch.specs.Running.{CanBeOffered, first_calls, offer_left}
 use Rattle.rmt_switch.specs.Switch.{packets_in, switch_of, time_of}
 use Rattle.rmt_switch.proofs.RunLaws.{calls_few, can_be_offered, goes_on, left_few}
@@ -40,8 +36,8 @@ leave-requires-clause-holds c =
     let cycle = c.requires.few in
     (c.args.capture.now, first_calls s c.args.file.now c.args.capture.now c.args.cycle, g.holds, omega (arith, few, cycle))
 
-pub round-requires-clause-holds : goal.round-requires-clause-holds
-round-requires-clause-holds c =
+pub round_after-requires-clause-holds : goal.round_after-requires-clause-holds
+round_after-requires-clause-holds c =
     let (k, runs, g, lt) = c.requires.goes in
     let s = switch_of k c.args.groups.now c.args.every in
     let calls = first_calls s c.args.file.now c.args.capture.now c.args.cycle in
@@ -52,8 +48,8 @@ round-requires-clause-holds c =
     let both = length-append calls offers in
     (calls ++ offers, c.in_ok-leave.ensures.holds c.args.capture.now calls g.holds, omega (arith, few, cycle, one, both))
 
-pub returns-in_ok-round : goal.returns-in_ok-round
-returns-in_ok-round c = λ k runs g lt.
+pub returns : goal.returns
+returns c = λ k runs g lt.
     let file = c.args.file.now in
     let capture = c.args.capture.now in
     let cycle = c.args.cycle in
@@ -66,28 +62,6 @@ returns-in_ok-round c = λ k runs g lt.
     let time : c.time_of.result.now ≡ time_of capture (cycle - latency_of k.stages) = c.time_of.ensures ∙ ap (time_of capture) number in
     let calls = first_calls s file capture cycle in
     let offers = offer_left groups c.time_of.result.now c.clock-left.result c.clock-left.new.out in
-    let due : eqb ((cycle + 1) % c.args.every) 0 ≡ true = eq-eqb ((cycle + 1) % c.args.every) 0 (ap (λ (n : ℕ). (cycle + 1) % n) (sym c.from-2.ensures) ∙ c.if-cycle-from-eq0.true) in
-    let took = c.in_ok-round.ensures (calls ++ offers) (c.in_ok-leave.ensures.holds capture calls g.holds) in
     goes_on s file capture cycle c.args.self.now _ c.clock-left.result c.clock-left.new.out c.time_of.result.now g now.1 time
     (subst (λ (chip : Chip). IsClocked k packets (cycle + 1) chip) (sym c.leave.ensures.chip) now.0) c.leave.ensures.dropped
-    (subst (λ (b : Bool). Holds capture ((calls ++ offers) ++ cond b (round 512) []) c.round.new.self) (sym due) took)
-
-pub returns-else-cycle-from-eq0 : goal.returns-else-cycle-from-eq0
-returns-else-cycle-from-eq0 c = λ k runs g lt.
-    let file = c.args.file.now in
-    let capture = c.args.capture.now in
-    let cycle = c.args.cycle in
-    let groups = c.args.groups.now in
-    let s = switch_of k groups c.args.every in
-    let packets = packets_in file capture in
-    let now = c.clock-left.ensures k packets cycle g.clocked lt c.frame_at-frame.ensures.input in
-    let age = c.from.ensures ∙ c.latency.ensures k packets (cycle + 1) now.0 in
-    let number = c.saturating_sub-number.ensures ∙ ap (λ (n : ℕ). cycle - n) age in
-    let time : c.time_of.result.now ≡ time_of capture (cycle - latency_of k.stages) = c.time_of.ensures ∙ ap (time_of capture) number in
-    let calls = first_calls s file capture cycle in
-    let offers = offer_left groups c.time_of.result.now c.clock-left.result c.clock-left.new.out in
-    let due : eqb ((cycle + 1) % c.args.every) 0 ≡ false = ne_eqb ((cycle + 1) % c.args.every) 0 (λ e. c.if-cycle-from-eq0.false (ap (λ (n : ℕ). (cycle + 1) % n) c.from-2.ensures ∙ e)) in
-    let held = subst (λ (cs : List Call). Holds capture cs c.leave.new.self.ports) (sym (append-nil (calls ++ offers))) (c.in_ok-leave.ensures.holds capture calls g.holds) in
-    goes_on s file capture cycle c.args.self.now _ c.clock-left.result c.clock-left.new.out c.time_of.result.now g now.1 time
-    (subst (λ (chip : Chip). IsClocked k packets (cycle + 1) chip) (sym c.leave.ensures.chip) now.0) c.leave.ensures.dropped
-    (subst (λ (b : Bool). Holds capture ((calls ++ offers) ++ cond b (round 512) []) c.leave.new.self.ports) (sym due) held)
+    (c.in_ok-round_after.ensures (calls ++ offers) (c.in_ok-leave.ensures.holds capture calls g.holds))

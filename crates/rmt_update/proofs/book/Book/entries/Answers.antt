@@ -3,8 +3,8 @@ use Rattle.std.specs.Prelude.{All}
 use Rattle.std.specs.List.{range_with_len}
 use Rattle.std.proofs.lemmas.List.FromFn.{map-range_with_len_more}
 use Rattle.rmt_ast.specs.declared.entry.Entry.{Entry}
-use Rattle.rmt_update.specs.declared.book.table.TableCells.{TableCells}
-use Rattle.rmt_update.specs.Seen.{IsReadable, entries_at}
+use Rattle.rmt_book.specs.declared.table.TableCells.{TableCells}
+use Rattle.rmt_book.specs.Seen.{IsReadable, entries_at}
 use Rattle.rmt_update.proofs.book.Book.entries.Goals as goal
 
 pub entries_at-requires : goal.entries_at-requires

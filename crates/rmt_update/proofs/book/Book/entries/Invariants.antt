@@ -1,6 +1,6 @@
 use Rattle.std.proofs.Common.{◌≡◌, map}
 use Rattle.std.specs.List.{range_with_len}
-use Rattle.rmt_update.specs.Seen.{entries_at}
+use Rattle.rmt_book.specs.Seen.{entries_at}
 use Rattle.rmt_update.proofs.book.Book.entries.Given as goal
 
 -- the lists of the nodes so far

@@ -10,16 +10,16 @@ use Rattle.std.specs.Global.{Global}
 use Rattle.std.specs.List.{AllZip}
 use Rattle.rmt_ast.specs.declared.entry.Entry.{Entry}
 use Rattle.rmt_ast.specs.NameRules.{AreEntriesOf}
-use Rattle.rmt_update.specs.declared.book.spots.Spot.{Spot}
-use Rattle.rmt_update.specs.declared.book.table.PartCells.{PartCells}
+use Rattle.rmt_book.specs.declared.spots.Spot.{Spot}
+use Rattle.rmt_book.specs.declared.table.PartCells.{PartCells}
 use Rattle.rmt_update.specs.Differences.{AreDifferences, CanChange, Goal, IsGoal, all_pairs}
-use Rattle.rmt_update.specs.declared.book.table.TableCells.{TableCells}
+use Rattle.rmt_book.specs.declared.table.TableCells.{TableCells}
 use Rattle.rmt_update.specs.After.{left_of, with_come}
 use Rattle.std.proofs.lemmas.Slice.Zip.{AllZip-long}
 use Rattle.rmt_update.specs.Loads.{AreTables, IsLoaded, IsNotLoaded}
 use Rattle.rmt_update.specs.Refill.{IsMoved, SamePart, TableFits}
 use Rattle.rmt_update.specs.Planned.{IsUnplanned, MayChange, changed_lists}
-use Rattle.rmt_update.specs.Seen.{HaveNumbers}
+use Rattle.rmt_book.specs.Seen.{HaveNumbers}
 use Rattle.rmt_update.proofs.AfterLaws.{after-have}
 use Rattle.rmt_update.proofs.LoadSteps.{after-few, can-change, planned, tables-are, tables-fit, unplanned}
 use Rattle.rmt_update.proofs.book.Book.load.Goals as goal

@@ -4,7 +4,7 @@ use Rattle.std.proofs.lemmas.Option.{same_Some}
 use Rattle.rmt_ast.specs.declared.names.Names.{Names}
 use Rattle.rmt_config.specs.NamesForm.{entries_spelled}
 use Rattle.rmt_config.specs.RunCells.{own_cells}
-use Rattle.rmt_update.specs.Listed.{IsTable}
+use Rattle.rmt_book.specs.Listed.{IsTable}
 use Rattle.rmt_update.proofs.BookLaws.{stands-at-first}
 use Rattle.rmt_update.proofs.book.Book.new.Goals as goal
 

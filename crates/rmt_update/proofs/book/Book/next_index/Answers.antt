@@ -6,7 +6,7 @@ use Rattle.std.specs.Ordering.{nat_cmp}
 use Rattle.std.specs.Vec.{with_items}
 use Rattle.std.proofs.lemmas.List.{with_items_is}
 use Rattle.rmt_update.specs.declared.book.placing.Coming.{Coming}
-use Rattle.rmt_update.specs.declared.book.table.TableCells.{TableCells}
+use Rattle.rmt_book.specs.declared.table.TableCells.{TableCells}
 use Rattle.rmt_update.specs.NextIndex.{AreAllFreed, AreSeenSpots, HasFewRows, IsRenewed, spot_behind}
 use Rattle.rmt_update.specs.Turning.{IsSpotIn}
 use Rattle.rmt_update.proofs.NextIndexLaws.{few-rows, index-stands, left-there, recent-there}

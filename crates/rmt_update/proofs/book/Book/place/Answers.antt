@@ -2,11 +2,11 @@ use Rattle.std.proofs.Common.{◌+◌, List, [], Some, length, refl, sym, ap, �
 use Rattle.std.specs.Prelude.{All}
 use Rattle.std.specs.List.{AllZip}
 use Rattle.std.proofs.lemmas.Option.{slice_get-get_or, slice_get_within}
-use Rattle.rmt_update.specs.declared.book.table.TableCells.{TableCells}
+use Rattle.rmt_book.specs.declared.table.TableCells.{TableCells}
 use Rattle.rmt_update.specs.BookIndex.{AreApart, FindsCells}
 use Rattle.rmt_update.specs.Come.{AreOrdered, HaveCome, IsRunOf, MayHaveCome, Run, come_to}
 use Rattle.rmt_update.specs.RowIndex.{IsIndex, never}
-use Rattle.rmt_update.specs.Running.{is_among}
+use Rattle.rmt_lists.specs.Running.{is_among}
 use Rattle.rmt_update.proofs.ApartLaws.{apart}
 use Rattle.rmt_update.proofs.ComeCount.{few-placed}
 use Rattle.rmt_update.proofs.PlacedIndex.{PlacedSoFar, finds-same, so-far-all, so-far-next, so-far-none}

@@ -10,7 +10,7 @@ use Rattle.rmt_update.specs.ComeIndex.{HasPlaced}
 use Rattle.rmt_update.specs.Placing.{ArePlaced, IsPlacing}
 use Rattle.rmt_update.specs.Planned.{changed_lists}
 use Rattle.rmt_update.specs.Recent.{recent}
-use Rattle.rmt_update.proofs.ResultLaws.{on_err}
+use Rattle.rmt_lists.proofs.ResultLaws.{on_err}
 use Rattle.rmt_update.proofs.TakenLaws.{taken-index, taken-stands}
 use Rattle.rmt_update.proofs.book.Book.plan.Goals as goal
 

@@ -2,19 +2,28 @@ use Rattle.std.proofs.Common.{ℕ, ◌<◌, List, refl, sym, subst}
 use Rattle.std.specs.Prelude.{All, AllPairs}
 use Rattle.std.proofs.lemmas.List.Elements.{All-weaker}
 use Rattle.rmt_update.specs.declared.book.placing.Coming.{Coming}
-use Rattle.rmt_update.specs.declared.book.table.TableCells.{TableCells}
+use Rattle.rmt_book.specs.declared.table.TableCells.{TableCells}
+use Rattle.rmt_book.specs.BookSpots.{kept_at}
 use Rattle.rmt_update.specs.Come.{AreOrdered}
 use Rattle.rmt_update.specs.Differences.{changes_in}
-use Rattle.rmt_update.specs.TurnWrites.{AreSmall, HaveOwnSlots, IsFresh}
-use Rattle.rmt_update.specs.Turning.{IsSpotIn}
+use Rattle.rmt_update.specs.TurnWrites.{AreChanged, AreSmall, HaveOwnSlots, IsFresh}
+use Rattle.rmt_update.specs.Turning.{IsSpotIn, come_to, left_kept}
 use Rattle.rmt_update.proofs.BookNext.{book-next}
 use Rattle.rmt_update.proofs.ChangesLaws.{changes-ordered}
-use Rattle.rmt_update.proofs.ResultLaws.{on_err}
+use Rattle.rmt_lists.proofs.ResultLaws.{on_err}
 use Rattle.rmt_update.proofs.FewLaws.{few-change}
 use Rattle.rmt_update.proofs.RecentLaws.{recent-few}
 use Rattle.rmt_update.proofs.SameTables.{stands-same}
 use Rattle.rmt_update.proofs.SettleFacts.{are-fresh, are-small, changed-from, own-slots, settled-next, settled-sizes, settled-writes}
 use Rattle.rmt_update.proofs.book.Book.settle.Goals as goal
+use Rattle.rmt_update.proofs.book.Book.settle.Goals.{In_ok-cells}
+
+-- what changes of the book's own tables
+changed : (c : In_ok-cells) → AreChanged c.args.self.now.tables.items (λ s. come_to c.args.come s (left_kept c.args.self.now.odd c.args.changes.now.gone (kept_at c.args.self.now.tables.items s))) (changes_in c.in_ok-cells.cells.items)
+changed c =
+    let b = c.args.self.now in
+    changed-from b.odd b.tables.items c.as_slice-tables.result.now c.args.changes.now.gone c.as_slice-gone.result.now c.args.come c.as_slice.result.now (changes_in c.in_ok-cells.cells.items) c.as_slice-tables.ensures.value c.as_slice-gone.ensures
+    c.as_slice.ensures c.in_ok-cells.ensures
 
 pub changes_at-requires-clause-small : goal.changes_at-requires-clause-small
 changes_at-requires-clause-small c =
@@ -42,33 +51,27 @@ make_changes-requires-clause-there c =
     All-weaker (IsFresh ts) (λ (x : Coming). IsSpotIn ts x.spot) (λ x fresh. fresh.there) c.args.come (are-fresh r.0 r.1 r.2 r.3 c.args.changes.now c.args.self.now c.args.come r.4 r.5 r.6 r.7)
 
 pub make_changes-requires-clause-spots : goal.make_changes-requires-clause-spots
-make_changes-requires-clause-spots c =
-    let b = c.args.self.now in
-    (changed-from b.odd b.tables.items c.as_slice-tables.result.now c.args.changes.now.gone c.as_slice-gone.result.now c.args.come c.as_slice.result.now (changes_in c.in_ok-cells.cells.items) c.as_slice-tables.ensures.value c.as_slice-gone.ensures
-    c.as_slice.ensures c.in_ok-cells.ensures).spots
+make_changes-requires-clause-spots c = (changed (goal.at.make_changes-requires-clause-spots c).In_ok-cells).spots
 
 pub returns-clause-writes : goal.returns-clause-writes
 returns-clause-writes c = λ config names cells lists stands named may placed.
     let b = c.args.self.now in
-    let changed = changed-from b.odd b.tables.items c.as_slice-tables.result.now c.args.changes.now.gone c.as_slice-gone.result.now c.args.come c.as_slice.result.now (changes_in c.in_ok-cells.cells.items) c.as_slice-tables.ensures.value c.as_slice-gone.ensures
-    c.as_slice.ensures c.in_ok-cells.ensures in
-    settled-writes config names cells lists c.args.changes.now b c.args.come stands named may placed (changes_in c.in_ok-cells.cells.items) (changes-ordered c.in_ok-cells.cells.items) changed c.make_changes.new.tables.items c.in_ok-writes.ensures.made
+    let own = changed (goal.at.returns-clause-writes c).In_ok-cells in
+    settled-writes config names cells lists c.args.changes.now b c.args.come stands named may placed (changes_in c.in_ok-cells.cells.items) (changes-ordered c.in_ok-cells.cells.items) own c.make_changes.new.tables.items c.in_ok-writes.ensures.made
     (subst (All AreOrdered) c.as_slice-tables.ensures.value c.all_ordered.ensures) c.in_ok-writes.writes.items c.in_ok-writes.ensures.writes
 
 pub returns-clause-sizes : goal.returns-clause-sizes
 returns-clause-sizes c = λ config names cells lists stands named may placed.
     let b = c.args.self.now in
-    let changed = changed-from b.odd b.tables.items c.as_slice-tables.result.now c.args.changes.now.gone c.as_slice-gone.result.now c.args.come c.as_slice.result.now (changes_in c.in_ok-cells.cells.items) c.as_slice-tables.ensures.value c.as_slice-gone.ensures
-    c.as_slice.ensures c.in_ok-cells.ensures in
-    settled-sizes config names cells lists c.args.changes.now b c.args.come stands named may placed (changes_in c.in_ok-cells.cells.items) (changes-ordered c.in_ok-cells.cells.items) changed c.make_changes.new.tables.items c.in_ok-writes.ensures.made
+    let own = changed (goal.at.returns-clause-sizes c).In_ok-cells in
+    settled-sizes config names cells lists c.args.changes.now b c.args.come stands named may placed (changes_in c.in_ok-cells.cells.items) (changes-ordered c.in_ok-cells.cells.items) own c.make_changes.new.tables.items c.in_ok-writes.ensures.made
     (subst (All AreOrdered) c.as_slice-tables.ensures.value c.all_ordered.ensures) c.in_ok-writes.writes.items c.in_ok-writes.ensures.writes
 
 pub returns-clause-stands : goal.returns-clause-stands
 returns-clause-stands c = λ config names cells lists stands named may placed.
     let b = c.args.self.now in
-    let changed = changed-from b.odd b.tables.items c.as_slice-tables.result.now c.args.changes.now.gone c.as_slice-gone.result.now c.args.come c.as_slice.result.now (changes_in c.in_ok-cells.cells.items) c.as_slice-tables.ensures.value c.as_slice-gone.ensures
-    c.as_slice.ensures c.in_ok-cells.ensures in
-    let next = settled-next config names cells lists c.args.changes.now b c.args.come stands named may placed (changes_in c.in_ok-cells.cells.items) (changes-ordered c.in_ok-cells.cells.items) changed c.make_changes.new.tables.items c.in_ok-writes.ensures.made
+    let own = changed (goal.at.returns-clause-stands c).In_ok-cells in
+    let next = settled-next config names cells lists c.args.changes.now b c.args.come stands named may placed (changes_in c.in_ok-cells.cells.items) (changes-ordered c.in_ok-cells.cells.items) own c.make_changes.new.tables.items c.in_ok-writes.ensures.made
     (subst (All AreOrdered) c.as_slice-tables.ensures.value c.all_ordered.ensures) in
     book-next config names cells lists c.args.changes.now b _ c.args.come stands named may placed next refl refl refl (c.in_ok-next.ensures c.make_changes.new.tables.items next)
 
@@ -76,20 +79,18 @@ pub returns-clause-few : goal.returns-clause-few
 returns-clause-few c =
     let r = c.requires.may in
     let b = c.args.self.now in
-    let changed = changed-from b.odd b.tables.items c.as_slice-tables.result.now c.args.changes.now.gone c.as_slice-gone.result.now c.args.come c.as_slice.result.now (changes_in c.in_ok-cells.cells.items) c.as_slice-tables.ensures.value c.as_slice-gone.ensures
-    c.as_slice.ensures c.in_ok-cells.ensures in
+    let own = changed (goal.at.returns-clause-few c).In_ok-cells in
     few-change r.0 r.1 r.2 r.3 c.args.changes.now b c.args.come r.4 r.5 r.6 r.7 c.in_ok-writes.writes.items
-    (settled-writes r.0 r.1 r.2 r.3 c.args.changes.now b c.args.come r.4 r.5 r.6 r.7 (changes_in c.in_ok-cells.cells.items) (changes-ordered c.in_ok-cells.cells.items) changed c.make_changes.new.tables.items c.in_ok-writes.ensures.made
+    (settled-writes r.0 r.1 r.2 r.3 c.args.changes.now b c.args.come r.4 r.5 r.6 r.7 (changes_in c.in_ok-cells.cells.items) (changes-ordered c.in_ok-cells.cells.items) own c.make_changes.new.tables.items c.in_ok-writes.ensures.made
     (subst (All AreOrdered) c.as_slice-tables.ensures.value c.all_ordered.ensures) c.in_ok-writes.writes.items c.in_ok-writes.ensures.writes)
 
 pub returns-clause-recent : goal.returns-clause-recent
 returns-clause-recent c =
     let r = c.requires.may in
     let b = c.args.self.now in
-    let changed = changed-from b.odd b.tables.items c.as_slice-tables.result.now c.args.changes.now.gone c.as_slice-gone.result.now c.args.come c.as_slice.result.now (changes_in c.in_ok-cells.cells.items) c.as_slice-tables.ensures.value c.as_slice-gone.ensures
-    c.as_slice.ensures c.in_ok-cells.ensures in
+    let own = changed (goal.at.returns-clause-recent c).In_ok-cells in
     recent-few r.0 r.1 r.2 r.3 c.args.changes.now b c.args.come r.4 r.5 r.6 r.7 c.make_changes.new.tables.items
-    (settled-next r.0 r.1 r.2 r.3 c.args.changes.now b c.args.come r.4 r.5 r.6 r.7 (changes_in c.in_ok-cells.cells.items) (changes-ordered c.in_ok-cells.cells.items) changed c.make_changes.new.tables.items c.in_ok-writes.ensures.made
+    (settled-next r.0 r.1 r.2 r.3 c.args.changes.now b c.args.come r.4 r.5 r.6 r.7 (changes_in c.in_ok-cells.cells.items) (changes-ordered c.in_ok-cells.cells.items) own c.make_changes.new.tables.items c.in_ok-writes.ensures.made
     (subst (All AreOrdered) c.as_slice-tables.ensures.value c.all_ordered.ensures))
 
 pub returns-in_err-writes-clause-kept : goal.returns-in_err-writes-clause-kept

@@ -7,7 +7,7 @@ use Rattle.rmt_ast.specs.declared.entry.Entry.{Entry}
 use Rattle.rmt_config.specs.NamesForm.{by_number}
 use Rattle.rmt_update.specs.After.{AreOrders}
 use Rattle.rmt_update.proofs.AfterLaws.{in-order-more}
-use Rattle.rmt_update.proofs.OrderedLaws.{map-same}
+use Rattle.rmt_book.proofs.OrderedLaws.{map-same}
 use Rattle.rmt_update.proofs.book.after.in_order_all.Goals as goal
 
 pub loop-ordered-preserved : goal.loop-ordered-preserved

@@ -3,10 +3,10 @@ use Rattle.std.proofs.lemmas.Iterator.Adapters.{YieldsList-from_vec}
 use Rattle.std.proofs.lemmas.Iterator.Consumers.{YieldsList-end}
 use Rattle.rmt_ast.specs.declared.entry.Entry.{Entry}
 use Rattle.rmt_update.specs.After.{without_gone}
-use Rattle.rmt_update.specs.Numbered.{IsOrder}
-use Rattle.rmt_update.specs.Seen.{HaveNumbers}
+use Rattle.rmt_book.specs.Numbered.{IsOrder}
+use Rattle.rmt_book.specs.Seen.{HaveNumbers}
 use Rattle.rmt_update.proofs.AfterLaws.{left-more, left-same}
-use Rattle.rmt_update.proofs.OrderedLaws.{map-same}
+use Rattle.rmt_book.proofs.OrderedLaws.{map-same}
 use Rattle.rmt_update.proofs.book.after.left_in.Goals as goal
 
 pub returns : goal.returns

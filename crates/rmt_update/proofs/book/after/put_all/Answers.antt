@@ -4,8 +4,8 @@ use Rattle.std.proofs.lemmas.List.{length-set, take_all, take_more}
 use Rattle.rmt_bits.proofs.ListLaws.{slice_get-seen}
 use Rattle.rmt_ast.specs.declared.entry.Entry.{Entry}
 use Rattle.rmt_update.specs.After.{AreOrders, with_come}
-use Rattle.rmt_update.specs.Numbered.{IsNew, IsOrder}
-use Rattle.rmt_update.specs.Seen.{HaveNumbers}
+use Rattle.rmt_book.specs.Numbered.{IsNew, IsOrder}
+use Rattle.rmt_book.specs.Seen.{HaveNumbers}
 use Rattle.rmt_update.proofs.AfterLaws.{come-front, come-more}
 use Rattle.rmt_update.proofs.book.after.put_all.Goals as goal
 

@@ -1,7 +1,7 @@
 use Rattle.std.proofs.Common.{◌≡◌, ℕ, ◌<◌, List, length, take}
 use Rattle.rmt_ast.specs.declared.entry.Entry.{Entry}
 use Rattle.rmt_update.specs.After.{AreOrders, with_come}
-use Rattle.rmt_update.specs.Seen.{HaveNumbers}
+use Rattle.rmt_book.specs.Seen.{HaveNumbers}
 use Rattle.rmt_update.proofs.book.after.put_all.Given as goal
 
 -- the entries so far are put

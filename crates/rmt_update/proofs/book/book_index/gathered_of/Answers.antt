@@ -2,8 +2,8 @@ use Rattle.std.proofs.Common.{◌≡◌, ◌+◌, ◌++◌, List, Some, refl, sy
 use Rattle.std.specs.Prelude.{slice_get}
 use Rattle.std.proofs.lemmas.List.{take_all}
 use Rattle.rmt_bits.proofs.ListLaws.{slice_get-seen}
-use Rattle.rmt_update.specs.declared.book.table.PartCells.{PartCells}
-use Rattle.rmt_update.specs.declared.book.table.TableCells.{TableCells}
+use Rattle.rmt_book.specs.declared.table.PartCells.{PartCells}
+use Rattle.rmt_book.specs.declared.table.TableCells.{TableCells}
 use Rattle.rmt_update.specs.IndexCells.{HasGathered, all_cells, table_cells}
 use Rattle.rmt_update.proofs.IndexCells.{cells-none, numbered-next}
 use Rattle.rmt_update.proofs.book.book_index.gathered_of.Goals as goal

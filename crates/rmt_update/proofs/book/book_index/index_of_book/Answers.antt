@@ -5,7 +5,7 @@ use Rattle.std.proofs.lemmas.Iterator.{items_from_drains}
 use Rattle.std.proofs.lemmas.Iterator.Adapters.{YieldsList-from_vec}
 use Rattle.rmt_update.specs.IndexCells.{found_in}
 use Rattle.rmt_update.proofs.IndexCells.{all-found}
-use Rattle.rmt_update.proofs.OrderedLaws.{map-same}
+use Rattle.rmt_book.proofs.OrderedLaws.{map-same}
 use Rattle.rmt_update.proofs.book.book_index.index_of_book.Goals as goal
 
 pub returns : goal.returns

@@ -2,10 +2,9 @@ use Rattle.std.proofs.Common.{◌≡◌, ◌++◌, ◌∷◌, [], Some, refl, sy
 use Rattle.std.specs.Prelude.{slice_get}
 use Rattle.std.specs.List.{AllZip}
 use Rattle.std.proofs.lemmas.List.{take_all}
-use Rattle.rmt_bits.proofs.ListLaws.{slice_get-seen, zip_push}
+use Rattle.rmt_bits.proofs.ListLaws.{slice_get-seen, take-slice_get, zip_push}
 use Rattle.rmt_update.specs.RowIndex.{IsIndex, never}
 use Rattle.rmt_update.proofs.GoingLaws.{own-rows}
-use Rattle.rmt_update.proofs.SliceLoops.{take-next}
 use Rattle.rmt_update.proofs.book.book_index.indexes_of.Goals as goal
 
 pub loop-table-init : goal.loop-table-init
@@ -22,7 +21,7 @@ loop-table-preserved c =
     let i = c.loop-table.table-index in
     let t = c.table-item.result in
     let at : slice_get ts i ≡ Some t = slice_get-seen ts ts i t refl c.loop-table-test.true c.table-item.is in
-    subst (λ us. AllZip (IsIndex c.args.odd never) us c.push.new.self.items) (sym (take-next ts i t at))
+    subst (λ us. AllZip (IsIndex c.args.odd never) us c.push.new.self.items) (sym (take-slice_get ts i t at))
     (subst (AllZip (IsIndex c.args.odd never) (take i ts ++ t ∷ [])) (sym c.in_ok-push.ensures.items)
     (zip_push (IsIndex c.args.odd never) (take i ts) c.loop-table.indexes.items t c.in_ok-index_of.field-0 c.loop-table.invariant c.in_ok-index_of.ensures))
 

@@ -1,6 +1,6 @@
 use Rattle.std.proofs.Common.{◌++◌, List}
-use Rattle.rmt_update.specs.declared.book.kept.Kept.{Kept}
-use Rattle.rmt_update.specs.declared.book.spot.BookSpot.{BookSpot}
+use Rattle.rmt_book.specs.declared.kept.Kept.{Kept}
+use Rattle.rmt_book.specs.declared.spot.BookSpot.{BookSpot}
 use Rattle.rmt_update.specs.IndexCells.{HasGathered}
 use Rattle.rmt_update.proofs.IndexCells.{cells_read}
 use Rattle.rmt_update.proofs.book.book_index.put_part.Given as goal

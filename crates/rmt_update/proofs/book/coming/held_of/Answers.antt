@@ -3,7 +3,7 @@ use Rattle.std.specs.Prelude.{All, IfOk}
 use Rattle.rmt_bits.specs.Bits.{number_of}
 use Rattle.rmt_config.specs.Rooms.{args_as_one}
 use Rattle.rmt_update.proofs.ComingLaws.{own-params, some-action}
-use Rattle.rmt_update.proofs.NamedLaws.{params-low}
+use Rattle.rmt_book.proofs.NamedLaws.{params-low}
 use Rattle.rmt_update.proofs.book.coming.held_of.Goals as goal
 
 pub args_bytes-requires-clause-narrow : goal.args_bytes-requires-clause-narrow

@@ -1,7 +1,7 @@
 use Rattle.std.proofs.Common.{ℕ, ◌≤◌, List, subst, sym}
 use Rattle.std.specs.Prelude.{All}
 use Rattle.rmt_update.proofs.ComingLaws.{mask-whole}
-use Rattle.rmt_update.proofs.NamedLaws.{keys-low}
+use Rattle.rmt_book.proofs.NamedLaws.{keys-low}
 use Rattle.rmt_update.proofs.book.coming.mask_of.Goals as goal
 
 pub tests_bytes-requires-clause-narrow : goal.tests_bytes-requires-clause-narrow

@@ -5,8 +5,8 @@ use Rattle.std.specs.List.{flat_map}
 use Rattle.std.proofs.lemmas.Slice.Zip.{AllZip-long}
 use Rattle.rmt_bits.proofs.AllLaws.{All-slice_get}
 use Rattle.rmt_bits.proofs.ListLaws.{AllZip-slice_get, slice_get-seen}
-use Rattle.rmt_update.specs.declared.book.table.PartCells.{PartCells}
-use Rattle.rmt_update.specs.declared.book.table.TableCells.{TableCells}
+use Rattle.rmt_book.specs.declared.table.PartCells.{PartCells}
+use Rattle.rmt_book.specs.declared.table.TableCells.{TableCells}
 use Rattle.rmt_update.specs.Differences.{AllPut, CanChange, changes_in, pairs_of}
 use Rattle.rmt_update.proofs.ChangesLaws.{changes-none, changes-ordered}
 use Rattle.rmt_update.proofs.PutChanges.{all-differences, put-none, table-put, take-past, zip-at, zip-short}

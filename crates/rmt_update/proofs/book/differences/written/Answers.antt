@@ -3,7 +3,7 @@ use Rattle.std.proofs.lemmas.Iterator.Adapters.{YieldsList-from_vec}
 use Rattle.std.proofs.lemmas.Iterator.Consumers.{YieldsList-end}
 use Rattle.rmt_update.specs.declared.book.changing.CellChange.{CellChange}
 use Rattle.rmt_update.specs.Changing.{ChangeKey}
-use Rattle.rmt_update.proofs.OrderedLaws.{map-same}
+use Rattle.rmt_book.proofs.OrderedLaws.{map-same}
 use Rattle.rmt_update.proofs.book.differences.written.Goals as goal
 
 pub returns : goal.returns

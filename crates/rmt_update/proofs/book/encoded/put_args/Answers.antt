@@ -1,8 +1,37 @@
-use Rattle.std.proofs.Common.{◌≡◌, ◌+◌, ◌-◌, ◌*◌, ◌^◌, ◌<◌, ◌≤◌, length, get_or, drop, ap, sym, subst, arith}
+use Rattle.std.proofs.Common.{◌≡◌, ℕ, List, ◌+◌, ◌-◌, ◌*◌, ◌^◌, ◌<◌, ◌≤◌, length, get_or, drop, ap, sym, subst, arith}
+use Rattle.std.specs.Prelude.{sum}
+use Rattle.std.proofs.lemmas.List.Elements.{AllZip-get_or, length_all_zip}
 use Rattle.rmt_bits.specs.Bits.{number_of}
+use Rattle.rmt_ast.specs.WellFormed.{Fits}
 use Rattle.rmt_config.specs.Rooms.{args_as_one}
 use Rattle.rmt_pack.proofs.BesideLaws.{args-step}
+use Rattle.rmt_pack.proofs.TcamLaws.{sum-drop}
 use Rattle.rmt_update.proofs.book.encoded.put_args.Goals as goal
+
+pub bounds-args-at : goal.bounds-args-at
+bounds-args-at c =
+    let same = length_all_zip Fits c.args.widths.now c.args.args.now c.requires.fit in
+    let lt = c.loop-at-test.true in
+    omega (arith, same, lt)
+
+-- there is room for an argument below those so far
+room-left : (ws : List ℕ) (at above : ℕ) → at < length ws → sum (drop at ws) ≤ above → get_or ws at 0 ≤ above
+room-left ws at above lt room = let parts = sum-drop ws at lt in omega (arith, parts, room)
+
+pub overflow_sub-above : goal.overflow_sub-above
+overflow_sub-above c = room-left c.args.widths.now c.loop-at.at c.loop-at.above c.loop-at-test.true c.loop-at.invariant.room
+
+pub bytes_of_bits-requires-clause-short : goal.bytes_of_bits-requires-clause-short
+bytes_of_bits-requires-clause-short c = c.requires.widths c.loop-at.at 0 c.loop-at-test.true
+
+pub bytes_of_bits-requires-clause-within : goal.bytes_of_bits-requires-clause-within
+bytes_of_bits-requires-clause-within c =
+    let room = room-left c.args.widths.now c.loop-at.at c.loop-at.above c.loop-at-test.true c.loop-at.invariant.room in
+    let within = c.loop-at.invariant.within in
+    omega (arith, room, within)
+
+pub bytes_of_bits-requires-clause-small : goal.bytes_of_bits-requires-clause-small
+bytes_of_bits-requires-clause-small c = AllZip-get_or Fits c.args.widths.now c.args.args.now c.loop-at.at 0 0 c.requires.fit c.loop-at-test.true
 
 pub loop-at-preserved : goal.loop-at-preserved
 loop-at-preserved c =

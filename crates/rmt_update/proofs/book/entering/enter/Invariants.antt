@@ -1,4 +1,4 @@
-use Rattle.rmt_update.specs.BookSpots.{kept_at}
+use Rattle.rmt_book.specs.BookSpots.{kept_at}
 use Rattle.rmt_update.specs.Turning.{HaveCells, LeadBack, come_to}
 use Rattle.rmt_update.proofs.book.entering.enter.Given as goal
 

@@ -1,7 +1,7 @@
 use Rattle.std.proofs.Common.{◌≡◌, ◌++◌, ◌∷◌, [], List, sym, ap, ◌∙◌, subst}
 use Rattle.rmt_update.specs.declared.book.turning.CellTurn.{CellTurn}
 use Rattle.rmt_update.specs.declared.book.turning.Turn.{Turn}
-use Rattle.rmt_update.specs.BookSpots.{kept_at}
+use Rattle.rmt_book.specs.BookSpots.{kept_at}
 use Rattle.rmt_update.specs.Turning.{IsSpotIn, LeadBack, TablesWith, turn_to, turned_by}
 use Rattle.rmt_update.proofs.EnteringLaws.{lead-more, lead-same, lead-undone, still-there}
 use Rattle.rmt_update.proofs.book.entering.enter_one.Goals as goal

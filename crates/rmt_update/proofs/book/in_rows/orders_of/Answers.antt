@@ -1,18 +1,30 @@
-use Rattle.std.proofs.Common.{◌≡◌, ℕ, ◌+◌, ◌<◌, ◌^◌, All, List, [], ◌∷◌, arith, get_or, length, sym, subst, take}
-use Rattle.std.proofs.lemmas.Grind.{common_steps}
-use Rattle.std.proofs.lemmas.List.{take_more}
-use Rattle.std.proofs.lemmas.List.Elements.{All-append, All-cons, All-nil}
+use Rattle.std.proofs.Common.{◌<◌, ◌^◌, All, ap, subst, ◌∙◌}
+use Rattle.std.proofs.lemmas.List.{take_all}
+use Rattle.std.proofs.lemmas.List.Elements.{All-more}
 use Rattle.rmt_ast.specs.declared.entry.Entry.{Entry}
+use Rattle.rmt_book.specs.Spots.{order_by}
+use Rattle.rmt_book.proofs.SliceLoops.{map-all, map-next}
 use Rattle.rmt_update.proofs.book.in_rows.orders_of.Goals as goal
 
--- what holds of all entries so far, and of the next one
-so_far : (P : Entry → Type 0) (es : List Entry) (i : ℕ) (item : Entry) → i < length es → item ≡ get_or es i item → All P (take i es) → P item → All P (take (i + 1) es)
-so_far P es i item within is before own =
-    subst (All P) (sym (take_more es i item within)) (All-append P (take i es) (get_or es i item ∷ []) before (All-cons P (get_or es i item) [] (subst P is own) (All-nil P)))
-
 pub loop-entry-preserved : goal.loop-entry-preserved
-loop-entry-preserved c = record {
-  orders = grind (arith, common_steps, c.loop-entry.invariant.orders, c.in_ok-push.ensures.items, c.order_of.ensures.order);
-  ranks = so_far (λ e. e.rank < 2 ^ 32) c.args.entries.now c.loop-entry.entry-index c.entry-item.result c.loop-entry-test.true c.entry-item.is c.loop-entry.invariant.ranks c.order_of.ensures.rank;
-  numbers = so_far (λ e. e.number < 2 ^ 32) c.args.entries.now c.loop-entry.entry-index c.entry-item.result c.loop-entry-test.true c.entry-item.is c.loop-entry.invariant.numbers c.order_of.ensures.number;
-}
+loop-entry-preserved c =
+    let es = c.args.entries.now in
+    let i = c.loop-entry.entry-index in
+    let e = c.entry-item.result in
+    let at = c.entry-item.is in
+    let lt = c.loop-entry-test.true in
+    let h = c.loop-entry.invariant in
+    record {
+      orders = map-next (order_by c.args.kind) es i e c.loop-entry.orders.items _ _ lt h.orders c.in_ok-push.ensures.items (c.order_of.ensures.order ∙ ap (order_by c.args.kind) at);
+      ranks = All-more (λ (x : Entry). x.rank < 2 ^ 32) es i e lt h.ranks (subst (λ (x : Entry). x.rank < 2 ^ 32) at c.order_of.ensures.rank);
+      numbers = All-more (λ (x : Entry). x.number < 2 ^ 32) es i e lt h.numbers (subst (λ (x : Entry). x.number < 2 ^ 32) at c.order_of.ensures.number);
+    }
+
+pub returns-clause-orders : goal.returns-clause-orders
+returns-clause-orders c = map-all (order_by c.args.kind) c.args.entries.now c.loop-entry.entry-index c.loop-entry.orders.items c.loop-entry.invariant.orders c.loop-entry-test.false
+
+pub returns-clause-ranks : goal.returns-clause-ranks
+returns-clause-ranks c = subst (All (λ (x : Entry). x.rank < 2 ^ 32)) (take_all c.loop-entry.entry-index c.args.entries.now c.loop-entry-test.false) c.loop-entry.invariant.ranks
+
+pub returns-clause-numbers : goal.returns-clause-numbers
+returns-clause-numbers c = subst (All (λ (x : Entry). x.number < 2 ^ 32)) (take_all c.loop-entry.entry-index c.args.entries.now c.loop-entry-test.false) c.loop-entry.invariant.numbers

@@ -1,6 +1,6 @@
 use Rattle.std.proofs.Common.{◌≡◌, ◌^◌, ◌<◌, All, map, take}
 use Rattle.rmt_ast.specs.declared.entry.Entry.{Entry}
-use Rattle.rmt_update.specs.Spots.{order_by}
+use Rattle.rmt_book.specs.Spots.{order_by}
 use Rattle.rmt_update.proofs.book.in_rows.orders_of.Given as goal
 
 abbrev pub invariant-loop-entry : goal.invariant-loop-entry

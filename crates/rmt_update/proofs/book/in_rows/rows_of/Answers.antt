@@ -3,7 +3,7 @@ use Rattle.std.specs.Prelude.{count_by, nat_lt}
 use Rattle.std.specs.List.Sorted.{IsNonDecreasingBy, IsPermutation}
 use Rattle.std.proofs.lemmas.List.{length-map}
 use Rattle.std.proofs.lemmas.List.Sorted.{length_permutation}
-use Rattle.rmt_update.specs.Spots.{order_by}
+use Rattle.rmt_book.specs.Spots.{order_by}
 use Rattle.rmt_update.proofs.FirstLaws.{rows-are}
 use Rattle.rmt_update.proofs.book.in_rows.rows_of.Goals as goal
 

@@ -5,12 +5,12 @@ use Rattle.std.specs.Ordering.{nat_cmp}
 use Rattle.std.proofs.lemmas.List.{take_all}
 use Rattle.std.proofs.lemmas.List.FromFn.{length-map-range_with_len}
 use Rattle.rmt_bits.proofs.ListLaws.{slice_get-seen}
-use Rattle.rmt_update.specs.declared.book.kept.Kept.{Kept}
-use Rattle.rmt_update.specs.declared.book.table.PartCells.{PartCells}
-use Rattle.rmt_update.specs.PartShape.{cell_count}
+use Rattle.rmt_book.specs.declared.kept.Kept.{Kept}
+use Rattle.rmt_book.specs.declared.table.PartCells.{PartCells}
+use Rattle.rmt_book.specs.PartShape.{cell_count}
 use Rattle.rmt_update.specs.RowIndex.{AreRows, HaveOwnRows, never, part_rows, rows_of}
 use Rattle.rmt_update.proofs.PutRows.{own-take, rows-none}
-use Rattle.rmt_update.proofs.SliceLoops.{flat-next}
+use Rattle.rmt_book.proofs.SliceLoops.{flat-next}
 use Rattle.rmt_update.proofs.book.index.order_of.Goals as goal
 
 pub loop-part-init : goal.loop-part-init

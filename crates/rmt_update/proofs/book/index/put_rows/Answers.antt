@@ -4,7 +4,7 @@ use Rattle.std.specs.BTreeMap.{get}
 use Rattle.std.specs.Ordering.{nat_cmp}
 use Rattle.std.proofs.lemmas.List.{append-nil}
 use Rattle.std.proofs.lemmas.List.FromFn.{length-map-range_with_len}
-use Rattle.rmt_update.specs.PartShape.{cell_count}
+use Rattle.rmt_book.specs.PartShape.{cell_count}
 use Rattle.rmt_update.specs.RowIndex.{AreRows, never}
 use Rattle.rmt_update.proofs.PutRows.{put-next}
 use Rattle.rmt_update.proofs.book.index.put_rows.Goals as goal

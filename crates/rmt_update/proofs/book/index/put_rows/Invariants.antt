@@ -2,7 +2,7 @@ use Rattle.std.proofs.Common.{◌≡◌, ◌++◌, List, Option, length, map}
 use Rattle.std.specs.List.{range_with_len}
 use Rattle.std.specs.BTreeMap.{get}
 use Rattle.std.specs.Ordering.{nat_cmp}
-use Rattle.rmt_update.specs.declared.book.kept.Kept.{Kept}
+use Rattle.rmt_book.specs.declared.kept.Kept.{Kept}
 use Rattle.rmt_update.specs.RowIndex.{AreRows, HaveOwnRows, never, part_rows}
 use Rattle.rmt_update.proofs.book.index.put_rows.Given as goal
 

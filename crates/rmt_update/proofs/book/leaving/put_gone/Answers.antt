@@ -2,7 +2,7 @@ use Rattle.std.proofs.Common.{◌+◌, Vec, sym, ap, ◌∙◌, subst, take}
 use Rattle.std.specs.Global.{Global}
 use Rattle.std.specs.Prelude.{option_copied}
 use Rattle.std.proofs.lemmas.Option.{slice_get-get_or}
-use Rattle.rmt_update.specs.BookSpots.{kept_at}
+use Rattle.rmt_book.specs.BookSpots.{kept_at}
 use Rattle.rmt_update.specs.declared.book.changing.CellChange.{CellChange}
 use Rattle.rmt_update.specs.Changing.{ChangeKey}
 use Rattle.rmt_update.specs.Differences.{changes_in}

@@ -3,7 +3,7 @@ use Rattle.rmt_ast.specs.NameRules.{terms_of_name}
 use Rattle.rmt_config.specs.Rooms.{key_number, tests_as_one}
 use Rattle.rmt_config.specs.BlockCounts.{divided_up}
 use Rattle.rmt_config.specs.Rooms.{mask_or_value}
-use Rattle.rmt_update.proofs.NamedLaws.{keys-low}
+use Rattle.rmt_book.proofs.NamedLaws.{keys-low}
 use Rattle.rmt_update.proofs.SmallLaws.{bytes-are}
 use Rattle.rmt_update.proofs.book.loading.key_of.Goals as goal
 

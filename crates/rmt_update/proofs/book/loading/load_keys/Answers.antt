@@ -1,6 +1,6 @@
 use Rattle.std.proofs.Common.{ap, arith, length, subst, ◌∙◌}
 use Rattle.rmt_cuckoo.specs.Told.{Explains}
-use Rattle.rmt_update.specs.Spots.{spots_at}
+use Rattle.rmt_book.specs.Spots.{spots_at}
 use Rattle.rmt_cuckoo.proofs.LoadLaws.{members_few}
 use Rattle.rmt_update.proofs.book.loading.load_keys.Goals as goal
 

@@ -1,7 +1,7 @@
 use Rattle.std.proofs.Common.{◌≡◌, ◌++◌, ap, sym, ◌∙◌, subst}
 use Rattle.std.specs.Prelude.{OnOk}
 use Rattle.std.proofs.lemmas.List.{append-nil}
-use Rattle.rmt_update.specs.declared.book.grid.Grid.{Grid}
+use Rattle.rmt_book.specs.declared.grid.Grid.{Grid}
 use Rattle.rmt_update.specs.Loads.{ways_for}
 use Rattle.rmt_update.proofs.book.loading.put_ways.Goals as goal
 

@@ -5,7 +5,8 @@ use Rattle.rmt_ast.specs.NameRules.{terms_of_name}
 use Rattle.rmt_update.specs.declared.book.loading.TableTried.TheVariants as table
 use Rattle.rmt_update.specs.Loads.{CanFill, IsTried, IsTriedAt, table_of}
 use Rattle.rmt_update.proofs.LoadLaws.{table-entries}
-use Rattle.rmt_update.proofs.SmallLaws.{list-is, size-few, tests-of}
+use Rattle.rmt_lists.proofs.NewLaws.{size-few}
+use Rattle.rmt_update.proofs.SmallLaws.{list-is, tests-of}
 use Rattle.rmt_update.proofs.TableRules.{Own, few-bits, own-table}
 use Rattle.rmt_update.proofs.book.loading.try_node.Goals as goal
 use Rattle.rmt_update.proofs.book.loading.try_node.Goals.{After-as_slice-entries, In-Some}

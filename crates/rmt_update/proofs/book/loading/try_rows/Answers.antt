@@ -1,6 +1,6 @@
 use Rattle.std.proofs.Common.{ap, ◌∙◌}
 use Rattle.rmt_ast.specs.NameRules.{terms_of_name}
-use Rattle.rmt_update.specs.Spots.{spots_at}
+use Rattle.rmt_book.specs.Spots.{spots_at}
 use Rattle.rmt_update.proofs.SmallLaws.{rows-stand-by}
 use Rattle.rmt_update.proofs.book.loading.try_rows.Goals as goal
 

@@ -3,8 +3,8 @@ use Rattle.std.specs.Prelude.{slice_get}
 use Rattle.std.proofs.lemmas.List.Elements.{Contains-get_or}
 use Rattle.std.proofs.lemmas.Option.{slice_get-get_or}
 use Rattle.rmt_bits.proofs.AllLaws.{All-slice_get}
-use Rattle.rmt_update.specs.declared.book.spot.BookSpot.{BookSpot}
-use Rattle.rmt_update.specs.declared.book.table.TableCells.{TableCells}
+use Rattle.rmt_book.specs.declared.spot.BookSpot.{BookSpot}
+use Rattle.rmt_book.specs.declared.table.TableCells.{TableCells}
 use Rattle.rmt_update.specs.NextIndex.{IsFewRow, IsRowFreed}
 use Rattle.rmt_update.specs.RowIndex.{row_number}
 use Rattle.rmt_update.specs.Turning.{IsSpotIn}

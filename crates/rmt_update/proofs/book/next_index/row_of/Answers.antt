@@ -1,8 +1,8 @@
 use Rattle.std.proofs.Common.{◌≡◌, ◌+◌, Some, sym, ap, ◌∙◌, arith}
 use Rattle.std.specs.Prelude.{slice_get}
 use Rattle.std.proofs.lemmas.Option.{slice_get-get_or}
-use Rattle.rmt_update.specs.declared.book.table.PartCells.{PartCells}
-use Rattle.rmt_update.specs.PartShape.{cell_count}
+use Rattle.rmt_book.specs.declared.table.PartCells.{PartCells}
+use Rattle.rmt_book.specs.PartShape.{cell_count}
 use Rattle.rmt_update.specs.RowIndex.{rows_before}
 use Rattle.rmt_update.proofs.RowNumbers.{before-next, before-none, before-rises}
 use Rattle.rmt_update.proofs.book.next_index.row_of.Goals as goal

@@ -1,6 +1,6 @@
 use Rattle.std.proofs.Common.{sym, ◌∙◌}
 use Rattle.rmt_update.specs.Open.{is_open}
-use Rattle.rmt_update.specs.PartShape.{row_cells}
+use Rattle.rmt_book.specs.PartShape.{row_cells}
 use Rattle.rmt_update.proofs.OpenLaws.{way-here, way-past}
 use Rattle.rmt_update.proofs.book.open.open_in_ways.Goals as goal
 

@@ -2,7 +2,7 @@ use Rattle.std.proofs.Common.{◌≡◌, ◌-◌}
 use Rattle.std.specs.Prelude.{find}
 use Rattle.std.specs.List.{flat_map, range_with_len}
 use Rattle.rmt_update.specs.Open.{is_open}
-use Rattle.rmt_update.specs.PartShape.{row_cells}
+use Rattle.rmt_book.specs.PartShape.{row_cells}
 use Rattle.rmt_update.proofs.book.open.open_in_ways.Given as goal
 
 -- none of the rows so far has a free cell

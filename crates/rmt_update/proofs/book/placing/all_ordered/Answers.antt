@@ -1,6 +1,6 @@
 use Rattle.std.proofs.Common.{refl}
 use Rattle.rmt_update.specs.Come.{AreOrdered}
-use Rattle.rmt_update.proofs.SliceLoops.{all-more}
+use Rattle.rmt_book.proofs.SliceLoops.{all-more}
 use Rattle.rmt_update.proofs.book.placing.all_ordered.Goals as goal
 
 pub loop-table-preserved : goal.loop-table-preserved

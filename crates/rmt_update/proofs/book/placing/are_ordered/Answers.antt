@@ -1,7 +1,7 @@
 use Rattle.std.specs.BTreeMap.{IsOrdered}
 use Rattle.std.specs.Ordering.{nat_cmp}
-use Rattle.rmt_update.specs.declared.book.table.PartCells.{PartCells}
-use Rattle.rmt_update.proofs.SliceLoops.{all-more}
+use Rattle.rmt_book.specs.declared.table.PartCells.{PartCells}
+use Rattle.rmt_book.proofs.SliceLoops.{all-more}
 use Rattle.rmt_update.proofs.book.placing.are_ordered.Goals as goal
 
 pub loop-part-preserved : goal.loop-part-preserved

@@ -2,7 +2,7 @@ use Rattle.std.proofs.Common.{◌+◌, List, refl, subst, sym, take, arith}
 use Rattle.std.specs.List.{AllZip}
 use Rattle.std.proofs.lemmas.List.{take_all}
 use Rattle.std.proofs.lemmas.List.Elements.{all_zip_more}
-use Rattle.rmt_update.specs.declared.book.table.PartCells.{PartCells}
+use Rattle.rmt_book.specs.declared.table.PartCells.{PartCells}
 use Rattle.rmt_update.specs.Refill.{IsCleared}
 use Rattle.rmt_update.proofs.book.refill.cleared.Goals as goal
 

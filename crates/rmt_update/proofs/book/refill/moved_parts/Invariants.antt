@@ -1,7 +1,7 @@
 use Rattle.std.proofs.Common.{Vec, take}
 use Rattle.std.specs.Global.{Global}
 use Rattle.std.specs.List.{AllZip}
-use Rattle.rmt_update.specs.declared.book.table.PartCells.{PartCells}
+use Rattle.rmt_book.specs.declared.table.PartCells.{PartCells}
 use Rattle.rmt_update.specs.Refill.{IsMoved}
 use Rattle.rmt_update.proofs.book.refill.moved_parts.Given as goal
 

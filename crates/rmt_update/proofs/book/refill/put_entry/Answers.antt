@@ -1,8 +1,8 @@
 use Rattle.std.proofs.Common.{◌∙◌, Some, ap, cond, refl, subst}
 use Rattle.std.specs.BTreeMap.{get}
 use Rattle.std.specs.Ordering.{nat_cmp}
-use Rattle.rmt_update.specs.Coming.{HasSizes}
-use Rattle.rmt_pack.proofs.FindLaws.{same_number}
+use Rattle.rmt_book.specs.Coming.{HasSizes}
+use Rattle.rmt_config.proofs.OrderLaws.{same_number}
 use Rattle.rmt_update.proofs.book.refill.put_entry.Goals as goal
 
 pub returns : goal.returns

@@ -7,9 +7,9 @@ use Rattle.rmt_bits.proofs.AllLaws.{All-slice_get}
 use Rattle.rmt_bits.proofs.ListLaws.{AllZip-slice_get, slice_get-seen}
 use Rattle.rmt_ast.specs.EntryLists.{IsEntry}
 use Rattle.rmt_ast.specs.NameRules.{terms_of_name}
-use Rattle.rmt_update.specs.declared.book.shape.PartShape.{PartShape}
-use Rattle.rmt_update.specs.declared.book.spots.Spot.{Spot}
-use Rattle.rmt_update.specs.declared.book.table.PartCells.{PartCells}
+use Rattle.rmt_book.specs.declared.shape.PartShape.{PartShape}
+use Rattle.rmt_book.specs.declared.spots.Spot.{Spot}
+use Rattle.rmt_book.specs.declared.table.PartCells.{PartCells}
 use Rattle.rmt_update.specs.Refill.{AreRefilled, FitsInto, IsCleared, SamePart}
 use Rattle.rmt_update.proofs.RefillLaws.{none-refilled, refilled-more}
 use Rattle.rmt_update.proofs.book.refill.refilled.Goals as goal

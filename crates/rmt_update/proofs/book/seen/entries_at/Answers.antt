@@ -2,8 +2,8 @@ use Rattle.std.proofs.Common.{◌==◌, Option, ap, sym, ◌∙◌}
 use Rattle.std.specs.Borrow.{Bor}
 use Rattle.std.specs.Prelude.{option_copied}
 use Rattle.rmt_bits.proofs.AllLaws.{All-find}
-use Rattle.rmt_update.specs.declared.book.table.TableCells.{TableCells}
-use Rattle.rmt_update.specs.Seen.{IsReadable}
+use Rattle.rmt_book.specs.declared.table.TableCells.{TableCells}
+use Rattle.rmt_book.specs.Seen.{IsReadable}
 use Rattle.rmt_update.proofs.book.seen.entries_at.Goals as goal
 
 pub entries_of-requires : goal.entries_of-requires

@@ -3,8 +3,8 @@ use Rattle.std.specs.List.{flat_map}
 use Rattle.std.proofs.lemmas.List.{take_all}
 use Rattle.std.proofs.lemmas.List.Sorted.{IsNonDecreasingBy-from_sort_by_key}
 use Rattle.rmt_ast.specs.declared.entry.Entry.{Entry}
-use Rattle.rmt_update.specs.declared.book.table.PartCells.{PartCells}
-use Rattle.rmt_update.specs.Seen.{entries_by_part, entries_in}
+use Rattle.rmt_book.specs.declared.table.PartCells.{PartCells}
+use Rattle.rmt_book.specs.Seen.{entries_by_part, entries_in}
 use Rattle.rmt_update.proofs.SeenLaws.{number-sorted, parts-more}
 use Rattle.rmt_update.proofs.book.seen.entries_of.Goals as goal
 

@@ -1,6 +1,6 @@
 use Rattle.std.proofs.Common.{◌≡◌, take}
 use Rattle.std.specs.List.{flat_map}
-use Rattle.rmt_update.specs.Seen.{entries_in}
+use Rattle.rmt_book.specs.Seen.{entries_in}
 use Rattle.rmt_update.proofs.book.seen.entries_of.Given as goal
 
 -- the entries of the parts so far

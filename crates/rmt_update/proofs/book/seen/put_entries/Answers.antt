@@ -4,9 +4,9 @@ use Rattle.std.specs.BTreeMap.{values}
 use Rattle.std.specs.Prelude.{filter}
 use Rattle.std.proofs.lemmas.Map.Iter.{iter_end}
 use Rattle.rmt_ast.specs.declared.entry.Entry.{Entry}
-use Rattle.rmt_update.specs.declared.book.kept.Kept.{Kept}
-use Rattle.rmt_update.specs.Seen.{is_seen}
-use Rattle.rmt_update.specs.Told.{told_entry}
+use Rattle.rmt_book.specs.declared.kept.Kept.{Kept}
+use Rattle.rmt_book.specs.Seen.{is_seen}
+use Rattle.rmt_book.specs.Told.{told_entry}
 use Rattle.rmt_update.proofs.SeenLaws.{told-more}
 use Rattle.rmt_update.proofs.book.seen.put_entries.Goals as goal
 

@@ -1,7 +1,7 @@
 use Rattle.std.proofs.Common.{List, subst}
 use Rattle.std.specs.Prelude.{Contains}
-use Rattle.rmt_update.specs.declared.book.spot.BookSpot.{BookSpot}
-use Rattle.rmt_update.specs.BookSpots.{kept_at}
+use Rattle.rmt_book.specs.declared.spot.BookSpot.{BookSpot}
+use Rattle.rmt_book.specs.BookSpots.{kept_at}
 use Rattle.rmt_update.specs.Differences.{changes_in}
 use Rattle.rmt_update.specs.TurnWrites.{AreOnWay, MoreChanged}
 use Rattle.rmt_update.specs.Turning.{left_kept}

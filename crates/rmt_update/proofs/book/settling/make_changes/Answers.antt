@@ -2,14 +2,14 @@ use Rattle.std.proofs.Common.{◌++◌, List, map, ap, ◌∙◌}
 use Rattle.std.specs.Prelude.{reverse}
 use Rattle.rmt_update.specs.declared.book.changing.CellChange.{CellChange}
 use Rattle.rmt_config.specs.declared.cell_write.CellWrite.{CellWrite}
-use Rattle.rmt_update.specs.BookSpots.{kept_at}
+use Rattle.rmt_book.specs.BookSpots.{kept_at}
 use Rattle.rmt_update.specs.Changing.{ChangeKey}
 use Rattle.rmt_update.specs.Differences.{changes_in}
 use Rattle.rmt_update.specs.TurnWrites.{cell_turn}
 use Rattle.rmt_update.specs.Turning.{turned}
 use Rattle.rmt_update.proofs.ChangesLaws.{changes-ordered}
 use Rattle.rmt_update.proofs.EnteringLaws.{tables-on, unchanged}
-use Rattle.rmt_update.proofs.ResultLaws.{on_err}
+use Rattle.rmt_lists.proofs.ResultLaws.{on_err}
 use Rattle.rmt_update.proofs.TurnOrder.{spots-apart, turned-reverse}
 use Rattle.rmt_update.proofs.TurnWriteLaws.{changes-there}
 use Rattle.rmt_update.proofs.book.settling.make_changes.Goals as goal

@@ -1,6 +1,6 @@
 use Rattle.std.proofs.Common.{Option, take}
-use Rattle.rmt_update.specs.declared.book.kept.Kept.{Kept}
-use Rattle.rmt_update.specs.declared.book.spot.BookSpot.{BookSpot}
+use Rattle.rmt_book.specs.declared.kept.Kept.{Kept}
+use Rattle.rmt_book.specs.declared.spot.BookSpot.{BookSpot}
 use Rattle.rmt_update.specs.Differences.{changes_in}
 use Rattle.rmt_update.specs.TurnWrites.{AreChanged}
 use Rattle.rmt_update.specs.Turning.{come_to}

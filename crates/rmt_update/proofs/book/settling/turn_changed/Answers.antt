@@ -6,12 +6,12 @@ use Rattle.std.proofs.lemmas.List.{append-nil, length-map, map-append}
 use Rattle.rmt_config.specs.declared.cell_write.CellWrite.{CellWrite}
 use Rattle.rmt_update.specs.declared.book.changing.CellChange.{CellChange}
 use Rattle.rmt_update.specs.declared.book.turning.Turn.{Turn}
-use Rattle.rmt_update.specs.BookSpots.{kept_at}
+use Rattle.rmt_book.specs.BookSpots.{kept_at}
 use Rattle.rmt_update.specs.Changing.{ChangeKey}
 use Rattle.rmt_update.specs.TurnWrites.{cell_turn}
 use Rattle.rmt_update.specs.Turning.{HaveCells, IsSpotIn, TablesWith, turned, turned_by}
 use Rattle.rmt_update.proofs.EnteringLaws.{still-there}
-use Rattle.rmt_update.proofs.OrderedLaws.{map-same}
+use Rattle.rmt_book.proofs.OrderedLaws.{map-same}
 use Rattle.rmt_update.proofs.TurnOrder.{none-turned, turn-more}
 use Rattle.rmt_update.proofs.book.settling.turn_changed.Goals as goal
 

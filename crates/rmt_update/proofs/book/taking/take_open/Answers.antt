@@ -1,5 +1,5 @@
 use Rattle.std.proofs.Common.{List, length, sym, ap, ◌∙◌, arith}
-use Rattle.rmt_update.specs.declared.book.table.PartCells.{PartCells}
+use Rattle.rmt_book.specs.declared.table.PartCells.{PartCells}
 use Rattle.rmt_update.specs.Taking.{cells_of_parts}
 use Rattle.rmt_update.proofs.OpenLaws.{first-candidate}
 use Rattle.rmt_update.proofs.PutRows.{open-within}

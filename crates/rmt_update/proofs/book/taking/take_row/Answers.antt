@@ -1,8 +1,8 @@
 use Rattle.std.proofs.Common.{◌<◌, List, length, sym, ap, subst, ◌∙◌}
-use Rattle.rmt_update.specs.declared.book.spots.Spot.{Spot}
-use Rattle.rmt_update.specs.declared.book.table.PartCells.{PartCells}
-use Rattle.rmt_update.specs.RowOrder.{IsFirstFit}
-use Rattle.rmt_update.specs.Spots.{spot_from}
+use Rattle.rmt_book.specs.declared.spots.Spot.{Spot}
+use Rattle.rmt_book.specs.declared.table.PartCells.{PartCells}
+use Rattle.rmt_book.specs.RowOrder.{IsFirstFit}
+use Rattle.rmt_book.specs.Spots.{spot_from}
 use Rattle.rmt_update.proofs.PutRows.{spot-within}
 use Rattle.rmt_update.proofs.book.taking.take_row.Goals as goal
 

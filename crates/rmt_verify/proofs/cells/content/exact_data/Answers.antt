@@ -6,7 +6,7 @@ use Rattle.rmt_config.specs.Layouts.{entry_in, exact_records, local_of, quantum_
 use Rattle.rmt_config.specs.declared.form.layout.CellLayout.{CellLayout}
 use Rattle.rmt_verify.proofs.ContentLaws.{data_is}
 use Rattle.rmt_verify.proofs.cells.content.exact_data.Goals as goal
-use Rattle.rmt_pack.proofs.LayoutLaws.{at_layout}
+use Rattle.rmt_config.proofs.LayoutLaws.{at_layout}
 
 pub data_bytes-requires-clause-cell : goal.data_bytes-requires-clause-cell
 data_bytes-requires-clause-cell c =

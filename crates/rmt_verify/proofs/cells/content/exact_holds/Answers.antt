@@ -11,7 +11,7 @@ use Rattle.rmt_config.specs.declared.form.layout.CellLayout.{CellLayout}
 use Rattle.rmt_config.specs.Rooms.{mask_or_value}
 use Rattle.rmt_verify.proofs.ContentLaws.{args_along, code_told, exact_all, exact_head, exact_key, exact_key-lt, key_few, key_room, key_small, stands_told, told_along, way_low}
 use Rattle.rmt_verify.proofs.cells.content.exact_holds.Goals as goal
-use Rattle.rmt_pack.proofs.LayoutLaws.{at_layout, bytes_hold}
+use Rattle.rmt_config.proofs.LayoutLaws.{at_layout, bytes_hold}
 
 pub head_of-requires-clause-cell : goal.head_of-requires-clause-cell
 head_of-requires-clause-cell c =

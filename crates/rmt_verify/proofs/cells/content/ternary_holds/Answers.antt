@@ -10,7 +10,7 @@ use Rattle.rmt_config.specs.declared.form.layout.CellLayout.{CellLayout}
 use Rattle.rmt_pack.specs.declared.tcam.TcamWord.{TcamWord}
 use Rattle.rmt_verify.proofs.ContentLaws.{args_along, blocks_there, code_told, row_data, row_head, ternary_all, words_along, words_told}
 use Rattle.rmt_verify.proofs.cells.content.ternary_holds.Goals as goal
-use Rattle.rmt_pack.proofs.LayoutLaws.{at_layout, rows_in}
+use Rattle.rmt_config.proofs.LayoutLaws.{at_layout, rows_in}
 
 pub data_bytes-requires-clause-layout : goal.data_bytes-requires-clause-layout
 data_bytes-requires-clause-layout c =

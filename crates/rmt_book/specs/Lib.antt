@@ -1,0 +1,11 @@
+pub mod BookSpots
+pub mod Coming
+pub mod Kept
+pub mod Listed
+pub mod Numbered
+pub mod PartShape
+pub mod RowOrder
+pub mod Seen
+pub mod Spots
+pub mod Told
+pub mod Words

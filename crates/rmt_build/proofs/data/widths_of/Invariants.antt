@@ -1,6 +1,0 @@
-use Rattle.std.proofs.Common.{◌≡◌, map, take}
-use Rattle.rmt_ast.specs.State.{width_of}
-use Rattle.rmt_build.proofs.data.widths_of.Given as goal
-
-abbrev pub invariant-loop-field : goal.invariant-loop-field
-invariant-loop-field l = l.widths ≡ map (width_of l.program) (take l.field-index l.fields)

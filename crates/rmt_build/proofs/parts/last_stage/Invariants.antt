@@ -1,9 +1,0 @@
-use Rattle.std.proofs.Common.{◌≡◌, drop, max}
-use Rattle.std.specs.List.{fold}
-use Rattle.rmt_pack.specs.Starts.{stages_of}
-use Rattle.rmt_refine.specs.Units.{last_stage}
-use Rattle.rmt_build.proofs.parts.last_stage.Given as goal
-
--- the parts that are left reach as far as all
-abbrev pub invariant-loop-part : goal.invariant-loop-part
-invariant-loop-part l = fold (λ most k. max most k) l.last (stages_of (drop l.part-index l.parts) l.node) ≡ last_stage l.parts l.node

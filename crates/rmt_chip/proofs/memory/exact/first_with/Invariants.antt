@@ -1,6 +1,0 @@
-use Rattle.std.proofs.Common.{ℕ, ◌<◌, ◌≤◌}
-use Rattle.rmt_chip.specs.Searching.{HasCell}
-use Rattle.rmt_chip.proofs.memory.exact.first_with.Given as goal
-
-abbrev pub invariant-loop-at : goal.invariant-loop-at
-invariant-loop-at l = (j : ℕ) → l.from ≤ j → j < l.at → HasCell l.cells l.sight l.key j → ⊥

@@ -1,5 +1,0 @@
-use Rattle.rmt_chip.specs.Laying.{CellsPut}
-use Rattle.rmt_chip.proofs.memory.lay.put_listed.Given as goal
-
-abbrev pub invariant-loop-at : goal.invariant-loop-at
-invariant-loop-at l = CellsPut l.tail l.numbers l.heads l.keys l.held l.at l.fn.cells l.cells

@@ -1,5 +1,0 @@
-use Rattle.rmt_chip.specs.Marking.{AreMarked}
-use Rattle.rmt_chip.proofs.memory.marks.marks_of.Given as goal
-
-abbrev pub invariant-loop-at : goal.invariant-loop-at
-invariant-loop-at l = AreMarked l.cells l.stored l.at l.marks.words.items

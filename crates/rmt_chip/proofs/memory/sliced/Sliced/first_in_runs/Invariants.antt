@@ -1,6 +1,0 @@
-use Rattle.std.proofs.Common.{ℕ, ◌*◌, ◌<◌}
-use Rattle.rmt_chip.specs.Slicing.{OnIn}
-use Rattle.rmt_chip.proofs.memory.sliced.Sliced.first_in_runs.Given as goal
-
-abbrev pub invariant-loop-run : goal.invariant-loop-run
-invariant-loop-run l = (r : ℕ) → r < 512 * l.run → OnIn l.self l.sight l.vectors r → ⊥

@@ -1,0 +1,19 @@
+use Rattle.std.proofs.Common.{◌<◌, ◌^◌, All, [], ◌∷◌, arith, get_or, sym, subst, take}
+use Rattle.std.proofs.lemmas.Grind.{common_steps}
+use Rattle.std.proofs.lemmas.List.{take_more}
+use Rattle.std.proofs.lemmas.List.Elements.{All-append, All-cons, All-nil}
+use Rattle.rmt_ast.specs.declared.entry.Entry.{Entry}
+use Rattle.rmt_filling.proofs.stands.ranks_of.Goals as goal
+
+pub loop-entry-preserved : goal.loop-entry-preserved
+loop-entry-preserved c = record {
+  ranks = grind (arith, common_steps, c.loop-entry.invariant.ranks, c.in_ok-push.ensures.items, c.rank_of.ensures.rank);
+  fits =
+      let P : Entry → Type 0 = λ e. e.rank < 2 ^ 32 in
+      let es = c.args.entries.now in
+      let i = c.loop-entry.entry-index in
+      let item = c.entry-item.result in
+      subst (All P) (sym (take_more es i item c.loop-entry-test.true))
+      (All-append P (take i es) (get_or es i item ∷ []) c.loop-entry.invariant.fits
+      (All-cons P (get_or es i item) [] (subst P c.entry-item.is c.rank_of.ensures.fits) (All-nil P)));
+}

@@ -1,0 +1,12 @@
+pub mod Types
+pub mod EntryCells
+pub mod Formats
+pub mod Holding
+pub mod Keys
+pub mod Listing
+pub mod Memories
+pub mod Numbers
+pub mod Rooms
+pub mod Sorting
+pub mod TableCode
+pub mod Words

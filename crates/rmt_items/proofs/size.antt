@@ -1,0 +1,5 @@
+pub mod Lists
+pub mod Tails
+pub mod Front
+mod Units
+pub mod Stages

@@ -1,0 +1,140 @@
+//! Slots, and the units of a stage.
+
+ghost use Rattle.std.specs.Prelude.{◌≡◌, ◌<◌, length, IfOk};
+ghost use Rattle.rmt_config.specs.declared.config.Memory.{Memory};
+ghost use Rattle.rmt_items.specs.Readers.{Gives, kept, listed, list_at, byte_at, number_at, at_most};
+ghost use Rattle.rmt_items.specs.Reading.{marks_at, slot_head_at, may_have_numbers, cell_number_at, numbers_at, slot_at, unit_at};
+
+use crate::fault::{Read, ReadError, ReadFault};
+use crate::reading::gate::{gate_of, guard_of};
+use crate::reading::items::{Item, list_of, list16_of};
+use crate::reading::memory::memory_of;
+use crate::reading::number::{byte_of, flag_of, four_of, fours_of, kept, two_of};
+use rmt_bits::sequence::Sequence;
+use rmt_config::config::{CellNumber, Memory, SlotUnit, Unit};
+use std::alloc::Global;
+
+// ---- what stands before the memory
+
+fn actions_of(bytes: &[u8]) -> Read<u8>
+    ensures { Gives (λ x. (x.0, x.1.now)) result (kept (at_most 14) byte_at bytes.now) }
+{
+    let (actions, rest) = byte_of(bytes)?;
+    kept(actions <= 14, actions, rest)
+}
+
+/// The numbers of a slot between its guard and its data.
+#[derive(Clone, Copy)]
+struct Marks {
+    counted: bool,
+    actions: u8,
+    last: bool,
+}
+
+#[tactic(auto, unfolding(crate::specs::Reading::marks_at))]
+fn marks_of(bytes: &[u8]) -> Read<Marks>
+    ensures { Gives (λ x. (x.0, x.1.now)) result (marks_at bytes.now) }
+{
+    let (counted, rest) = flag_of(bytes)?;
+    let (actions, rest) = actions_of(rest)?;
+    let (last, rest) = flag_of(rest)?;
+    let marks = Marks {
+        counted,
+        actions,
+        last,
+    };
+    Ok((marks, rest))
+}
+
+#[tactic(auto, unfolding(crate::specs::Reading::slot_head_at))]
+fn slot_head_of(alloc: Global, bytes: &[u8]) -> Read<SlotUnit>
+    ensures read { Gives (λ x. (x.0, x.1.now)) result (slot_head_at bytes.now) }
+    ensures few { IfOk result (λ x. length x.0.keys < 65536) }
+{
+    let (node, rest) = byte_of(bytes)?;
+    let (guard, rest) = guard_of(rest)?;
+    let (marks, rest) = marks_of(rest)?;
+    let (held, rest) = two_of(rest)?;
+    let (keys, rest) = list16_of(alloc, (), rest)?;
+    let slot = SlotUnit {
+        node,
+        guard,
+        counted: marks.counted,
+        actions: marks.actions,
+        last: marks.last,
+        held,
+        keys,
+        memory: Memory::Without,
+        numbers: Sequence::new(alloc),
+    };
+    Ok((slot, rest))
+}
+
+// ---- the numbers of its cells
+
+impl Item<()> for CellNumber {
+    const LEAST_SIZE: usize = 8;
+
+    ghost item_at = { λ _. cell_number_at };
+
+    #[tactic(auto, unfolding(crate::specs::Reading::cell_number_at))]
+    fn read(_alloc: Global, _given: (), bytes: &[u8]) -> Read<CellNumber> {
+        let ((cell, number), rest) = fours_of(bytes)?;
+        Ok((CellNumber { cell, number }, rest))
+    }
+}
+
+fn is_count_allowed(memory: &Memory, count: u32) -> bool
+    ensures { result ≡ may_have_numbers memory.now count }
+{
+    match memory {
+        Memory::Without => count == 0,
+        Memory::Exact { .. } => true,
+        Memory::Ternary { .. } => true,
+    }
+}
+
+#[tactic(auto, unfolding(crate::specs::Reading::numbers_at))]
+fn numbers_of<'a>(alloc: Global, memory: &Memory, bytes: &'a [u8]) -> Read<'a, Sequence<CellNumber>>
+    ensures { Gives (λ x. (x.0, x.1.now)) result (numbers_at memory.now bytes.now) }
+{
+    let (count, rest) = four_of(bytes)?;
+    let (count, rest) = kept(is_count_allowed(memory, count), count, rest)?;
+    list_of(alloc, (), count as u64, rest)
+}
+
+// ---- units
+
+#[tactic(auto, unfolding(crate::specs::Reading::slot_at))]
+fn slot_of(alloc: Global, bytes: &[u8]) -> Read<SlotUnit>
+    ensures { Gives (λ x. (x.0, x.1.now)) result (slot_at bytes.now) }
+{
+    let (mut slot, rest) = slot_head_of(alloc, bytes)?;
+    let (memory, rest) = memory_of(alloc, &slot, rest)?;
+    let (numbers, rest) = numbers_of(alloc, &memory, rest)?;
+    slot.memory = memory;
+    slot.numbers = numbers;
+    Ok((slot, rest))
+}
+
+impl Item<()> for Unit {
+    const LEAST_SIZE: usize = 4;
+
+    ghost item_at = { λ _. unit_at };
+
+    #[tactic(auto, unfolding(crate::specs::Reading::unit_at))]
+    fn read(alloc: Global, _given: (), bytes: &[u8]) -> Read<Unit> {
+        match bytes {
+            [] => Err(ReadError::Fault(ReadFault::Short)),
+            [0, rest @ ..] => {
+                let (gate, rest) = gate_of(alloc, rest)?;
+                Ok((Unit::Gate(gate), rest))
+            }
+            [1, rest @ ..] => {
+                let (slot, rest) = slot_of(alloc, rest)?;
+                Ok((Unit::Slot(slot), rest))
+            }
+            _ => Err(ReadError::Fault(ReadFault::Form)),
+        }
+    }
+}

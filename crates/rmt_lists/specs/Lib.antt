@@ -1,0 +1,5 @@
+pub mod Holding
+pub mod KeyNumbers
+pub mod Running
+pub mod Settled
+pub mod Stands

@@ -1,0 +1,23 @@
+use Rattle.std.proofs.Common.{◌≡◌, ℕ, List, ◌+◌, ◌-◌, ◌*◌, ◌/◌, length, ap, ◌∙◌, arith}
+use Rattle.std.proofs.lemmas.List.{take_all}
+use Rattle.rmt_bits.specs.Bits.{slice}
+use Rattle.rmt_config.specs.BlockCounts.{divided_up}
+use Rattle.rmt_config.specs.Cells.{sram_row}
+use Rattle.rmt_memory.specs.Types.{CellNumber}
+use Rattle.rmt_memory.specs.Laying.{entry_of, runs_of}
+use Rattle.rmt_memory.proofs.RunLaws.{length-runs}
+use Rattle.rmt_memory.proofs.listed.runs_of.Goals as goal
+
+pub invariant_of-result : goal.invariant_of-result
+invariant_of-result c =
+    let numbers = c.args.numbers.now in
+    let size = divided_up c.args.len 8 in
+    let value = λ (n : ℕ). slice (entry_of c.args.layout.now (sram_row c.args.rows.now) c.args.blocks.now n) c.args.from c.args.len in
+    let e : length c.loop-number.bytes.items ≡ length numbers * size =
+    ap (λ (bs : List ℕ). length bs) c.loop-number.invariant
+    ∙ ap (λ (cs : List CellNumber). length (runs_of size value cs)) (take_all c.loop-number.number-index numbers (omega arith))
+    ∙ length-runs size value numbers in
+    let seven : c.args.len + 8 - 1 ≡ c.args.len + 7 = omega arith in
+    let same : size ≡ (c.args.len + 7) / 8 = ap (λ m. m / 8) seven in
+    let turned : length numbers * size ≡ length numbers * ((c.args.len + 7) / 8) = ap (λ m. length numbers * m) same in
+    record { whole = omega (arith, c.loop-number.bytes.ok.0, e, turned) }

@@ -1,0 +1,32 @@
+use Rattle.std.proofs.Common.{◌≡◌, ◌+◌, ◌<◌, min, length, get_or, sym, ap, ◌∙◌, arith, below_more}
+use Rattle.std.specs.Int.{bit_at}
+use Rattle.std.proofs.lemmas.Grind.{get_or_default_zero}
+use Rattle.std.proofs.lemmas.Nat.Bits.{bit_at_and, bit_at-lt}
+use Rattle.rmt_memory.proofs.sliced.Sliced.left.Goals as goal
+
+pub loop-nibble-preserved : goal.loop-nibble-preserved
+loop-nibble-preserved c =
+    let bits = c.args.self.now.bits.items in
+    let vectors = c.args.vectors.now in
+    let at = c.args.at in
+    let n = c.loop-nibble.nibble in
+    let old = c.loop-nibble.left in
+    let x = c.index.result.now in
+    let place = get_or vectors n 0 + at in
+    let end = c.requires.within n c.loop-nibble-test.true in
+    let there : place < length bits = omega (arith, end, c.requires.at, c.args.self.now.bits.ok.0) in
+    let x-is : x ≡ get_or bits place 0 = c.index.ensures ∙ get_or_default_zero bits place x there in
+    record {
+      on = λ j h.
+          let both : min (bit_at old j) (bit_at x j) ≡ 1 = sym (bit_at_and old x j) ∙ h in
+          let bit = bit_at-lt old j in
+          let bit' = bit_at-lt x j in
+          let was : bit_at old j ≡ 1 = omega (arith, both, bit, bit') in
+          let here : bit_at x j ≡ 1 = omega (arith, both, bit, bit') in
+          let before = c.loop-nibble.invariant.on j was in
+          (before.0, below_more (λ k. bit_at (get_or bits (get_or vectors k 0 + at) 0) j ≡ 1) n before.1 (sym (ap (λ y. bit_at y j) x-is) ∙ here));
+      all = λ j on.
+          let was : bit_at old j ≡ 1 = c.loop-nibble.invariant.all j (on.0, λ k lt. on.1 k (omega (arith, lt))) in
+          let here : bit_at x j ≡ 1 = ap (λ y. bit_at y j) x-is ∙ on.1 n (omega arith) in
+          bit_at_and old x j ∙ omega (arith, was, here);
+    }

@@ -1,0 +1,16 @@
+pub mod Comparing
+pub mod KeyWords
+pub mod KeysWithin
+pub mod Laid
+pub mod Laying
+pub mod Looked
+pub mod Marking
+pub mod Memories
+pub mod Memory
+pub mod RunWrites
+pub mod Searching
+pub mod Sights
+pub mod Slicing
+pub mod StageMemories
+pub mod Types
+pub mod Writable

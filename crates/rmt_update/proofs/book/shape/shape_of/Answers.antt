@@ -1,5 +1,0 @@
-use Rattle.rmt_update.proofs.ShapeLaws.{slot-few}
-use Rattle.rmt_update.proofs.book.shape.shape_of.Goals as goal
-
-pub grid_of-requires : goal.grid_of-requires
-grid_of-requires c = slot-few c.args.slot.now c.requires.formed c.requires.memory c.requires.ways

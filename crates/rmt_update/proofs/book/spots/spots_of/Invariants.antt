@@ -1,7 +1,0 @@
-use Rattle.std.proofs.Common.{◌≡◌, take}
-use Rattle.rmt_update.specs.Spots.{spots_at}
-use Rattle.rmt_update.proofs.book.spots.spots_of.Given as goal
-
--- the spots so far
-abbrev pub invariant-loop-number : goal.invariant-loop-number
-invariant-loop-number l = l.spots.items ≡ spots_at l.parts (take l.number-index l.numbers)
