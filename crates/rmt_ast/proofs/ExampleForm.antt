@@ -7,44 +7,87 @@ use Rattle.rmt_bits.specs.Bits.{number_of}
 use Rattle.rmt_ast.specs.Types.{Field, Header, Tail, Action, Assign, Table, Program}
 use Rattle.rmt_ast.specs.declared.program.Kind.TheVariants.{Exact}
 use Rattle.rmt_ast.specs.declared.entry.Entry.{Entry}
-use Rattle.rmt_ast.specs.WellFormed.{IsProgram, IsTail, HasFields, IsWidth, IsHeader, IsAction, IsAssign, IsTable, IsNode, HasNames, HasHeaderNames, AreAppliedOnce, AllNumbered, BeginsWith, Takes, name_of}
+use Rattle.rmt_ast.specs.WellFormed.{IsProgram, IsTail, HasFields, IsWidth, IsHeader, IsAction, IsAssign, IsTable, IsNode, HasNames, HasHeaderNames, AreAppliedOnce, AreDistinct, AllNumbered, BeginsWith, Takes, name_of}
 use Rattle.rmt_ast.specs.EntryLists.{AreEntries, AreTableEntries, IsEntry, terms_of}
-use Rattle.rmt_ast.proofs.Programs.{with_tail, strict_and_weak, one_entry, action, keyless, field}
+use Rattle.rmt_ast.proofs.Programs.{with_tail, three_tables, strict_and_weak, one_entry, action, keyless, field}
 use Rattle.rmt_bits.proofs.PairLaws.{AllPairs-none}
 use Rattle.rmt_ast.proofs.WellFormedLemmas.{AllNumbered-from_items, AreDistinct-from_apart}
 
+-- ---- what programs of three tables have in common
+
+module _ (acts : List Action) (a b c : Table) where
+  three_fields : HasFields (three_tables acts a b c)
+  three_fields = record {
+    in_port = refl;
+    out_port = refl;
+    drop = refl;
+    in_order = refl;
+    all_there = omega arith;
+    few_metadata = omega arith;
+    widths =
+        All-from_recursion (λ (f : Field). IsWidth f.width) (three_tables acts a b c).fields
+        ((omega arith, omega arith), ((omega arith, omega arith), ((omega arith, omega arith), ((omega arith, omega arith), ((omega arith, omega arith), ((omega arith, omega arith), tt))))));
+  }
+
+  three_headers : AllNumbered (IsHeader (three_tables acts a b c)) (three_tables acts a b c).headers
+  three_headers = AllNumbered-from_items (IsHeader (three_tables acts a b c)) (three_tables acts a b c).headers (
+    record {
+      valid = refl;
+      whole_bytes = refl;
+      is_not_empty = omega arith;
+      is_not_long = omega arith;
+      tail = tt;
+      selects_own = All-nil _;
+      selects_once = AreDistinct-from_apart (λ f. f) [] refl;
+      plain = λ e. refl;
+      cases = All-nil _;
+      other = tt;
+    },
+    tt,
+  )
+
+  three_nodes : AllNumbered (IsNode (three_tables acts a b c)) (three_tables acts a b c).nodes
+  three_nodes = AllNumbered-from_items (IsNode (three_tables acts a b c)) (three_tables acts a b c).nodes
+      (record { guard = tt; what = omega arith }, (record { guard = tt; what = omega arith }, (record { guard = tt; what = omega arith }, tt)))
+
+  three_applied : AreAppliedOnce (three_tables acts a b c)
+  three_applied zero h = refl
+  three_applied (suc zero) h = refl
+  three_applied (suc (suc zero)) h = refl
+  three_applied (suc (suc (suc t))) h = absurd (omega (arith, h))
+
+  three_names : AreDistinct (map (λ (x : Action). x.name) acts) → AreDistinct (map (λ (x : Table). x.name) (a ∷ b ∷ c ∷ [])) → HasNames (three_tables acts a b c)
+  three_names actions_once tables_once = record {
+    of_in_port = refl;
+    of_out_port = refl;
+    of_drop = refl;
+    of_headers = All-from_recursion (HasHeaderNames (three_tables acts a b c)) (three_tables acts a b c).headers
+        (record { valid = refl; fields = All-from_recursion (λ f. BeginsWith (codes "h.") (name_of (three_tables acts a b c) f)) (4 ∷ []) (refl, tt) }, tt);
+    of_metadata = All-from_recursion (λ (f : Field). BeginsWith (codes "meta.") f.name) (field (codes "meta.x") 8 ∷ []) (refl, tt);
+    fields_once = AreDistinct-from_apart number_of (map (λ (x : Field). x.name) (three_tables acts a b c).fields) refl;
+    headers_once = AreDistinct-from_apart number_of (map (λ (x : Header). x.name) (three_tables acts a b c).headers) refl;
+    actions_once = actions_once;
+    tables_once = tables_once;
+  }
+
+  -- such a program is well formed where its actions and tables are, and their names distinct
+  pub three_tables-is_program : All (IsAction (three_tables acts a b c)) acts → All (IsTable (three_tables acts a b c)) (a ∷ b ∷ c ∷ []) → length acts ≤ 256
+      → AreDistinct (map (λ (x : Action). x.name) acts) → AreDistinct (map (λ (x : Table). x.name) (a ∷ b ∷ c ∷ [])) → IsProgram (three_tables acts a b c)
+  three_tables-is_program actions tables few actions_once tables_once = record {
+    fields = three_fields;
+    headers = three_headers;
+    actions = actions;
+    tables = tables;
+    nodes = three_nodes;
+    applied = three_applied;
+    counts = record { a_header = omega arith; headers = omega arith; actions = few; nodes = omega arith };
+    names = three_names actions_once tables_once;
+  }
+
+-- ---- the example
+
 one_width : All IsWidth (9 ∷ [])
 one_width = All-from_recursion IsWidth (9 ∷ []) ((omega arith, omega arith), tt)
-
-fields : HasFields strict_and_weak
-fields = record {
-  in_port = refl;
-  out_port = refl;
-  drop = refl;
-  in_order = refl;
-  all_there = omega arith;
-  few_metadata = omega arith;
-  widths =
-      All-from_recursion (λ (f : Field). IsWidth f.width) strict_and_weak.fields
-      ((omega arith, omega arith), ((omega arith, omega arith), ((omega arith, omega arith), ((omega arith, omega arith), ((omega arith, omega arith), ((omega arith, omega arith), tt))))));
-}
-
-headers : AllNumbered (IsHeader strict_and_weak) strict_and_weak.headers
-headers = AllNumbered-from_items (IsHeader strict_and_weak) strict_and_weak.headers (
-  record {
-    valid = refl;
-    whole_bytes = refl;
-    is_not_empty = omega arith;
-    is_not_long = omega arith;
-    tail = tt;
-    selects_own = All-nil _;
-    selects_once = AreDistinct-from_apart (λ f. f) [] refl;
-    plain = λ e. refl;
-    cases = All-nil _;
-    other = tt;
-  },
-  tt,
-)
 
 -- an action that makes one assignment
 pub one_assign : (p : Program) (name params : List ℕ) (a : Assign) → All IsWidth params → length params ≤ 16 → IsAssign p params a → IsAction p (action name params (a ∷ []))
@@ -100,41 +143,10 @@ tables = All-from_recursion (IsTable strict_and_weak) strict_and_weak.tables (
   ),
 )
 
-nodes : AllNumbered (IsNode strict_and_weak) strict_and_weak.nodes
-nodes = AllNumbered-from_items (IsNode strict_and_weak) strict_and_weak.nodes
-    (record { guard = tt; what = omega arith }, (record { guard = tt; what = omega arith }, (record { guard = tt; what = omega arith }, tt)))
-
-applied : AreAppliedOnce strict_and_weak
-applied zero h = refl
-applied (suc zero) h = refl
-applied (suc (suc zero)) h = refl
-applied (suc (suc (suc t))) h = absurd (omega (arith, h))
-
-names : HasNames strict_and_weak
-names = record {
-  of_in_port = refl;
-  of_out_port = refl;
-  of_drop = refl;
-  of_headers = All-from_recursion (HasHeaderNames strict_and_weak) strict_and_weak.headers
-      (record { valid = refl; fields = All-from_recursion (λ f. BeginsWith (codes "h.") (name_of strict_and_weak f)) (4 ∷ []) (refl, tt) }, tt);
-  of_metadata = All-from_recursion (λ (f : Field). BeginsWith (codes "meta.") f.name) (field (codes "meta.x") 8 ∷ []) (refl, tt);
-  fields_once = AreDistinct-from_apart number_of (map (λ (x : Field). x.name) strict_and_weak.fields) refl;
-  headers_once = AreDistinct-from_apart number_of (map (λ (x : Header). x.name) strict_and_weak.headers) refl;
-  actions_once = AreDistinct-from_apart number_of (map (λ (x : Action). x.name) strict_and_weak.actions) refl;
-  tables_once = AreDistinct-from_apart number_of (map (λ (x : Table). x.name) strict_and_weak.tables) refl;
-}
-
 pub strict_and_weak-is_program : IsProgram strict_and_weak
-strict_and_weak-is_program = record {
-  fields = fields;
-  headers = headers;
-  actions = actions;
-  tables = tables;
-  nodes = nodes;
-  applied = applied;
-  counts = record { a_header = omega arith; headers = omega arith; actions = omega arith; nodes = omega arith };
-  names = names;
-}
+strict_and_weak-is_program =
+    three_tables-is_program strict_and_weak.actions _ _ _ actions tables (omega arith)
+    (AreDistinct-from_apart number_of (map (λ (x : Action). x.name) strict_and_weak.actions) refl) (AreDistinct-from_apart number_of (map (λ (x : Table). x.name) strict_and_weak.tables) refl)
 
 -- a table without a key has no entry
 no_entries : (n : ℕ) (name : List ℕ) (default : ℕ) → AreTableEntries n [] (terms_of strict_and_weak (keyless name default))

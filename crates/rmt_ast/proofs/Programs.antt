@@ -34,70 +34,70 @@ apply_table t = record { guard = None; what = Apply t }
 abbrev pub apply_in_arm : ℕ → ℕ → ℕ → Node
 apply_in_arm parent mask t = record { guard = Some (record { parent = parent; mask = mask }); what = Apply t }
 
+-- a program of the one header h, with these fields from number 4 on
+abbrev pub one_header : List Field → Header → List Action → List Table → List Node → Program
+one_header fields h actions tables nodes = record { fields = with_fields fields; headers = h ∷ []; actions = actions; tables = tables; nodes = nodes }
+
+-- the same with one table, which one node applies
+abbrev pub one_table : List Field → Header → List Action → Table → Program
+one_table fields h actions t = one_header fields h actions (t ∷ []) (apply_table 0 ∷ [])
+
+-- the same with a table without a key, whose default is this action
+abbrev pub one_default : List Field → Header → Action → Program
+one_default fields h a = one_table fields h (a ∷ []) (keyless (codes "t") 0)
+
+-- header h { f : 8; } and metadata x : 8, and three tables, which are applied one after another
+abbrev pub three_tables : List Action → Table → Table → Table → Program
+three_tables actions a b c =
+    one_header (field (codes "h.f") 8 ∷ field (codes "meta.x") 8 ∷ []) (header (4 ∷ []) 1) actions (a ∷ b ∷ c ∷ []) (apply_table 0 ∷ apply_table 1 ∷ apply_table 2 ∷ [])
+
+-- the headers of a program, and one table without a key, whose default is this action
+abbrev pub with_default : Program → Action → Program
+with_default p a = record p { actions = a ∷ []; tables = keyless (codes "t") 0 ∷ []; nodes = apply_table 0 ∷ [] }
+
 abbrev pub packet : ℕ → List ℕ → Packet
 packet port frame = record { port = port; frame = frame }
 
 -- header h { a : 8; b : 8; } and one table whose default does h.a = h.b; h.b = h.a;
 abbrev pub assignments_in_order : Program
-assignments_in_order = record {
-  fields = with_fields (field (codes "h.a") 8 ∷ field (codes "h.b") 8 ∷ []);
-  headers = header (4 ∷ 5 ∷ []) 2 ∷ [];
-  actions = action (codes "copy") [] (record { dest = 4; expr = One (leaf.Field 5) } ∷ record { dest = 5; expr = One (leaf.Field 4) } ∷ []) ∷ [];
-  tables = keyless (codes "t") 0 ∷ [];
-  nodes = apply_table 0 ∷ [];
-}
+assignments_in_order =
+    one_default (field (codes "h.a") 8 ∷ field (codes "h.b") 8 ∷ []) (header (4 ∷ 5 ∷ []) 2)
+    (action (codes "copy") [] (record { dest = 4; expr = One (leaf.Field 5) } ∷ record { dest = 5; expr = One (leaf.Field 4) } ∷ []))
 
 -- header h { a : 8; b : 8; c : 8; } and one table whose default does h.a = h.a + h.b; h.b = h.a + h.c;
 abbrev pub too_deep : Program
-too_deep = record {
-  fields = with_fields (field (codes "h.a") 8 ∷ field (codes "h.b") 8 ∷ field (codes "h.c") 8 ∷ []);
-  headers = header (4 ∷ 5 ∷ 6 ∷ []) 3 ∷ [];
-  actions =
-      action (codes "deep") []
-      (record { dest = 4; expr = Two Add (leaf.Field 4) (leaf.Field 5) }
-      ∷ record { dest = 5; expr = Two Add (leaf.Field 4) (leaf.Field 6) } ∷ [])
-      ∷ [];
-  tables = keyless (codes "t") 0 ∷ [];
-  nodes = apply_table 0 ∷ [];
-}
+too_deep =
+    one_default (field (codes "h.a") 8 ∷ field (codes "h.b") 8 ∷ field (codes "h.c") 8 ∷ []) (header (4 ∷ 5 ∷ 6 ∷ []) 3)
+    (action (codes "deep") []
+    (record { dest = 4; expr = Two Add (leaf.Field 4) (leaf.Field 5) }
+    ∷ record { dest = 5; expr = Two Add (leaf.Field 4) (leaf.Field 6) } ∷ []))
 
 -- header h { a : 8; b : 8; add : 8; sub : 8; and : 8; or : 8; xor : 8; } and one table whose default sets each further
 -- field by the operator of its name from h.a and h.b, and and from h.a and 15
 abbrev pub operators : Program
-operators = record {
-  fields =
-      with_fields
-      (field (codes "h.a") 8 ∷ field (codes "h.b") 8 ∷ field (codes "h.add") 8 ∷ field (codes "h.sub") 8
-      ∷ field (codes "h.and") 8 ∷ field (codes "h.or") 8 ∷ field (codes "h.xor") 8 ∷ []);
-  headers = header (4 ∷ 5 ∷ 6 ∷ 7 ∷ 8 ∷ 9 ∷ 10 ∷ []) 7 ∷ [];
-  actions =
-      action (codes "all") []
-      (record { dest = 6; expr = Two Add (leaf.Field 4) (leaf.Field 5) }
-      ∷ record { dest = 7; expr = Two Sub (leaf.Field 4) (leaf.Field 5) }
-      ∷ record { dest = 8; expr = Two And (leaf.Field 4) (leaf.Number 15) }
-      ∷ record { dest = 9; expr = Two Or (leaf.Field 4) (leaf.Field 5) }
-      ∷ record { dest = 10; expr = Two Xor (leaf.Field 4) (leaf.Field 5) } ∷ [])
-      ∷ [];
-  tables = keyless (codes "t") 0 ∷ [];
-  nodes = apply_table 0 ∷ [];
-}
+operators =
+    one_default
+    (field (codes "h.a") 8 ∷ field (codes "h.b") 8 ∷ field (codes "h.add") 8 ∷ field (codes "h.sub") 8
+    ∷ field (codes "h.and") 8 ∷ field (codes "h.or") 8 ∷ field (codes "h.xor") 8 ∷ [])
+    (header (4 ∷ 5 ∷ 6 ∷ 7 ∷ 8 ∷ 9 ∷ 10 ∷ []) 7)
+    (action (codes "all") []
+    (record { dest = 6; expr = Two Add (leaf.Field 4) (leaf.Field 5) }
+    ∷ record { dest = 7; expr = Two Sub (leaf.Field 4) (leaf.Field 5) }
+    ∷ record { dest = 8; expr = Two And (leaf.Field 4) (leaf.Number 15) }
+    ∷ record { dest = 9; expr = Two Or (leaf.Field 4) (leaf.Field 5) }
+    ∷ record { dest = 10; expr = Two Xor (leaf.Field 4) (leaf.Field 5) } ∷ []))
 
 -- header h { f : 8; } and metadata x : 8; table a does meta.x = h.f, b is exact on meta.x, and c does meta.x = 0
 abbrev pub strict_and_weak : Program
-strict_and_weak = record {
-  fields = with_fields (field (codes "h.f") 8 ∷ field (codes "meta.x") 8 ∷ []);
-  headers = header (4 ∷ []) 1 ∷ [];
-  actions =
-      action (codes "sx") [] (record { dest = 5; expr = One (leaf.Field 4) } ∷ [])
-      ∷ action (codes "cx") [] (record { dest = 5; expr = One (leaf.Number 0) } ∷ [])
-      ∷ action (codes "go") (9 ∷ []) (record { dest = 1; expr = One (leaf.Param 0) } ∷ [])
-      ∷ action (codes "no") [] [] ∷ [];
-  tables =
-      keyless (codes "a") 0
-      ∷ record { name = codes "b"; kind = Exact; key = 5 ∷ []; actions = 2 ∷ []; default = 3; args = []; size = 16; counted = false }
-      ∷ keyless (codes "c") 1 ∷ [];
-  nodes = apply_table 0 ∷ apply_table 1 ∷ apply_table 2 ∷ [];
-}
+strict_and_weak =
+    three_tables
+    (action (codes "sx") [] (record { dest = 5; expr = One (leaf.Field 4) } ∷ [])
+    ∷ action (codes "cx") [] (record { dest = 5; expr = One (leaf.Number 0) } ∷ [])
+    ∷ action (codes "go") (9 ∷ []) (record { dest = 1; expr = One (leaf.Param 0) } ∷ [])
+    ∷ action (codes "no") [] [] ∷ [])
+    (keyless (codes "a") 0)
+    (record { name = codes "b"; kind = Exact; key = 5 ∷ []; actions = 2 ∷ []; default = 3; args = []; size = 16; counted = false })
+    (keyless (codes "c") 1)
 
 -- its entry `b 7 go 5`
 abbrev pub one_entry : List (List Entry)
@@ -105,13 +105,9 @@ one_entry = [] ∷ (record { table = 1; number = 0; tests = record { value = 7; 
 
 -- header h { d : 32; } and a counted table of prefixes of it, which gives the port, by default 0
 abbrev pub prefix : Program
-prefix = record {
-  fields = with_fields (field (codes "h.d") 32 ∷ []);
-  headers = header (4 ∷ []) 4 ∷ [];
-  actions = action (codes "go") (9 ∷ []) (record { dest = 1; expr = One (leaf.Param 0) } ∷ []) ∷ [];
-  tables = record { name = codes "r"; kind = Prefix; key = 4 ∷ []; actions = 0 ∷ []; default = 0; args = 0 ∷ []; size = 1024; counted = true } ∷ [];
-  nodes = apply_table 0 ∷ [];
-}
+prefix =
+    one_table (field (codes "h.d") 32 ∷ []) (header (4 ∷ []) 4) (action (codes "go") (9 ∷ []) (record { dest = 1; expr = One (leaf.Param 0) } ∷ []) ∷ [])
+    (record { name = codes "r"; kind = Prefix; key = 4 ∷ []; actions = 0 ∷ []; default = 0; args = 0 ∷ []; size = 1024; counted = true })
 
 -- an entry of the table that node 0 applies, with one test and the first action
 abbrev pub entry : ℕ → ℕ → ℕ → ℕ → List ℕ → Entry
@@ -128,13 +124,9 @@ prefixes =
 
 -- header h { d : 8; } and a ternary table on it, which gives the port, by default 0
 abbrev pub ternary : Program
-ternary = record {
-  fields = with_fields (field (codes "h.d") 8 ∷ []);
-  headers = header (4 ∷ []) 1 ∷ [];
-  actions = action (codes "go") (9 ∷ []) (record { dest = 1; expr = One (leaf.Param 0) } ∷ []) ∷ [];
-  tables = record { name = codes "t"; kind = Ternary; key = 4 ∷ []; actions = 0 ∷ []; default = 0; args = 0 ∷ []; size = 8; counted = false } ∷ [];
-  nodes = apply_table 0 ∷ [];
-}
+ternary =
+    one_table (field (codes "h.d") 8 ∷ []) (header (4 ∷ []) 1) (action (codes "go") (9 ∷ []) (record { dest = 1; expr = One (leaf.Param 0) } ∷ []) ∷ [])
+    (record { name = codes "t"; kind = Ternary; key = 4 ∷ []; actions = 0 ∷ []; default = 0; args = 0 ∷ []; size = 8; counted = false })
 
 -- priority 30 on 0x1_ gives 1, priority 20 on 0x_2 gives 2, and priority 20 on 0x32 gives 3
 abbrev pub priorities : List (List Entry)
@@ -166,41 +158,30 @@ two_headers = record {
 
 -- the same headers, and one table whose default does h.valid = 0; g.valid = 1;
 abbrev pub other_headers : Program
-other_headers = record two_headers {
-  actions = action (codes "swap") [] (record { dest = 3; expr = One (leaf.Number 0) } ∷ record { dest = 5; expr = One (leaf.Number 1) } ∷ []) ∷ [];
-  tables = keyless (codes "t") 0 ∷ [];
-  nodes = apply_table 0 ∷ [];
-}
+other_headers = with_default two_headers (action (codes "swap") [] (record { dest = 3; expr = One (leaf.Number 0) } ∷ record { dest = 5; expr = One (leaf.Number 1) } ∷ []))
 
 -- header h { f : 8; }, if (h.f & 0xf0 == 0x10) { apply a; } else { apply b; }, where a sends to 1 and b to 2
 abbrev pub gate : Program
-gate = record {
-  fields = with_fields (field (codes "h.f") 8 ∷ []);
-  headers = header (4 ∷ []) 1 ∷ [];
-  actions =
-      action (codes "one") [] (record { dest = 1; expr = One (leaf.Number 1) } ∷ [])
-      ∷ action (codes "two") [] (record { dest = 1; expr = One (leaf.Number 2) } ∷ []) ∷ [];
-  tables = keyless (codes "a") 0 ∷ keyless (codes "b") 1 ∷ [];
-  nodes = record { guard = None; what = Gate 4 (record { value = 0x10; mask = 0xf0 }) } ∷ apply_in_arm 0 4 0 ∷ apply_in_arm 0 2 1 ∷ [];
-}
+gate =
+    one_header (field (codes "h.f") 8 ∷ []) (header (4 ∷ []) 1)
+    (action (codes "one") [] (record { dest = 1; expr = One (leaf.Number 1) } ∷ [])
+    ∷ action (codes "two") [] (record { dest = 1; expr = One (leaf.Number 2) } ∷ []) ∷ [])
+    (keyless (codes "a") 0 ∷ keyless (codes "b") 1 ∷ [])
+    (record { guard = None; what = Gate 4 (record { value = 0x10; mask = 0xf0 }) } ∷ apply_in_arm 0 4 0 ∷ apply_in_arm 0 2 1 ∷ [])
 
 -- header h { f : 8; }, table t is exact on it, counted, with the actions stop, which drops, and on; its default is on;
 -- apply t { stop { apply a; } hit { apply b; } miss { apply c; } }, where a, b and c send to 1, 2 and 3
 abbrev pub arms : Program
-arms = record {
-  fields = with_fields (field (codes "h.f") 8 ∷ []);
-  headers = header (4 ∷ []) 1 ∷ [];
-  actions =
-      action (codes "stop") [] (record { dest = 2; expr = One (leaf.Number 1) } ∷ [])
-      ∷ action (codes "on") [] []
-      ∷ action (codes "one") [] (record { dest = 1; expr = One (leaf.Number 1) } ∷ [])
-      ∷ action (codes "two") [] (record { dest = 1; expr = One (leaf.Number 2) } ∷ [])
-      ∷ action (codes "three") [] (record { dest = 1; expr = One (leaf.Number 3) } ∷ []) ∷ [];
-  tables =
-      record { name = codes "t"; kind = Exact; key = 4 ∷ []; actions = 0 ∷ 1 ∷ []; default = 1; args = []; size = 4; counted = true }
-      ∷ keyless (codes "a") 2 ∷ keyless (codes "b") 3 ∷ keyless (codes "c") 4 ∷ [];
-  nodes = apply_table 0 ∷ apply_in_arm 0 4 1 ∷ apply_in_arm 0 65528 2 ∷ apply_in_arm 0 2 3 ∷ [];
-}
+arms =
+    one_header (field (codes "h.f") 8 ∷ []) (header (4 ∷ []) 1)
+    (action (codes "stop") [] (record { dest = 2; expr = One (leaf.Number 1) } ∷ [])
+    ∷ action (codes "on") [] []
+    ∷ action (codes "one") [] (record { dest = 1; expr = One (leaf.Number 1) } ∷ [])
+    ∷ action (codes "two") [] (record { dest = 1; expr = One (leaf.Number 2) } ∷ [])
+    ∷ action (codes "three") [] (record { dest = 1; expr = One (leaf.Number 3) } ∷ []) ∷ [])
+    (record { name = codes "t"; kind = Exact; key = 4 ∷ []; actions = 0 ∷ 1 ∷ []; default = 1; args = []; size = 4; counted = true }
+    ∷ keyless (codes "a") 2 ∷ keyless (codes "b") 3 ∷ keyless (codes "c") 4 ∷ [])
+    (apply_table 0 ∷ apply_in_arm 0 4 1 ∷ apply_in_arm 0 65528 2 ∷ apply_in_arm 0 2 3 ∷ [])
 
 -- its entries `t 7 stop` and `t 8 on`
 abbrev pub stop_and_on : List (List Entry)
@@ -210,13 +191,10 @@ stop_and_on =
 
 -- header h { a : 8; b : 8; } and a table exact on both, whose action sends a packet back where it came from; the default does nothing
 abbrev pub two_keys : Program
-two_keys = record {
-  fields = with_fields (field (codes "h.a") 8 ∷ field (codes "h.b") 8 ∷ []);
-  headers = header (4 ∷ 5 ∷ []) 2 ∷ [];
-  actions = action (codes "back") [] (record { dest = 1; expr = One (leaf.Field 0) } ∷ []) ∷ action (codes "no") [] [] ∷ [];
-  tables = record { name = codes "t"; kind = Exact; key = 4 ∷ 5 ∷ []; actions = 0 ∷ []; default = 1; args = []; size = 4; counted = false } ∷ [];
-  nodes = apply_table 0 ∷ [];
-}
+two_keys =
+    one_table (field (codes "h.a") 8 ∷ field (codes "h.b") 8 ∷ []) (header (4 ∷ 5 ∷ []) 2)
+    (action (codes "back") [] (record { dest = 1; expr = One (leaf.Field 0) } ∷ []) ∷ action (codes "no") [] [] ∷ [])
+    (record { name = codes "t"; kind = Exact; key = 4 ∷ 5 ∷ []; actions = 0 ∷ []; default = 1; args = []; size = 4; counted = false })
 
 -- its entry `t 1 2 back`
 abbrev pub both_keys : List (List Entry)
@@ -233,13 +211,9 @@ two_hits = record two_keys {
 
 -- header h { n : 4; z : 4; tail n * 4 - 4; } next accept and one table whose default sends to port 1
 abbrev pub with_tail : Program
-with_tail = record {
-  fields = with_fields (field (codes "h.n") 4 ∷ field (codes "h.z") 4 ∷ []);
-  headers = record (header (4 ∷ 5 ∷ []) 1) { tail = Some (record { field = 4; unit = 4; base = 4 }) } ∷ [];
-  actions = action (codes "send") [] (record { dest = 1; expr = One (leaf.Number 1) } ∷ []) ∷ [];
-  tables = keyless (codes "t") 0 ∷ [];
-  nodes = apply_table 0 ∷ [];
-}
+with_tail =
+    one_default (field (codes "h.n") 4 ∷ field (codes "h.z") 4 ∷ []) (record (header (4 ∷ 5 ∷ []) 1) { tail = Some (record { field = 4; unit = 4; base = 4 }) })
+    (action (codes "send") [] (record { dest = 1; expr = One (leaf.Number 1) } ∷ []))
 
 -- header h { n : 8; tail n * 1 - 0; } next g, header g { x : 8; } next accept, and no table
 abbrev pub tail_between : Program
@@ -255,16 +229,8 @@ tail_between = record {
 
 -- the same headers, and one table whose default does h.n = 9;
 abbrev pub tail_stays : Program
-tail_stays = record tail_between {
-  actions = action (codes "grow") [] (record { dest = 4; expr = One (leaf.Number 9) } ∷ []) ∷ [];
-  tables = keyless (codes "t") 0 ∷ [];
-  nodes = apply_table 0 ∷ [];
-}
+tail_stays = with_default tail_between (action (codes "grow") [] (record { dest = 4; expr = One (leaf.Number 9) } ∷ []))
 
 -- the same headers, and one table whose default does h.valid = 0;
 abbrev pub tail_goes : Program
-tail_goes = record tail_between {
-  actions = action (codes "strip") [] (record { dest = 3; expr = One (leaf.Number 0) } ∷ []) ∷ [];
-  tables = keyless (codes "t") 0 ∷ [];
-  nodes = apply_table 0 ∷ [];
-}
+tail_goes = with_default tail_between (action (codes "strip") [] (record { dest = 3; expr = One (leaf.Number 0) } ∷ []))

@@ -1,6 +1,6 @@
 -- What holds of each item and its number, and what holds of each item and each later one, shown item by item.
 use Rattle.std.proofs.Common.{◌≡◌, ◌≢◌, ℕ, zero, suc, ◌+◌, Bool, true, not, ◌&&◌, List, [], ◌∷◌, ◌++◌, length, Option, Some, None, ap, subst, arith, drop, map, option_map, ◌<◌, ◌≤◌, ◌∙◌, refl}
-use Rattle.std.specs.Prelude.{⊤, slice_get, ◌==◌, unwrap_or, AllPairs, slice_index}
+use Rattle.std.specs.Prelude.{⊤, slice_get, ◌==◌, unwrap_or, slice_index}
 use Rattle.std.specs.List.{list_all}
 use Rattle.std.proofs.lemmas.Bool.{and_parts, not-true, eqb-false}
 use Rattle.std.proofs.lemmas.Option.{none-some, same_Some}

@@ -4,8 +4,7 @@ ghost use Rattle.std.specs.Prelude.{◌≡◌, IfOk};
 
 use crate::entry::{Entry, EntryLists};
 use crate::name::{Name, NamesFault};
-use crate::names::{ActionName, Names, RankOf, TableName};
-use crate::program::Test;
+use crate::names::{ActionName, Names, TableName};
 use rmt_bits::fault::OutOfMemory;
 use rmt_bits::sequence::Sequence;
 use std::alloc::{AllocError, Global};
@@ -28,33 +27,16 @@ fn copied_each<T: Copied>(alloc: Global, items: &[T]) -> Result<Sequence<T>, All
     Ok(copies)
 }
 
+/// Equal numbers, tests or ranks, in their order.
+fn copied_plain<T: Copy>(alloc: Global, items: &Sequence<T>) -> Result<Sequence<T>, AllocError>
+    ensures { IfOk result (λ copies. copies ≡ items.now) }
+{
+    Ok(Sequence::from_vec(Vec::from_slice(alloc, items.as_slice())?))
+}
+
 impl<T: Copied> Copied for Sequence<T> {
     fn copied(&self, alloc: Global) -> Result<Self, AllocError> {
         copied_each(alloc, self.as_slice())
-    }
-}
-
-impl Copied for u8 {
-    fn copied(&self, _alloc: Global) -> Result<Self, AllocError> {
-        Ok(*self)
-    }
-}
-
-impl Copied for u128 {
-    fn copied(&self, _alloc: Global) -> Result<Self, AllocError> {
-        Ok(*self)
-    }
-}
-
-impl Copied for Test {
-    fn copied(&self, _alloc: Global) -> Result<Self, AllocError> {
-        Ok(*self)
-    }
-}
-
-impl Copied for RankOf {
-    fn copied(&self, _alloc: Global) -> Result<Self, AllocError> {
-        Ok(*self)
     }
 }
 
@@ -72,10 +54,10 @@ impl Copied for Entry {
         Ok(Entry {
             table: self.table,
             number: self.number,
-            tests: self.tests.copied(alloc)?,
+            tests: copied_plain(alloc, &self.tests)?,
             rank: self.rank,
             action: self.action,
-            args: self.args.copied(alloc)?,
+            args: copied_plain(alloc, &self.args)?,
         })
     }
 }
@@ -84,7 +66,7 @@ impl Copied for ActionName {
     fn copied(&self, alloc: Global) -> Result<Self, AllocError> {
         Ok(ActionName {
             name: self.name.copied(alloc)?,
-            params: self.params.copied(alloc)?,
+            params: copied_plain(alloc, &self.params)?,
         })
     }
 }
@@ -96,9 +78,9 @@ impl Copied for TableName {
             name: self.name.copied(alloc)?,
             kind: self.kind,
             size: self.size,
-            keys: self.keys.copied(alloc)?,
+            keys: copied_plain(alloc, &self.keys)?,
             actions: self.actions.copied(alloc)?,
-            ranks: self.ranks.copied(alloc)?,
+            ranks: copied_plain(alloc, &self.ranks)?,
         })
     }
 }

@@ -1,9 +1,8 @@
 //! The names that a program and its entries have.
 
 ghost use Rattle.std.specs.Prelude.{◌≡◌, ◌≤◌, [], fold, length, map, slice_get, unwrap_or, option_copied, option_map, IfOk};
-ghost use Rattle.rmt_ast.specs.EntryLists.{params_of};
 ghost use Rattle.rmt_ast.specs.State.{width_of};
-ghost use Rattle.rmt_ast.specs.Naming.{action_named, has_key, if_keyed, name_of_action, named_at, names_of, ranks_in, ranks_of, table_named};
+ghost use Rattle.rmt_ast.specs.Naming.{action_named, has_key, if_keyed, named_at, names_of, ranks_in, ranks_of, table_named};
 ghost use Rattle.rmt_ast.specs.RankPairs.{rank_of_pair, rank_pair};
 
 use crate::entry::{Entry, EntryLists};
@@ -37,36 +36,26 @@ fn widths_of(alloc: Global, program: &Program, fields: &[u32]) -> Result<Bytes, 
     Ok(widths)
 }
 
-/// The bytes of an action's name.
-fn name_of_action(program: &Program, action: u32) -> &[u8]
-    ensures { result.now ≡ name_of_action program.now action }
+/// A name and the widths of parameters, put together.
+fn named(alloc: Global, name: &[u8], params: &[u8]) -> Result<ActionName, AllocError>
+    ensures { IfOk result (λ named. named ≡ record { name = name.now; params = params.now }) }
 {
-    match program.actions.get(action as usize) {
-        Some(action) => action.name.as_slice(),
-        None => b"".as_slice(),
-    }
-}
-
-/// The widths of an action's parameters.
-fn params_of(program: &Program, action: u32) -> &[u8]
-    ensures { result.now ≡ params_of program.now action }
-{
-    match program.actions.get(action as usize) {
-        Some(action) => action.params.as_slice(),
-        None => b"".as_slice(),
-    }
+    let name = Vec::from_slice(alloc, name)?;
+    let params = Vec::from_slice(alloc, params)?;
+    Ok(ActionName {
+        name: Name::from_vec(name),
+        params: Sequence::from_vec(params),
+    })
 }
 
 /// An action by its number.
 fn action_named(alloc: Global, program: &Program, action: u32) -> Result<ActionName, AllocError>
     ensures { IfOk result (λ named. named ≡ action_named program.now action) }
 {
-    let name = Vec::from_slice(alloc, name_of_action(program, action))?;
-    let params = Vec::from_slice(alloc, params_of(program, action))?;
-    Ok(ActionName {
-        name: Name::from_vec(name),
-        params: Sequence::from_vec(params),
-    })
+    match program.actions.get(action as usize) {
+        Some(action) => named(alloc, action.name.as_slice(), action.params.as_slice()),
+        None => named(alloc, b"".as_slice(), b"".as_slice()),
+    }
 }
 
 /// The actions of a table's list.

@@ -1,5 +1,5 @@
 -- Numbers in order, each once, and counters of them.
-use Rattle.std.proofs.Common.{◌≡◌, ℕ, ◌%◌, ◌^◌, ◌<◌, ◌++◌, ◌⊎◌, ◌||◌, Bool, true, false, ◌==◌, cond, List, [], ◌∷◌, length, map, get_or, inl, inr, true≢false, refl, sym, ap, subst, ◌∙◌, tests, arith}
+use Rattle.std.proofs.Common.{◌≡◌, ◌≢◌, ℕ, ◌%◌, ◌^◌, ◌<◌, ◌++◌, ◌⊎◌, ◌||◌, Bool, true, false, ◌==◌, cond, List, [], ◌∷◌, length, map, get_or, inl, inr, true≢false, refl, sym, ap, subst, ◌∙◌, tests, arith}
 use Rattle.std.specs.Prelude.{All, AllPairs, Contains, nat_lt}
 use Rattle.std.specs.List.{list_any}
 use Rattle.std.proofs.lemmas.Bool.{cases_order, ltb-true}
@@ -94,38 +94,29 @@ same_number n m h = grind (arith, tests)
 pub count_parts : (m : ℕ) {x y z w : ℕ} → x ≡ z → y ≡ w → ◌≡◌ {A = Count} (record { entry = m; packets = x % 2 ^ 48; bytes = y % 2 ^ 64 }) (record { entry = m; packets = z % 2 ^ 48; bytes = w % 2 ^ 64 })
 count_parts m {x} {y} {z} {w} e f = ap (λ (v : ℕ). record { entry = m; packets = v % 2 ^ 48; bytes = y % 2 ^ 64 }) e ∙ ap (λ (v : ℕ). record { entry = m; packets = z % 2 ^ 48; bytes = v % 2 ^ 64 }) f
 
+-- a hit is of another number where the one is among these numbers and the other is not
+abbrev is_among : List ℕ → ℕ → Bool
+is_among numbers n = list_any (λ k. k == n) numbers
+
+other_number : (numbers : List ℕ) (h : Hit) (m : ℕ) → is_among numbers m ≢ is_among numbers h.number → (x : ℕ) → cond (h.number == m) x 0 ≡ 0
+other_number numbers h m apart x = by (h.number == m) refl
+  where
+    by : (b : Bool) → (h.number == m) ≡ b → cond b x 0 ≡ 0
+    by true e = absurd (apart (ap (is_among numbers) (sym (same_number h.number m e))))
+    by false e = refl
+
 among-kept : (numbers : List ℕ) (hits : List Hit) (m : ℕ) → list_any (λ k. k == m) numbers ≡ true → count_for (hits_among numbers hits) m ≡ count_for hits m
 among-kept numbers hits m there =
-    count_parts m (sum_by-filter (λ h. cond (h.number == m) 1 0) test hits (λ h out. off h out 1))
-    (sum_by-filter (λ h. cond (h.number == m) h.bytes 0) test hits (λ h out. off h out h.bytes))
-  where
-    test : Hit → Bool
-    test h = list_any (λ k. k == h.number) numbers
-
-    off : (h : Hit) → test h ≡ false → (x : ℕ) → cond (h.number == m) x 0 ≡ 0
-    off h out x = by (h.number == m) refl
-      where
-        by : (b : Bool) → (h.number == m) ≡ b → cond b x 0 ≡ 0
-        by true e = absurd (true≢false (sym there ∙ ap (λ n. list_any (λ k. k == n) numbers) (sym (same_number h.number m e)) ∙ out))
-        by false e = refl
+    let off = λ (h : Hit) (out : is_among numbers h.number ≡ false). other_number numbers h m (λ same. true≢false (sym there ∙ same ∙ out)) in
+    let test = λ (h : Hit). is_among numbers h.number in
+    count_parts m (sum_by-filter (λ h. cond (h.number == m) 1 0) test hits (λ h out. off h out 1)) (sum_by-filter (λ h. cond (h.number == m) h.bytes 0) test hits (λ h out. off h out h.bytes))
 
 among-none : (numbers : List ℕ) (hits : List Hit) (m : ℕ) → list_any (λ k. k == m) numbers ≡ false → zero_count m ≡ count_for (hits_among numbers hits) m
 among-none numbers hits m out =
-    sym (parts (sum_by-filter_none (λ h. cond (h.number == m) 1 0) test hits (λ h there. off h there 1))
+    let off = λ (h : Hit) (there : is_among numbers h.number ≡ true). other_number numbers h m (λ same. true≢false (sym there ∙ sym same ∙ out)) in
+    let test = λ (h : Hit). is_among numbers h.number in
+    sym (count_parts m (sum_by-filter_none (λ h. cond (h.number == m) 1 0) test hits (λ h there. off h there 1))
     (sum_by-filter_none (λ h. cond (h.number == m) h.bytes 0) test hits (λ h there. off h there h.bytes)))
-  where
-    test : Hit → Bool
-    test h = list_any (λ k. k == h.number) numbers
-
-    off : (h : Hit) → test h ≡ true → (x : ℕ) → cond (h.number == m) x 0 ≡ 0
-    off h there x = by (h.number == m) refl
-      where
-        by : (b : Bool) → (h.number == m) ≡ b → cond b x 0 ≡ 0
-        by true e = absurd (true≢false (sym there ∙ ap (λ n. list_any (λ k. k == n) numbers) (same_number h.number m e) ∙ out))
-        by false e = refl
-
-    parts : {x y : ℕ} → x ≡ 0 → y ≡ 0 → ◌≡◌ {A = Count} (record { entry = m; packets = x % 2 ^ 48; bytes = y % 2 ^ 64 }) (record { entry = m; packets = 0; bytes = 0 })
-    parts {x} {y} e f = ap (λ (v : ℕ). record { entry = m; packets = v % 2 ^ 48; bytes = y % 2 ^ 64 }) e ∙ ap (λ (v : ℕ). record { entry = m; packets = 0; bytes = v % 2 ^ 64 }) f
 
 -- what is in order is of the list, and all of the list is in order
 pub All-with_number : (P : ℕ → Type 0) (n : ℕ) (ms : List ℕ) → P n → All P ms → All P (with_number n ms)

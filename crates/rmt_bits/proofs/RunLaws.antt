@@ -8,7 +8,7 @@ use Rattle.std.proofs.lemmas.List.Elements.{All-append, All-cons, All-head, All-
 use Rattle.std.proofs.lemmas.List.Sums.{sum_by-append, sum_by-cons, sum_by-set}
 use Rattle.std.proofs.lemmas.Option.{slice_get_past}
 use Rattle.rmt_bits.specs.declared.answer.Count.{Count}
-use Rattle.rmt_bits.specs.Counting.{counted, AreRising, with_count, joined, sizes_of, HaveRoom}
+use Rattle.rmt_bits.specs.Counting.{counted, with_hit, AreRising, with_count, joined, sizes_of, HaveRoom}
 use Rattle.rmt_bits.proofs.CountLaws.{counted-among, with_count-among, with_count-length, with_count-rises, with_count-some}
 use Rattle.rmt_bits.proofs.PairLaws.{AllPairs-head, AllPairs-left, AllPairs-right, AllPairs-across}
 
@@ -253,12 +253,64 @@ pub get-front : {X : Type 0} (xs ys rest : List X) (n : ℕ) → drop n xs ≡ y
 get-front xs [] rest n is none = slice_get_past xs n (none refl)
 get-front xs (y ∷ ys) rest n is none = slice_get-drop xs n ∙ ap (λ zs. slice_get zs 0) is
 
--- what an addition in a run that was looked up leaves
-pub added : (seen runs : List (List Count)) (k n : ℕ) (was run : List Count) → seen ≡ runs → AreRising (joined runs) → k < length seen
-    → All (λ (c : Count). c.entry < n) (joined (take k seen)) → All (λ (c : Count). n < c.entry) (joined (drop (k + 1) seen))
-    → was ≡ get_or runs k was → (AreRising was → run ≡ with_count n was)
-    → Grown runs k n run × (was ≡ get_or runs k []) × (k < length runs)
-added seen runs k n was run same rising inside below above read add =
-    let here = belongs seen runs k n same rising inside below above in
+-- what an addition in a run that was looked up leaves, where the run had `before` counters and then has `size`
+pub record Added (runs : List (List Count)) (k n before size : ℕ) (run : List Count) : Type 0 where
+  pub inside : k < length runs
+  pub was_is : before ≡ length (get_or runs k [])
+  pub size_is : size ≡ length run
+  pub grown : Grown runs k n run
+  pub lower : before ≤ size
+  pub upper : size ≤ before + 1
+  pub total : length (joined (set runs k run)) + before ≡ length (joined runs) + size
+
+pub added : (runs : List (List Count)) (k n before size : ℕ) (was run : List Count) → Belongs runs k n → was ≡ get_or runs k was
+    → before ≡ length was → (AreRising was → run ≡ with_count n was) → size ≡ length run → Added runs k n before size run
+added runs k n before size was run here read before_is add size_is =
     let is = get_or_read runs k was here.inside read [] in
-    (grown runs k n run here (subst (λ (cs : List Count). AreRising cs → run ≡ with_count n cs) is add), is, here.inside)
+    let g = grown runs k n run here (subst (λ (cs : List Count). AreRising cs → run ≡ with_count n cs) is add) in
+    let was_is : before ≡ length (get_or runs k []) = before_is ∙ ap (λ (cs : List Count). length cs) is in
+    record {
+      inside = here.inside;
+      was_is = was_is;
+      size_is = size_is;
+      grown = g;
+      lower = omega arith;
+      upper = omega arith;
+      total = omega arith;
+    }
+
+-- what a hit in a run that was looked up leaves
+pub record HitBy (runs : List (List Count)) (k n bytes : ℕ) (run : List Count) : Type 0 where
+  pub joined_is : joined (set runs k run) ≡ counted bytes (joined runs) n
+  pub sizes_are : sizes_of (set runs k run) ≡ sizes_of runs
+
+pub hit_by : (runs : List (List Count)) (k n bytes : ℕ) (was run : List Count) → Belongs runs k n → was ≡ get_or runs k was
+    → (AreRising was → run ≡ counted bytes was n) → HitBy runs k n bytes run
+hit_by runs k n bytes was run here read hit =
+    let is = get_or_read runs k was here.inside read [] in
+    let of_run = subst (λ (cs : List Count). AreRising cs → run ≡ counted bytes cs n) is hit in
+    let size : length run ≡ length (get_or runs k []) =
+    ap (λ (cs : List Count). length cs) (of_run (run-rises runs k here.inside here.rising)) ∙ length-map (get_or runs k []) (with_hit n bytes) in
+    record {
+      joined_is = joined_hit runs k n bytes run here of_run;
+      sizes_are = sizes_same runs k run here.inside size;
+    }
+
+-- the room that is left by a run that took a number or none, and by one that is full then and is cut in two
+size_of : (runs : List (List Count)) (k : ℕ) → k < length runs → get_or (sizes_of runs) k 0 ≡ length (get_or runs k [])
+size_of runs k lt = get_or-map (λ (run : List Count). length run) runs k [] 0 lt
+
+among_sizes : (runs : List (List Count)) (k : ℕ) → k < length runs → k < length (sizes_of runs)
+among_sizes runs k lt = subst (λ m. k < m) (sym (length-map runs (λ (run : List Count). length run))) lt
+
+pub room_grown : (runs : List (List Count)) (k free room more : ℕ) (run : List Count) → k < length runs → HaveRoom (sizes_of runs) free room
+    → 0 < length run → length run < 256 → length run ≡ length (get_or runs k []) + more → more ≤ 1 → more ≤ room
+    → HaveRoom (sizes_of (set runs k run)) free (room - more)
+room_grown runs k free room more run lt h some small is one within =
+    subst (λ (ns : List ℕ). HaveRoom ns free (room - more)) (sym (sizes_set runs k run))
+    (HaveRoom-set (sizes_of runs) free room k (length run) more h (among_sizes runs k lt) some small (omega (arith, size_of runs k lt)) one within)
+
+pub room_cut : (runs : List (List Count)) (k free room : ℕ) → k < length runs → HaveRoom (sizes_of runs) free room → length (get_or runs k []) ≡ 255 → 0 < room
+    → (0 < free) × HaveRoom (take k (sizes_of runs) ++ 128 ∷ 128 ∷ drop (k + 1) (sizes_of runs)) (free - 1) (room - 1)
+room_cut runs k free room lt h full some =
+    HaveRoom-cut (sizes_of runs) free room k h (among_sizes runs k lt) (omega (arith, size_of runs k lt)) some

@@ -69,23 +69,7 @@ fn put(group: &mut Group, values: Vec<u128>, at: usize) -> Result<(), AllocError
     }
 }
 
-/// The number of a new group of some masks, whose first row stands at a place.
-fn begin(
-    alloc: Global,
-    grouping: &mut Grouping,
-    masks: Vec<u128>,
-    at: usize,
-) -> Result<usize, AllocError>
-    ensures { IfOk result (Chosen masks.items at grouping.old grouping.new) }
-{
-    let number = grouping.groups.len();
-    let name = Vec::from_slice(alloc, &masks)?;
-    put_place(&mut grouping.index, name, number)?;
-    grouping.groups.push(group_of(alloc, masks, at))?;
-    Ok(number)
-}
-
-/// The number of the group of some masks; where there is none, of a new one.
+/// The number of the group of some masks; where there is none, of a new one, whose first row stands at a place.
 fn choose(
     alloc: Global,
     grouping: &mut Grouping,
@@ -94,10 +78,14 @@ fn choose(
 ) -> Result<usize, AllocError>
     ensures { IfOk result (Chosen masks.items at grouping.old grouping.new) }
 {
-    match place_of(&grouping.index, &masks) {
-        Some(number) => Ok(number),
-        None => begin(alloc, grouping, masks, at),
+    if let Some(number) = place_of(&grouping.index, &masks) {
+        return Ok(number);
     }
+    let number = grouping.groups.len();
+    let name = Vec::from_slice(alloc, &masks)?;
+    put_place(&mut grouping.index, name, number)?;
+    grouping.groups.push(group_of(alloc, masks, at))?;
+    Ok(number)
 }
 
 /// Adds a row at a place behind those of all others.

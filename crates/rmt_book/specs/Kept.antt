@@ -1,6 +1,6 @@
 -- A cell with an entry, as a book keeps it, against what the cell holds.
-use Rattle.std.specs.Prelude.{◌≡◌, ℕ, ◌+◌, ◌*◌, ◌/◌, ◌%◌, ◌^◌, ◌<◌, ◌≤◌, List, length, All}
-use Rattle.rmt_bits.specs.Bits.{number_of, slice}
+use Rattle.std.specs.Prelude.{◌≡◌, ℕ, ◌/◌, ◌%◌, List, length}
+use Rattle.rmt_bits.specs.Bits.{number_of}
 use Rattle.rmt_config.specs.declared.config.CellNumber.{CellNumber}
 use Rattle.rmt_config.specs.declared.config.Memory.{Memory}
 use Rattle.rmt_config.specs.declared.config.Memory.TheVariants.{Without, Exact, Ternary}
@@ -10,14 +10,6 @@ use Rattle.rmt_config.specs.LaneForm.{bits_of_lanes}
 use Rattle.rmt_config.specs.RunCells.{written_mask}
 use Rattle.rmt_config.specs.BlockCounts.{divided_up}
 use Rattle.rmt_book.specs.declared.kept.Kept.{Kept}
-use Rattle.rmt_book.specs.Words.{joined}
-
--- a number stands in words of 112 bits, as so many bits from one on
-pub record Tells (words : List ℕ) (low len v : ℕ) : Type 0 where
-  pub small : All (λ w. w < 2 ^ 112) words
-  pub within : low + len ≤ 112 * length words
-  pub few : low + len < 2 ^ 32
-  pub value : slice (joined 112 words) low len ≡ v
 
 -- a cell of a memory with a key of that many bits holds this, and has that number
 pub record IsKept (bits : ℕ) (m : Memory) (x : Content) (n : CellNumber) (k : Kept) : Type 0 where

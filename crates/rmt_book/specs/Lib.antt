@@ -1,5 +1,7 @@
 pub mod BookSpots
 pub mod Coming
+pub mod Entries
+pub mod Formed
 pub mod Kept
 pub mod Listed
 pub mod Numbered

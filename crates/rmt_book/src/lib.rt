@@ -2,7 +2,7 @@
 #![tactic(auto)]
 
 mod cells;
-mod entry_words;
+mod entry;
 pub mod grid;
 pub mod kept;
 pub mod nodes;

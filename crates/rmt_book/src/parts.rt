@@ -1,15 +1,10 @@
 //! What the cells of the parts of a table hold.
 
 ghost use Rattle.std.specs.Prelude.{◌<◌, IfOk};
-ghost use Rattle.rmt_config.specs.Cells.{cells_in};
-ghost use Rattle.rmt_config.specs.LaneForm.{bits_of_lanes};
-ghost use Rattle.rmt_config.specs.MemoryRules.{MemoryIsFormed};
-ghost use Rattle.rmt_config.specs.PartStands.{PartStands};
-ghost use Rattle.rmt_config.specs.PartsTold.{part_at};
-ghost use Rattle.rmt_config.specs.RunCells.{own_content};
+ghost use Rattle.rmt_book.specs.Formed.{MemoryIsFormed, PartStands, bits_of_lanes, cells_in, own_content, part_at};
 ghost use Rattle.rmt_book.specs.Kept.{HasBytes, IsKept};
 
-use crate::cells::{ExactMemory, exact_cell, ternary_cell};
+use crate::cells::{ExactMemory, TernaryCell, exact_cell, ternary_cell};
 use crate::kept::Kept;
 use rmt_config::config::{CellNumber, Config, Memory};
 use rmt_config::form::names::part_list::Part;
@@ -60,12 +55,14 @@ pub fn cell_of(
             ..
         } => ternary_cell(
             alloc,
-            stage,
-            part.slot,
-            *quanta,
-            keys.as_slice(),
-            records.as_slice(),
-            number,
+            &TernaryCell {
+                stage,
+                slot: part.slot,
+                quanta: *quanta,
+                keys: keys.as_slice(),
+                records: records.as_slice(),
+                number,
+            },
         ),
     }
 }

@@ -1,34 +1,11 @@
-//! What rows of blocks side by side hold, as words.
+//! What rows of TCAM blocks side by side compare, as words.
 
 ghost use Rattle.std.specs.Prelude.{◌≡◌, ◌<◌, IfOk, map};
-ghost use Rattle.rmt_config.specs.Cells.{sram_row, tcam_row};
-ghost use Rattle.rmt_config.specs.MemoryRules.{SramRows};
-ghost use Rattle.rmt_config.specs.PrefixRow.{PrefixRows};
-ghost use Rattle.rmt_config.specs.declared.config.TcamRow.{TcamRow as TcamRowOf};
+ghost use Rattle.rmt_book.specs.Formed.{PrefixRows, TcamRow as TcamRowOf, tcam_row};
 
-use rmt_config::config::{SramRow, TcamRow};
-use rmt_config::form::sram::{Near, row_bits};
+use rmt_config::config::TcamRow;
 use rmt_config::form::tcam::row_compared;
 use std::alloc::{AllocError, Global};
-
-/// What a row of SRAM blocks holds, a word a block. The only fault is want of memory.
-pub fn sram_words(
-    alloc: Global,
-    rows: &[SramRow],
-    blocks: &[u8],
-    row: u64,
-) -> Result<Vec<u128>, AllocError>
-    requires rows { SramRows rows.now }
-    requires row { row < 1024 }
-    ensures { IfOk result (λ words. words.items ≡ map (λ b. sram_row rows.now b row) blocks.now) }
-{
-    let mut words = Vec::with_capacity(alloc, blocks.len())?;
-    let mut near = Near::new();
-    for block in blocks {
-        words.push(row_bits(rows, *block, 0, row, &mut near))?;
-    }
-    Ok(words)
-}
 
 /// What a row of TCAM blocks compares, a word a block.
 #[derive(Drop)]

@@ -3,14 +3,7 @@
 ghost use Rattle.std.specs.Prelude.{◌≡◌, ℕ, IfOk, IsTrue, sum, unwrap_or};
 ghost use Rattle.std.specs.BTreeMap.{get};
 ghost use Rattle.std.specs.Ordering.{nat_cmp};
-ghost use Rattle.rmt_ast.specs.NameRules.{table_is_formed};
-ghost use Rattle.rmt_config.specs.Form.{items_are_formed};
-ghost use Rattle.rmt_config.specs.KeysSeen.{WaysLow};
-ghost use Rattle.rmt_config.specs.LaneForm.{bits_of_lanes};
-ghost use Rattle.rmt_config.specs.MemoryRules.{MemoryIsFormed};
-ghost use Rattle.rmt_config.specs.NamesForm.{has_key_bits, has_parts, is_of_kind, rank_told};
-ghost use Rattle.rmt_config.specs.PartStands.{PartStands};
-ghost use Rattle.rmt_config.specs.PartsTold.{part_at};
+ghost use Rattle.rmt_book.specs.Formed.{MemoryIsFormed, PartStands, WaysLow, bits_of_lanes, has_key_bits, has_parts, is_of_kind, items_are_formed, part_at, rank_told, table_is_formed};
 ghost use Rattle.rmt_book.specs.Listed.{AreListed, IsListed};
 
 use crate::kept::Kept;

@@ -52,11 +52,9 @@ small_format Ternary n need f is = subst IsSmall (sym is) (ternary_small n need)
 pub ternary_fits_stage : (n : Need) → IsNeed n → FitsAStage (ternary_format n)
 ternary_fits_stage n need =
     let small = ternary_small n need in record {
-      blocks = ternary_blocks n;
-      sram = small.sram;
+      sram = (ternary_blocks n, small.sram);
       tcam = small.tcam;
-      has_quanta = omega (arith, need.has_size);
-      quanta = small.quanta;
+      quanta = (omega (arith, need.has_size), small.quanta);
     }
 
 -- what a table needs, by the bits that are found of its key and data

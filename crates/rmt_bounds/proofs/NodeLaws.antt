@@ -20,7 +20,7 @@ use Rattle.rmt_pack.specs.declared.format.Need.{Need}
 use Rattle.rmt_pack.specs.Formats.{divided_up, record_width, records_a_row, record_units, no_memory, ternary_format, exact_format, exact_formats, memory_format, whole, goes_before, IsFormat, IsExactFormat, IsNeed, HasNeed}
 use Rattle.rmt_pack.specs.Placements.{IsNodeFormat, table_need}
 use Rattle.rmt_pack.proofs.FormatLaws.{of_formats, formats_are, records_a_row-some, record_blocks-le, exact_format-taken}
-use Rattle.rmt_pack.proofs.NeedLaws.{has_need}
+use Rattle.rmt_pack.proofs.NeedLaws.{has_need, own_format as table_format}
 use Rattle.rmt_bounds.specs.Bounds.{fit_alone, stages_for, least, least_stages, stages_of_what, node_stages, format_of_what}
 use Rattle.rmt_bits.proofs.AllLaws.{All-unmap}
 
@@ -197,21 +197,10 @@ blocks-le blocks of none p is (Apply t) f format = at (slice_get p.tables t) ref
 
 -- ---- each node has a format
 
-own_of_kind : (kind : Kind) (n : Need) → HasNeed kind n → IsFormat kind n (memory_format kind n)
-own_of_kind Keyless n need = refl
-own_of_kind Exact n need = (exact_format-taken n need).format
-own_of_kind Prefix n need = refl
-own_of_kind Ternary n need = refl
-
 -- the format that is taken is a format of the node
 pub own_format : (p : Program) → IsProgram p → (what : What) → IsNodeFormat p what (format_of_what p what)
 own_format p is (Gate field test) = refl
-own_format p is (Apply t) = at (slice_get p.tables t) refl
-  where
-    at : (o : Option Table) → slice_get p.tables t ≡ o
-        → IfSome o (λ (table : Table). IsFormat table.kind (table_need p table) (unwrap_or (option_map (λ (other : Table). memory_format other.kind (table_need p other)) o) no_memory))
-    at None found = tt
-    at (Some table) found = own_of_kind table.kind (table_need p table) (has_need p is t table found)
+own_format p is (Apply t) = table_format p is t
 
 -- each node stands in a stage at least
 pub node-some : (p : Program) → IsProgram p → (n : ℕ) → n < length p.nodes → 1 ≤ node_stages p n

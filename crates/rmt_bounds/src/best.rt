@@ -3,7 +3,7 @@
 ghost use Rattle.std.specs.Prelude.{◌≡◌, ◌+◌, ◌-◌, ◌*◌, ◌<◌, ◌≤◌, ℕ, List, [], ◌∷◌, ◌++◌, length, slice_index, IfOk, IfSome, position, ◌==◌};
 ghost use Rattle.rmt_ast.specs.WellFormed.{IsProgram};
 ghost use Rattle.rmt_bounds.specs.Bounds.{EdgesRise, shared as shared_on, least_of, node_stages as stages_of_node, best_of_node as best_of, all_bests as bests_of, greatest as greatest_of, node_before as before, chain_to as chain_ending_in, longest_chain as chain_of};
-ghost use Rattle.rmt_bounds.specs.Fits.{AreSmall};
+ghost use Rattle.rmt_bounds.specs.Fits.{AreSmall, HasBests};
 
 use crate::stages::node_stages;
 use rmt_ast::deps::Edge;
@@ -12,6 +12,17 @@ use rmt_bits::answer::Numbers;
 use rmt_bits::sequence::Sequence;
 use rmt_pack::placement::is_strict;
 use std::alloc::{AllocError, Global};
+
+/// The nodes of a program, its field edges, and the best of each node.
+#[derive(Clone, Copy)]
+pub struct Chains<'a> {
+    /// The program.
+    pub program: &'a Program,
+    /// Its field edges.
+    pub edges: &'a [Edge],
+    /// The best of each node.
+    pub bests: &'a [u32],
+}
 
 /// The number at a place; 0 past the end.
 fn number_at(numbers: &[u32], at: u32) -> u32
@@ -100,17 +111,15 @@ fn with_least(least: Option<u32>, number: u32) -> Option<u32>
 }
 
 /// The least node from which an edge gives the best of a node, which stands in so many stages itself.
-fn node_before(program: &Program, edges: &[Edge], bests: &[u32], node: u32) -> u32
-    requires program { IsProgram program.now }
-    requires rise { EdgesRise program.now edges.now }
-    requires bests { AreSmall bests.now }
-    ensures { result ≡ before program.now edges.now bests.now node }
+fn node_before(chains: &Chains, node: u32) -> u32
+    requires { HasBests chains.now.program.now chains.now.edges.now chains.now.bests.now }
+    ensures { result ≡ before chains.now.program.now chains.now.edges.now chains.now.bests.now node }
 {
-    let stages = node_stages(program, node);
-    let best = number_at(bests, node);
+    let stages = node_stages(chains.program, node);
+    let best = number_at(chains.bests, node);
     let mut least = None;
-    for edge in edges {
-        if edge.to == node && through(bests, edge, stages) == best {
+    for edge in chains.edges {
+        if edge.to == node && through(chains.bests, edge, stages) == best {
             least = with_least(least, edge.from);
         }
     }
@@ -118,27 +127,18 @@ fn node_before(program: &Program, edges: &[Edge], bests: &[u32], node: u32) -> u
 }
 
 /// The chain that ends in a node, of at most so many nodes.
-fn chain_to(
-    alloc: Global,
-    program: &Program,
-    edges: &[Edge],
-    bests: &[u32],
-    nodes: usize,
-    node: u32,
-) -> Result<Numbers, AllocError>
-    requires program { IsProgram program.now }
-    requires rise { EdgesRise program.now edges.now }
-    requires bests { AreSmall bests.now }
-    ensures { IfOk result (λ chain. chain ≡ chain_ending_in program.now edges.now bests.now nodes node) }
+fn chain_to(alloc: Global, chains: &Chains, nodes: usize, node: u32) -> Result<Numbers, AllocError>
+    requires { HasBests chains.now.program.now chains.now.edges.now chains.now.bests.now }
+    ensures { IfOk result (λ chain. chain ≡ chain_ending_in chains.now.program.now chains.now.edges.now chains.now.bests.now nodes node) }
 {
     if nodes == 0 {
         return Ok(Sequence::new(alloc));
     }
-    let mut chain = if number_at(bests, node) == node_stages(program, node) {
+    let mut chain = if number_at(chains.bests, node) == node_stages(chains.program, node) {
         Sequence::new(alloc)
     } else {
-        let earlier = node_before(program, edges, bests, node);
-        chain_to(alloc, program, edges, bests, nodes - 1, earlier)?
+        let earlier = node_before(chains, node);
+        chain_to(alloc, chains, nodes - 1, earlier)?
     };
     chain.push(node)?;
     Ok(chain)
@@ -153,22 +153,15 @@ fn first_place(numbers: &[u32], number: u32) -> Option<usize>
 }
 
 /// The chain that ends in the first node of greatest best.
-pub fn longest_chain(
-    alloc: Global,
-    program: &Program,
-    edges: &[Edge],
-    bests: &[u32],
-) -> Result<Numbers, AllocError>
-    requires program { IsProgram program.now }
-    requires rise { EdgesRise program.now edges.now }
-    requires bests { bests.now ≡ bests_of program.now edges.now }
-    requires small { AreSmall bests.now }
-    requires few { length bests.now ≤ 128 }
-    ensures { IfOk result (λ chain. chain ≡ chain_of program.now edges.now) }
+pub fn longest_chain(alloc: Global, chains: &Chains) -> Result<Numbers, AllocError>
+    requires chains { HasBests chains.now.program.now chains.now.edges.now chains.now.bests.now }
+    requires bests { chains.now.bests.now ≡ bests_of chains.now.program.now chains.now.edges.now }
+    requires few { length chains.now.bests.now ≤ 128 }
+    ensures { IfOk result (λ chain. chain ≡ chain_of chains.now.program.now chains.now.edges.now) }
 {
-    let most = greatest(bests);
-    match first_place(bests, most) {
+    let most = greatest(chains.bests);
+    match first_place(chains.bests, most) {
         None => Ok(Sequence::new(alloc)),
-        Some(node) => chain_to(alloc, program, edges, bests, bests.len(), node as u32),
+        Some(node) => chain_to(alloc, chains, chains.bests.len(), node as u32),
     }
 }

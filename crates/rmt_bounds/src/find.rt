@@ -6,76 +6,63 @@ ghost use Rattle.rmt_pack.specs.declared.placement.Placement.{Placement};
 ghost use Rattle.rmt_pack.specs.Formats.{divided_up};
 ghost use Rattle.rmt_pack.specs.Placements.{IsLegal};
 ghost use Rattle.rmt_bounds.specs.Bounds.{EdgesRise, stage_bound, four_bounds, proof_of, greatest as greatest_number, all_bests as all_bests_of, sram_sum as sram_of, tcam_sum as tcam_of, table_count as tables_of};
-ghost use Rattle.rmt_bounds.specs.Fits.{AreSmall};
+ghost use Rattle.rmt_bounds.specs.Fits.{HasBests};
 ghost use Rattle.rmt_bounds.specs.Proofs.{Gives};
 ghost use Rattle.rmt_bounds.specs.Used.{stages_used};
 
-use crate::best::{all_bests, greatest, longest_chain};
+use crate::best::{Chains, all_bests, greatest, longest_chain};
 use crate::bound::{Bound, Proof};
 use crate::fault::BoundFault;
-use crate::sums::{block_sums, table_count};
-use rmt_ast::deps::{Deps, Edge};
+use crate::sums::{Blocks, block_sums, table_count};
+use rmt_ast::deps::Deps;
 use rmt_ast::program::Program;
 use rmt_pack::format::divide_up;
 use std::alloc::{AllocError, Global};
 
-/// What all nodes of a program take together.
-#[derive(Clone, Copy)]
-struct Taken {
-    /// SRAM blocks, at least.
-    sram: u32,
-    /// TCAM blocks.
-    tcam: u32,
-    /// Slots.
-    tables: u32,
-}
-
-/// The first of the four proofs that gives so many stages.
+/// The first of the four proofs that gives so many stages, for nodes that take these blocks and so many slots together.
 fn proof_for(
     alloc: Global,
-    program: &Program,
-    edges: &[Edge],
-    bests: &[u32],
-    taken: &Taken,
+    chains: &Chains,
+    blocks: &Blocks,
+    tables: u32,
     stages: u32,
 ) -> Result<Proof, AllocError>
-    requires program { IsProgram program.now }
-    requires rise { EdgesRise program.now edges.now }
-    requires bests { bests.now ≡ all_bests_of program.now edges.now }
-    requires small { AreSmall bests.now }
-    requires few { length bests.now ≤ 128 }
-    requires sram { taken.now.sram ≡ sram_of program.now }
-    requires tcam { taken.now.tcam ≡ tcam_of program.now }
-    requires tables { taken.now.tables ≡ tables_of program.now }
-    requires few_sram { taken.now.sram ≤ 6946816 }
-    requires few_tcam { taken.now.tcam ≤ 6946816 }
-    requires few_tables { taken.now.tables ≤ 128 }
-    ensures { IfOk result (λ proof. proof ≡ proof_of program.now edges.now (four_bounds program.now edges.now) stages) }
+    requires chains { HasBests chains.now.program.now chains.now.edges.now chains.now.bests.now }
+    requires bests { chains.now.bests.now ≡ all_bests_of chains.now.program.now chains.now.edges.now }
+    requires few { length chains.now.bests.now ≤ 128 }
+    requires sram { blocks.now.sram ≡ sram_of chains.now.program.now }
+    requires tcam { blocks.now.tcam ≡ tcam_of chains.now.program.now }
+    requires tables { tables ≡ tables_of chains.now.program.now }
+    requires few_sram { blocks.now.sram ≤ 6946816 }
+    requires few_tcam { blocks.now.tcam ≤ 6946816 }
+    requires few_tables { tables ≤ 128 }
+    ensures { IfOk result (λ proof. proof ≡
+        proof_of chains.now.program.now chains.now.edges.now (four_bounds chains.now.program.now chains.now.edges.now) stages) }
 {
-    if greatest(bests) == stages {
-        let chain = longest_chain(alloc, program, edges, bests)?;
+    if greatest(chains.bests) == stages {
+        let chain = longest_chain(alloc, chains)?;
         return Ok(Proof::Chain(chain));
     }
-    if divide_up(taken.sram, 106) == stages {
-        return Ok(Proof::Sram(taken.sram));
+    if divide_up(blocks.sram, 106) == stages {
+        return Ok(Proof::Sram(blocks.sram));
     }
-    if divide_up(taken.tcam, 16) == stages {
-        return Ok(Proof::Tcam(taken.tcam));
+    if divide_up(blocks.tcam, 16) == stages {
+        return Ok(Proof::Tcam(blocks.tcam));
     }
-    Ok(Proof::Slots(taken.tables))
+    Ok(Proof::Slots(tables))
 }
 
 /// The greatest of the four numbers of stages that chains, SRAM, TCAM and slots give.
-fn greatest_of_four(bests: &[u32], taken: &Taken) -> u32
-    requires few_sram { taken.now.sram ≤ 6946816 }
-    requires few_tcam { taken.now.tcam ≤ 6946816 }
-    requires few_tables { taken.now.tables ≤ 128 }
-    ensures { result ≡ greatest_number (greatest_number bests.now ∷ divided_up taken.now.sram 106 ∷ divided_up taken.now.tcam 16 ∷ divided_up taken.now.tables 16 ∷ []) }
+fn greatest_of_four(bests: &[u32], blocks: &Blocks, tables: u32) -> u32
+    requires few_sram { blocks.now.sram ≤ 6946816 }
+    requires few_tcam { blocks.now.tcam ≤ 6946816 }
+    requires few_tables { tables ≤ 128 }
+    ensures { result ≡ greatest_number (greatest_number bests.now ∷ divided_up blocks.now.sram 106 ∷ divided_up blocks.now.tcam 16 ∷ divided_up tables 16 ∷ []) }
 {
     greatest(bests)
-        .max(divide_up(taken.sram, 106))
-        .max(divide_up(taken.tcam, 16))
-        .max(divide_up(taken.tables, 16))
+        .max(divide_up(blocks.sram, 106))
+        .max(divide_up(blocks.tcam, 16))
+        .max(divide_up(tables, 16))
 }
 
 /// The stage bound of a program, and what proves it.
@@ -99,13 +86,14 @@ pub fn bound(alloc: Global, program: &Program, deps: &Deps) -> Result<Bound, Bou
 {
     let edges = deps.field.as_slice();
     let bests = all_bests(alloc, program, edges)?;
-    let blocks = block_sums(program);
-    let taken = Taken {
-        sram: blocks.sram,
-        tcam: blocks.tcam,
-        tables: table_count(program),
+    let chains = Chains {
+        program,
+        edges,
+        bests: bests.as_slice(),
     };
-    let stages = greatest_of_four(bests.as_slice(), &taken);
-    let proof = proof_for(alloc, program, edges, bests.as_slice(), &taken, stages)?;
+    let blocks = block_sums(program);
+    let tables = table_count(program);
+    let stages = greatest_of_four(chains.bests, &blocks, tables);
+    let proof = proof_for(alloc, &chains, &blocks, tables, stages)?;
     Ok(Bound { stages, proof })
 }

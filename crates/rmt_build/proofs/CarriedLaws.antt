@@ -27,7 +27,7 @@ use Rattle.rmt_build.proofs.AssemblyLaws.{code_carried}
 use Rattle.rmt_build.proofs.DistinctLaws.{told_once}
 use Rattle.rmt_build.proofs.SpotLaws.{listed_stands, part_size, table_of_part}
 use Rattle.rmt_build.proofs.TableLaws.{AreInRows, AreLoaded, table_cells}
-use Rattle.rmt_build.proofs.ToldLaws.{IsListed, told_listed}
+use Rattle.rmt_build.proofs.ToldLaws.{IsListed, slot_there, told_listed}
 
 starts_same : (stages : List Stage) (starts : List ℕ) → length stages ≡ length starts → ((k : ℕ) (s : Stage) → slice_get stages k ≡ Some s → s.start ≡ slice_index starts k)
     → map (λ (s : Stage). s.start) stages ≡ starts
@@ -68,19 +68,19 @@ module _ (p : Program) (lists : List (List Entry)) (plan : Plan) (c : Config) (e
         spot_of : (x : CellOf) → (n : ℕ) × (n < length p.nodes) × IsListed n 0 c.stages x
             → (n : ℕ) × (e : Entry) × (place : ℕ) × IsSomeAnd (slice_get lists n) (λ es. Contains es e) × (e.number ≡ x.entry) × IsSpotOf c n (record { stage = x.stage; place = place; cell = x.cell })
         spot_of x (n, lt, q) =
-            let part : Stands c n q.at q.place q.stage q.slot = record { stage_is = q.stage_is; slot_is = q.slot_is; node_is = q.node_is } in
-            let has = table_of_part p lists plan c entries units_carried stands built n q.at q.place q.stage q.slot part in
-            let its = listed_stands p lists plan c entries units_carried stands built n q.at q.place q.stage q.slot part has.table has.entries has.own has.table_is has.entries_are has.own_is q.number q.there in
-            let size = part_size p lists plan c entries units_carried stands built n q.at q.place q.stage q.slot part has.table has.entries has.own has.table_is has.entries_are has.own_is in
+            let part : Stands c n q.at q.place q.stage q.own.slot = record { stage_is = q.stage_is; slot_is = slot_there q; node_is = q.own.node_is } in
+            let has = table_of_part p lists plan c entries units_carried stands built n q.at q.place q.stage q.own.slot part in
+            let its = listed_stands p lists plan c entries units_carried stands built n q.at q.place q.stage q.own.slot part has.table has.entries has.own has.table_is has.entries_are has.own_is q.own.number q.own.there in
+            let size = part_size p lists plan c entries units_carried stands built n q.at q.place q.stage q.own.slot part has.table has.entries has.own has.table_is has.entries_are has.own_is in
             let within = its.3.within in
-            let stage : q.at ≡ x.stage = (let none : q.at ≡ 0 + q.at = omega arith in none) ∙ ap (λ (y : CellOf). y.stage) q.told in
-            let cell : q.number.cell ≡ x.cell = ap (λ (y : CellOf). y.cell) q.told in
-            let spot = spot_of_part c n q.at q.place q.number.cell q.stage q.slot part (omega (arith, within, size)) in (
+            let stage : q.at ≡ x.stage = (let none : q.at ≡ 0 + q.at = omega arith in none) ∙ ap (λ (y : CellOf). y.stage) q.own.told in
+            let cell : q.own.number.cell ≡ x.cell = ap (λ (y : CellOf). y.cell) q.own.told in
+            let spot = spot_of_part c n q.at q.place q.own.number.cell q.stage q.own.slot part (omega (arith, within, size)) in (
               n,
               its.0,
               q.place,
               and_from (slice_get lists n) (λ es. Contains es its.0) has.entries has.entries_are its.1,
-              its.2 ∙ ap (λ (y : CellOf). y.entry) q.told,
+              its.2 ∙ ap (λ (y : CellOf). y.entry) q.own.told,
               subst (λ k. IsSpotOf c n (record { stage = k; place = q.place; cell = x.cell })) stage
                   (subst (λ a. IsSpotOf c n (record { stage = q.at; place = q.place; cell = a })) cell spot),
             )

@@ -35,7 +35,7 @@ use Rattle.rmt_build.specs.Told.{cells_told}
 use Rattle.rmt_build.proofs.PartLaws.{sum_more}
 use Rattle.rmt_build.proofs.SpotLaws.{StandsAt, listed_stands, rising_place, stands_listed, table_of_part}
 use Rattle.rmt_build.proofs.StandLaws.{behind_parts, entry_there, first_cell, one_stand, some_part}
-use Rattle.rmt_build.proofs.ToldLaws.{listed_told, told_listed}
+use Rattle.rmt_build.proofs.ToldLaws.{listed_told, slot_there, told_listed}
 use Rattle.rmt_bits.proofs.MemberLaws.{Contains-map, Contains-filter}
 use Rattle.rmt_refine.proofs.RankLaws.{compare}
 
@@ -131,19 +131,19 @@ module _ (p : Program) (lists : List (List Entry)) (plan : Plan) (c : Config) (c
         let x : CellOf = record { entry = e.number; stage = at.stage; cell = at.cell } in
         let r = told_listed (length p.nodes) c.stages x (subst (λ xs. Contains xs x) cells_are told) in
         let q = r.2 in
-        let part : IsPart c r.0 q.at q.place q.stage q.slot = record { stage_is = q.stage_is; slot_is = q.slot_is; node_is = q.node_is } in
-        let has = table_of_part p lists plan c entries units stands built r.0 q.at q.place q.stage q.slot part in
-        let its = listed_stands p lists plan c entries units stands built r.0 q.at q.place q.stage q.slot part has.table has.entries has.own has.table_is has.entries_are has.own_is q.number q.there in
-        let number : q.number.number ≡ e.number = ap (λ (y : CellOf). y.entry) q.told in
+        let part : IsPart c r.0 q.at q.place q.stage q.own.slot = record { stage_is = q.stage_is; slot_is = slot_there q; node_is = q.own.node_is } in
+        let has = table_of_part p lists plan c entries units stands built r.0 q.at q.place q.stage q.own.slot part in
+        let its = listed_stands p lists plan c entries units stands built r.0 q.at q.place q.stage q.own.slot part has.table has.entries has.own has.table_is has.entries_are has.own_is q.own.number q.own.there in
+        let number : q.own.number.number ≡ e.number = ap (λ (y : CellOf). y.entry) q.own.told in
         let node : r.0 ≡ n =
         one_list lists r.0 n has.entries es e.number entries.numbers_once has.entries_are es_are
         (subst (Contains (map (λ (y : Entry). y.number) has.entries)) (its.2 ∙ number) (Contains-map (λ (y : Entry). y.number) has.entries its.0 its.1))
         (Contains-map (λ (y : Entry). y.number) es e there) in
-        let own_part : IsPart c n q.at q.place q.stage q.slot = record { stage_is = q.stage_is; slot_is = q.slot_is; node_is = q.node_is ∙ node } in
-        let s = listed_stands p lists plan c entries units stands built n q.at q.place q.stage q.slot own_part t es own table_is es_are own_is q.number q.there in
+        let own_part : IsPart c n q.at q.place q.stage q.own.slot = record { stage_is = q.stage_is; slot_is = slot_there q; node_is = q.own.node_is ∙ node } in
+        let s = listed_stands p lists plan c entries units stands built n q.at q.place q.stage q.own.slot own_part t es own table_is es_are own_is q.own.number q.own.there in
         let same : s.0 ≡ e = same_entry es s.0 e (table_entries p lists n t es entries table_is es_are).rising s.1 there (s.2 ∙ number) in
-        let stage : q.at ≡ at.stage = (let none : q.at ≡ 0 + q.at = omega arith in none) ∙ ap (λ (y : CellOf). y.stage) q.told in
-        let cell : q.number.cell ≡ at.cell = ap (λ (y : CellOf). y.cell) q.told in
+        let stage : q.at ≡ at.stage = (let none : q.at ≡ 0 + q.at = omega arith in none) ∙ ap (λ (y : CellOf). y.stage) q.own.told in
+        let cell : q.own.number.cell ≡ at.cell = ap (λ (y : CellOf). y.cell) q.own.told in
         subst (λ (y : Entry). StandsAt p plan n t es own y at.stage at.cell) same
         (subst (λ k. StandsAt p plan n t es own s.0 k at.cell) stage (subst (StandsAt p plan n t es own s.0 q.at) cell s.3))
 

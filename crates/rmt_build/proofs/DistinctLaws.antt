@@ -27,7 +27,7 @@ use Rattle.rmt_build.specs.Plans.{AreStands}
 use Rattle.rmt_filling.specs.EntryCells.{StandOnce, counted_from, stands_there, stands_within}
 use Rattle.rmt_build.specs.Told.{cell_told, cells_told, stages_told, unit_told}
 use Rattle.rmt_build.proofs.SpotLaws.{listed_stands, part_stands, slot_built, table_of_part}
-use Rattle.rmt_build.proofs.ToldLaws.{stages_listed, unit_listed}
+use Rattle.rmt_build.proofs.ToldLaws.{slot_there, stages_listed, unit_listed}
 use Rattle.rmt_bits.proofs.PairLaws.{AllPairs-map, AllPairs-append, AllPairs-none}
 use Rattle.rmt_bits.proofs.MemberLaws.{Contains-map, flat_from, Contains-unfilter}
 
@@ -103,7 +103,7 @@ module _ (p : Program) (lists : List (List Entry)) (plan : Plan) (c : Config) (e
       let one = unit_listed n first r.1 a r.3 in
       let two = stages_listed n (first + 1) stages b in_b in
       let stage_a : first ≡ a.stage = ap (λ (x : CellOf). x.stage) one.told in
-      let stage_b : first + 1 + two.at ≡ b.stage = ap (λ (x : CellOf). x.stage) two.told in
+      let stage_b : first + 1 + two.at ≡ b.stage = ap (λ (x : CellOf). x.stage) two.own.told in
       let equal = ap (λ (x : CellOf). x.stage) same in
       omega (arith, stage_a, stage_b, equal))))
 
@@ -111,10 +111,10 @@ module _ (p : Program) (lists : List (List Entry)) (plan : Plan) (c : Config) (e
   entry_told : (n : ℕ) (x : CellOf) → Contains (stages_told n 0 c.stages) x → (es : List Entry) × (slice_get lists n ≡ Some es) × Contains (map (λ (e : Entry). e.number) es) x.entry
   entry_told n x there =
       let q = stages_listed n 0 c.stages x there in
-      let part : IsPart c n q.at q.place q.stage q.slot = record { stage_is = q.stage_is; slot_is = q.slot_is; node_is = q.node_is } in
-      let has = table_of_part p lists plan c entries units stands built n q.at q.place q.stage q.slot part in
-      let its = listed_stands p lists plan c entries units stands built n q.at q.place q.stage q.slot part has.table has.entries has.own has.table_is has.entries_are has.own_is q.number q.there in
-      let number : q.number.number ≡ x.entry = ap (λ (y : CellOf). y.entry) q.told in
+      let part : IsPart c n q.at q.place q.stage q.own.slot = record { stage_is = q.stage_is; slot_is = slot_there q; node_is = q.own.node_is } in
+      let has = table_of_part p lists plan c entries units stands built n q.at q.place q.stage q.own.slot part in
+      let its = listed_stands p lists plan c entries units stands built n q.at q.place q.stage q.own.slot part has.table has.entries has.own has.table_is has.entries_are has.own_is q.own.number q.own.there in
+      let number : q.own.number.number ≡ x.entry = ap (λ (y : CellOf). y.entry) q.own.told in
       (has.entries, has.entries_are, subst (Contains (map (λ (e : Entry). e.number) has.entries)) (its.2 ∙ number) (Contains-map (λ (e : Entry). e.number) has.entries its.0 its.1))
 
   pub told_once : (nodes : ℕ) → AreDistinct (cells_told nodes c.stages)

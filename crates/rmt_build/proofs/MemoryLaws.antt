@@ -79,7 +79,7 @@ pub record Quantum (f : Format) : Type 0 where
 
 ternary_quantum_of : (t : Need) (f : Format) → IsNeed t → f ≡ ternary_format t → Quantum f
 ternary_quantum_of t f need is = record {
-  some = let sram = ap (λ (x : Format). x.sram) is in let some = (ternary_fits_stage t need).blocks in omega (arith, sram, some);
+  some = let sram = ap (λ (x : Format). x.sram) is in let some = (ternary_fits_stage t need).sram.0 in omega (arith, sram, some);
   per = let none = ap (λ (x : Format). x.per) is in omega (arith, none);
 }
 

@@ -19,6 +19,7 @@ use Rattle.rmt_build.specs.declared.fault.NoFit.{NoFit}
 use Rattle.rmt_build.specs.declared.fault.NoFit.TheVariants as no_fit
 use Rattle.rmt_build.specs.Folds.{first_deep}
 use Rattle.rmt_build.specs.Refusals.{action_told, first_refusal, packed_told, parser_told, stuck_told}
+use Rattle.rmt_build.specs.Stages.{LiesSo}
 use Rattle.rmt_bits.proofs.OptionLaws.{same_Ok}
 
 -- then the nodes are looked at
@@ -68,13 +69,12 @@ of_packing p P places packed holds other given = subst P (same_Ok places other (
 
 -- the placement by the rule, or the parts that were handed in
 pub placed_there : (p : Program) (places : List (List Lane)) (placed : Placement) (r : Result Built NoFit) → placement p places (dependencies_of p places) ≡ Ok placed.parts
-    → IfOk r (λ b. b.map.places ≡ places) → IfOk r (λ b. b.map.placement ≡ placed)
-    → IfOk r (λ b. placement p b.map.places (dependencies_of p b.map.places) ≡ Ok b.map.placement.parts)
-placed_there p places placed (Err e) is there same = tt
-placed_there p places placed (Ok b) is there same =
-    ap (λ (ps : List (List Lane)). placement p ps (dependencies_of p ps)) there ∙ is ∙ ap (λ (x : Placement). Ok x.parts) (sym same)
+    → IfOk r (λ b. LiesSo places placed b.map) → IfOk r (λ b. placement p b.map.places (dependencies_of p b.map.places) ≡ Ok b.map.placement.parts)
+placed_there p places placed (Err e) is laid = tt
+placed_there p places placed (Ok b) is laid =
+    ap (λ (ps : List (List Lane)). placement p ps (dependencies_of p ps)) laid.0 ∙ is ∙ ap (λ (x : Placement). Ok x.parts) (sym laid.1)
 
-pub parts_there : (placed : Placement) (parts : List Part) (r : Result Built NoFit) → placed.parts ≡ parts → IfOk r (λ b. b.map.placement ≡ placed)
+pub parts_there : (places : List (List Lane)) (placed : Placement) (parts : List Part) (r : Result Built NoFit) → placed.parts ≡ parts → IfOk r (λ b. LiesSo places placed b.map)
     → IfOk r (λ b. b.map.placement.parts ≡ parts)
-parts_there placed parts (Err e) is same = tt
-parts_there placed parts (Ok b) is same = ap (λ (x : Placement). x.parts) same ∙ is
+parts_there places placed parts (Err e) is laid = tt
+parts_there places placed parts (Ok b) is laid = ap (λ (x : Placement). x.parts) laid.1 ∙ is

@@ -15,19 +15,7 @@ use Rattle.rmt_pack.proofs.PartLaws.{slot_is_unit, then_some}
 use Rattle.rmt_build.specs.Told.{cell_told, cells_told, stages_told, unit_told}
 use Rattle.rmt_bits.proofs.MemberLaws.{Contains-unmap, Contains-map, Contains-item, Contains-flat_map, flat_from}
 
--- a slot of node n lists a cell
-pub record IsListed (n first : ℕ) (stages : List Stage) (x : CellOf) : Type 0 where
-  pub place : ℕ
-  pub at : ℕ
-  pub stage : Stage
-  pub slot : SlotUnit
-  pub number : CellNumber
-  pub stage_is : slice_get stages at ≡ Some stage
-  pub slot_is : slot_of stage place ≡ Some slot
-  pub node_is : slot.node ≡ n
-  pub there : Contains slot.numbers number
-  pub told : cell_told (first + at) number ≡ x
-
+-- a unit is a slot of node n that lists a cell of stage k
 pub record ListedIn (n k : ℕ) (u : Unit) (x : CellOf) : Type 0 where
   pub slot : SlotUnit
   pub number : CellNumber
@@ -35,6 +23,19 @@ pub record ListedIn (n k : ℕ) (u : Unit) (x : CellOf) : Type 0 where
   pub node_is : slot.node ≡ n
   pub there : Contains slot.numbers number
   pub told : cell_told k number ≡ x
+
+-- some unit of a stage is
+pub record IsListed (n first : ℕ) (stages : List Stage) (x : CellOf) : Type 0 where
+  pub place : ℕ
+  pub at : ℕ
+  pub stage : Stage
+  pub unit : Unit
+  pub stage_is : slice_get stages at ≡ Some stage
+  pub unit_is : slice_get stage.units place ≡ Some unit
+  pub own : ListedIn n (first + at) unit x
+
+pub slot_there : {n first : ℕ} {stages : List Stage} {x : CellOf} → (q : IsListed n first stages x) → slot_of q.stage q.place ≡ Some q.own.slot
+slot_there q = ap (option_and_then as_slot) q.unit_is ∙ q.own.unit_is
 
 -- ---- what is told is listed
 
@@ -53,34 +54,27 @@ stages_listed n first [] x there = absurd (let lt = there.1 in omega (arith, lt)
 stages_listed n first (stage ∷ stages) x there = elim (Contains-append_cases (flat_map (unit_told n first) stage.units) (stages_told n (first + 1) stages) x there) [
   | inl here ↦
       let r = flat_from (unit_told n first) stage.units x here in
-      let q = unit_listed n first r.1 x r.3 in
-      let e : first + 0 ≡ first = omega arith in
+      let e : first ≡ first + 0 = omega arith in
       record {
         place = r.0;
         at = 0;
         stage = stage;
-        slot = q.slot;
-        number = q.number;
+        unit = r.1;
         stage_is = refl;
-        slot_is = ap (option_and_then as_slot) r.2 ∙ q.unit_is;
-        node_is = q.node_is;
-        there = q.there;
-        told = ap (λ k. cell_told k q.number) e ∙ q.told;
+        unit_is = r.2;
+        own = subst (λ k. ListedIn n k r.1 x) e (unit_listed n first r.1 x r.3);
       }
   | inr later ↦
       let r = stages_listed n (first + 1) stages x later in
-      let e : first + suc r.at ≡ first + 1 + r.at = omega arith in
+      let e : first + 1 + r.at ≡ first + suc r.at = omega arith in
       record {
         place = r.place;
         at = suc r.at;
         stage = r.stage;
-        slot = r.slot;
-        number = r.number;
+        unit = r.unit;
         stage_is = r.stage_is;
-        slot_is = r.slot_is;
-        node_is = r.node_is;
-        there = r.there;
-        told = ap (λ k. cell_told k r.number) e ∙ r.told;
+        unit_is = r.unit_is;
+        own = subst (λ k. ListedIn n k r.unit x) e r.own;
       }
 ]
 

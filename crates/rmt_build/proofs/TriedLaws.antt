@@ -1,15 +1,15 @@
 -- What is known of the entries of the nodes so far, under one seed.
-use Rattle.std.proofs.Common.{◌≡◌, ℕ, ◌+◌, ◌<◌, List, [], ◌∷◌, ◌++◌, Some, length, map, get_or, sym, ap, ◌∙◌, subst, inl, inr, arith}
+use Rattle.std.proofs.Common.{◌≡◌, ℕ, ◌+◌, ◌<◌, List, [], ◌∷◌, ◌++◌, Some, length, map, get_or, sym, ap, ◌∙◌, subst, arith}
 use Rattle.std.specs.Prelude.{slice_get, unwrap_or}
-use Rattle.std.proofs.lemmas.Bool.{cases_lt}
 use Rattle.std.proofs.lemmas.List.{length-append, length-map}
-use Rattle.std.proofs.lemmas.Option.{get_or_from_slice_get, same_Some, slice_get_within}
-use Rattle.rmt_bits.proofs.ListLaws.{slice_get-end, slice_get-front, slice_get-item}
+use Rattle.std.proofs.lemmas.Option.{get_or_from_slice_get, slice_get_within}
+use Rattle.rmt_bits.proofs.ListLaws.{slice_get-item}
 use Rattle.rmt_bits.specs.Bits.{bytes_of}
 use Rattle.rmt_build.specs.Types.{Program, Table, Node}
 use Rattle.rmt_ast.specs.declared.program.Kind.TheVariants.{Exact}
 use Rattle.rmt_ast.specs.declared.entry.Entry.{Entry}
 use Rattle.rmt_ast.specs.EntryLists.{AreEntries}
+use Rattle.rmt_ast.proofs.WellFormedLemmas.{AllNumbered-push}
 use Rattle.rmt_ast.specs.State.{width_of}
 use Rattle.rmt_config.specs.BlockCounts.{divided_up}
 use Rattle.rmt_cuckoo.specs.Loading.{IsOverfull}
@@ -47,6 +47,10 @@ tried_stands p parts seed n t es exact (Overfull members cells) h = (exact, h.0,
 
 -- ---- the nodes so far
 
+-- what comes of the entries of node n
+abbrev pub ComesOf : Program → List (List Entry) → List Part → ℕ → ℕ → TableTried → Type 0
+ComesOf p lists parts seed n = StandOrFull p parts seed n (entries_at lists n) (table_at p n)
+
 -- the entries of the first nodes stand
 pub record LoadedUpto (p : Program) (lists : List (List Entry)) (parts : List Part) (seed m : ℕ) (stands : List (List Stand)) : Type 0 where
   pub count : length stands ≡ m
@@ -56,23 +60,15 @@ module _ (p : Program) (lists : List (List Entry)) (parts : List Part) (seed : �
   entries_are : (n : ℕ) (es : List Entry) → slice_get lists n ≡ Some es → entries_at lists n ≡ es
   entries_are n es at = ap (λ o. unwrap_or o []) at
 
-  pub loaded_push : (m : ℕ) (stands : List (List Stand)) (own : List Stand) → LoadedUpto p lists parts seed m stands → StandAt p parts seed m (entries_at lists m) (table_at p m) own
+  pub loaded_push : (m : ℕ) (stands : List (List Stand)) (own : List Stand) → LoadedUpto p lists parts seed m stands → ComesOf p lists parts seed m (Standing own)
       → LoadedUpto p lists parts seed (m + 1) (stands ++ own ∷ [])
   loaded_push m stands own upto here = record {
     count = (let many = length-append stands (own ∷ []) in let count = upto.count in omega (arith, many, count));
-    each = λ n es mine at mine_at. elim (cases_lt n (length stands)) [
-      | inl lt ↦ upto.each n es mine at (sym (slice_get-front stands (own ∷ []) n lt) ∙ mine_at)
-      | inr le ↦
-          let count = upto.count in
-          let many = length-append stands (own ∷ []) in
-          let within = slice_get_within (stands ++ own ∷ []) n mine mine_at in
-          let last : n ≡ length stands + 0 = omega (arith, le, within, many) in
-          let same : own ≡ mine = same_Some own mine (sym (slice_get-end stands (own ∷ []) 0) ∙ ap (slice_get (stands ++ own ∷ [])) (sym last) ∙ mine_at) in
-          let number : m ≡ n = omega (arith, last, count) in
-          subst (StandAt p parts seed n es (table_at p n)) same
-          (subst (λ xs. StandAt p parts seed n xs (table_at p n) own) (entries_are n es at)
-          (subst (λ k. StandAt p parts seed k (entries_at lists k) (table_at p k) own) number here))
-    ];
+    each = λ n es mine at mine_at.
+        AllNumbered-push (λ k spots. (xs : List Entry) → slice_get lists k ≡ Some xs → StandAt p parts seed k xs (table_at p k) spots) stands own
+        (λ k spots there xs of_k. upto.each k xs spots of_k there)
+        (λ xs of_last. subst (λ ys. StandAt p parts seed (length stands) ys (table_at p (length stands)) own) (entries_are (length stands) xs of_last)
+        (subst (λ k. StandAt p parts seed k (entries_at lists k) (table_at p k) own) (sym upto.count) here)) n mine mine_at es at;
   }
 
   -- every exact table before is loaded
@@ -90,7 +86,7 @@ module _ (p : Program) (lists : List (List Entry)) (parts : List Part) (seed : �
       loaded_before (length p.nodes) stands (record { count = all.all_there; each = all.each }) n t es (slice_get_within p.nodes n node.0 node.1) applies
 
   -- a table that isn't
-  pub is_full : (n members cells : ℕ) → AreEntries p lists → n < length p.nodes → StandOrFull p parts seed n (entries_at lists n) (table_at p n) (Overfull members cells) → IsFull p lists parts seed n members cells
+  pub is_full : (n members cells : ℕ) → AreEntries p lists → n < length p.nodes → ComesOf p lists parts seed n (Overfull members cells) → IsFull p lists parts seed n members cells
   is_full n members cells entries within h =
       let t = some_and (table_at p n) (λ (x : Table). (x.kind ≡ Exact) × (own : List ℕ) × IsOverfull (layout_of p parts n) seed (keys_of p x (entries_at lists n)) own cells × (members ≡ length own)) h in
       let node = slice_get-item p.nodes n within in

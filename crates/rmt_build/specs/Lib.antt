@@ -13,3 +13,4 @@ pub mod Told
 pub mod Tries
 pub mod UnitCode
 pub mod Written
+pub mod Words

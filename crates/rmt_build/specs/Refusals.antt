@@ -1,5 +1,5 @@
 -- Why a program doesn't fit the chip, and in which order the reasons are looked at.
-use Rattle.std.specs.Prelude.{List, Option, Some, None, Result, Ok, Err, option_map}
+use Rattle.std.specs.Prelude.{◌≡◌, List, Option, Some, None, Result, Ok, Err, option_map}
 use Rattle.std.specs.Option.{option_or}
 use Rattle.rmt_bits.specs.declared.lane.Lane.{Lane}
 use Rattle.rmt_build.specs.Types.{Program}
@@ -21,6 +21,10 @@ use Rattle.rmt_build.specs.declared.fault.NoFit.TheVariants as no_fit
 use Rattle.rmt_build.specs.Folds.{first_deep}
 
 -- ---- the refusals of the steps, as those of the whole
+
+-- there is not enough memory
+abbrev pub IsNoMemory : NoFit → Type 0
+IsNoMemory fault = fault ≡ no_fit.NoMemory
 
 abbrev pub parser_told : ParserFault → NoFit
 parser_told parser.NoMemory = no_fit.NoMemory

@@ -3,11 +3,15 @@ use Rattle.std.specs.Prelude.{◌≡◌, ◌<◌, ◌≤◌, ◌*◌, ℕ, List,
 use Rattle.rmt_bits.specs.declared.lane.Lane.{Lane}
 use Rattle.rmt_build.specs.Types.{Program, Stage}
 use Rattle.rmt_ast.specs.declared.entry.Entry.{Entry}
-use Rattle.rmt_ast.specs.WellFormed.{AllNumbered}
+use Rattle.rmt_ast.specs.EntryLists.{AreEntries}
+use Rattle.rmt_ast.specs.NameRules.{CanBeNamed}
+use Rattle.rmt_ast.specs.WellFormed.{AllNumbered, IsProgram}
 use Rattle.rmt_pack.specs.declared.placement.Part.{Part}
+use Rattle.rmt_pack.specs.declared.placement.Placement.{Placement}
 use Rattle.rmt_place.specs.Needs.{demand_at, demands_of, keeps_limits}
 use Rattle.rmt_place.specs.Placing.{AreTwo, IsPart, standing_in}
 use Rattle.rmt_place.specs.Starting.{starts_of}
+use Rattle.rmt_refine.specs.declared.map.Map.{Map}
 use Rattle.rmt_refine.specs.Carries.{EdgesKept, all_edges}
 use Rattle.rmt_filling.specs.declared.plan.Plan.{Plan}
 use Rattle.rmt_build.specs.BuiltStage.{IsBuiltStage}
@@ -15,6 +19,16 @@ use Rattle.rmt_build.specs.Loads.{AreAllLoaded}
 use Rattle.rmt_pack.specs.Placements.{Keeps, quanta_of}
 use Rattle.rmt_build.specs.Plans.{IsPlan}
 use Rattle.rmt_filling.specs.Formats.{format_at}
+
+-- a well-formed program with these entries, which an image can name
+pub record IsGiven (p : Program) (lists : List (List Entry)) : Type 0 where
+  pub program : IsProgram p
+  pub entries : AreEntries p lists
+  pub named : CanBeNamed p lists
+
+-- a map has these places and this placement
+abbrev pub LiesSo : List (List Lane) → Placement → Map → Type 0
+LiesSo places placement map = (map.places ≡ places) × (map.placement ≡ placement)
 
 -- The parts of the nodes of a program whose fields have these places: they keep every edge, each stage keeps its limits, no two are of one node in
 -- one stage, and each node has exactly the quanta that it needs.

@@ -1,7 +1,7 @@
 //! Why a program doesn't fit the chip.
 
 ghost use Rattle.std.specs.Prelude.{◌≡◌};
-ghost use Rattle.rmt_build.specs.declared.fault.NoFit.TheVariants.{NoMemory};
+ghost use Rattle.rmt_build.specs.Refusals.{IsNoMemory, action_told, parser_told, phv_told, stage_told};
 
 use rmt_bits::fault::OutOfMemory;
 use rmt_bits::sequence::Sequence;
@@ -78,7 +78,7 @@ pub enum NoFit {
 }
 
 impl From<AllocError> for NoFit {
-    ghost from_gives = { λ _ e. e ≡ NoMemory };
+    ghost from_gives = { λ _. IsNoMemory };
 
     fn from(_error: AllocError) -> NoFit {
         NoFit::NoMemory
@@ -86,7 +86,7 @@ impl From<AllocError> for NoFit {
 }
 
 impl From<OutOfMemory> for NoFit {
-    ghost from_gives = { λ _ e. e ≡ NoMemory };
+    ghost from_gives = { λ _. IsNoMemory };
 
     fn from(_error: OutOfMemory) -> NoFit {
         NoFit::NoMemory
@@ -94,8 +94,6 @@ impl From<OutOfMemory> for NoFit {
 }
 
 impl From<ParserFault> for NoFit {
-    ghost use Rattle.rmt_build.specs.Refusals.{parser_told};
-
     ghost from_gives = { λ fault e. e ≡ parser_told fault };
 
     fn from(error: ParserFault) -> NoFit {
@@ -109,8 +107,6 @@ impl From<ParserFault> for NoFit {
 }
 
 impl From<ActionDeep> for NoFit {
-    ghost use Rattle.rmt_build.specs.Refusals.{action_told};
-
     ghost from_gives = { λ fault e. e ≡ action_told fault };
 
     fn from(error: ActionDeep) -> NoFit {
@@ -122,8 +118,6 @@ impl From<ActionDeep> for NoFit {
 }
 
 impl From<PhvFull> for NoFit {
-    ghost use Rattle.rmt_build.specs.Refusals.{phv_told};
-
     ghost from_gives = { λ fault e. e ≡ phv_told fault };
 
     fn from(error: PhvFull) -> NoFit {
@@ -135,8 +129,6 @@ impl From<PhvFull> for NoFit {
 }
 
 impl From<StageFull> for NoFit {
-    ghost use Rattle.rmt_build.specs.Refusals.{stage_told};
-
     ghost from_gives = { λ fault e. e ≡ stage_told fault };
 
     fn from(error: StageFull) -> NoFit {

@@ -12,6 +12,7 @@ ghost use Rattle.rmt_build.specs.HeldParts.{PartHolds};
 ghost use Rattle.rmt_build.specs.Plans.{IsPlanned};
 ghost use Rattle.rmt_build.specs.Written.{SlotFits, SlotWritten, UnitFits, UnitsApart, UnitsWritten};
 
+use crate::planned::PlannedTable;
 use crate::tables::applied;
 use crate::units::stands_in;
 use rmt_config::config::{Memory, SlotUnit, Unit};
@@ -94,7 +95,12 @@ fn write_slot(
     let program = planned.program;
     if let Some(table) = applied(program, &program.nodes.as_slice()[node]) {
         let own = planned.entries.as_slice()[node].as_slice();
-        let stands = stands_in(alloc, planned, table, node as u32)?;
+        let placed = PlannedTable {
+            planned,
+            table,
+            node: slot.node as u32,
+        };
+        let stands = stands_in(alloc, &placed)?;
         let stands = stands.as_slice();
         let part = PartEntries {
             program,

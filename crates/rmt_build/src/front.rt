@@ -1,12 +1,7 @@
 //! What a program becomes before its nodes are placed.
 
 ghost use Rattle.std.specs.Prelude.{◌≡◌, ◌≢◌, ℕ, List, Some, None, Err, IfOk, MatchResult};
-ghost use Rattle.rmt_ast.specs.WellFormed.{IsProgram};
-ghost use Rattle.rmt_config.specs.declared.limits.LimitHit.{LimitHit};
-ghost use Rattle.rmt_vliw.specs.Folding.{AreFoldings};
-ghost use Rattle.rmt_build.specs.Folds.{first_deep};
-ghost use Rattle.rmt_build.specs.Fronts.{IsFront};
-ghost use Rattle.rmt_build.specs.Refusals.{first_refusal};
+ghost use Rattle.rmt_build.specs.Words.{IsProgram, LimitHit, AreFoldings, first_deep, IsFront, first_refusal};
 
 use crate::fault::NoFit;
 use rmt_ast::deps::Deps;

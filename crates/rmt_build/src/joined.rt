@@ -1,35 +1,7 @@
 //! The back end joined.
 
 ghost use Rattle.std.specs.Prelude.{◌≡◌, ◌≢◌, ◌<◌, ℕ, List, All, AllPairs, Some, None, Ok, Err, IfErr, IfOk, IsOkUnless, length, slice_index, true};
-ghost use Rattle.rmt_bits.specs.declared.lane.Lane.{Lane};
-ghost use Rattle.rmt_ast.specs.EntryLists.{AreEntries};
-ghost use Rattle.rmt_ast.specs.NameRules.{CanBeNamed};
-ghost use Rattle.rmt_ast.specs.Naming.{names_of};
-ghost use Rattle.rmt_ast.specs.WellFormed.{IsProgram};
-ghost use Rattle.rmt_config.specs.declared.limits.LimitHit.{LimitHit};
-ghost use Rattle.rmt_config.specs.Agreement.{AgreesWith};
-ghost use Rattle.rmt_config.specs.NamesForm.{names_have_counts};
-ghost use Rattle.rmt_config.specs.declared.config.Stage.{Stage};
-ghost use Rattle.rmt_deps.specs.Edges.{dependencies_of};
-ghost use Rattle.rmt_pack.specs.declared.placement.Part.{Part};
-ghost use Rattle.rmt_pack.specs.Placements.{Keeps, quanta_of};
-ghost use Rattle.rmt_phv.specs.Packing.{packing};
-ghost use Rattle.rmt_phv.specs.Places.{KeepsApart};
-ghost use Rattle.rmt_place.specs.Needs.{demand_at, demands_of, keeps_limits};
-ghost use Rattle.rmt_place.specs.Placing.{AreTwo, IsPart, placement as placement_by_rule, standing_in};
-ghost use Rattle.rmt_ptcam.specs.Clustering.{clustered};
-ghost use Rattle.rmt_ptcam.specs.Needs.{refusal};
-ghost use Rattle.rmt_refine.specs.Carries.{Carries, all_edges};
-ghost use Rattle.rmt_refine.specs.Places.{PlacesCarried};
-ghost use Rattle.rmt_vliw.specs.Folding.{AreFoldings};
-ghost use Rattle.rmt_build.specs.BuiltStage.{IsBuiltStage};
-ghost use Rattle.rmt_build.specs.Fronts.{IsFront};
-ghost use Rattle.rmt_build.specs.Loads.{AreNotLoaded, IsFirstSeed, IsNotLoaded};
-ghost use Rattle.rmt_build.specs.Planned.{cells_planned};
-ghost use Rattle.rmt_build.specs.Plans.{IsPlanned};
-ghost use Rattle.rmt_build.specs.Promises.{IsBounded, IsConfigOf, IsLaidOut, KeepsRules};
-ghost use Rattle.rmt_build.specs.Refusals.{first_refusal};
-ghost use Rattle.rmt_build.specs.Stages.{ArePlaced, AreStagesOf, IsPlanFor};
+ghost use Rattle.rmt_build.specs.Words.{Lane, AreEntries, CanBeNamed, names_of, IsProgram, LimitHit, AgreesWith, names_have_counts, Stage, dependencies_of, Part, Keeps, quanta_of, packing, KeepsApart, demand_at, demands_of, keeps_limits, AreTwo, IsPart, placement as placement_by_rule, standing_in, clustered, refusal, Carries, all_edges, PlacesCarried, AreFoldings, IsBuiltStage, IsFront, AreNotLoaded, IsFirstSeed, IsNotLoaded, cells_planned, IsPlanned, IsBounded, IsConfigOf, IsLaidOut, KeepsRules, first_refusal, ArePlaced, AreStagesOf, IsGiven, IsPlanFor, LiesSo};
 
 use crate::built::Built;
 use crate::code::code_of;
@@ -38,6 +10,7 @@ use crate::filling::write_units;
 use crate::front::{Front, front_of};
 use crate::lanes::{lane_of, out_headers};
 use crate::loading::{PlacedProgram, load_all};
+use crate::planned::PlannedProgram;
 use crate::told::cells_of;
 use crate::units::units_of;
 use rmt_ast::deps::Deps;
@@ -184,9 +157,7 @@ fn built_on(
     front: Front,
     placement: Placement,
 ) -> Result<Built, NoFit>
-    requires program { IsProgram program.now }
-    requires entries { AreEntries program.now entries.now }
-    requires named { CanBeNamed program.now entries.now }
+    requires given { IsGiven program.now entries.now }
     requires front { IsFront program.now front }
     requires placed { ArePlaced program.now front.places placement.parts }
     ensures carries { IfOk result (λ b. Carries program.now entries.now b.map b.config) }
@@ -194,8 +165,7 @@ fn built_on(
     ensures rules { IfOk result (λ b. KeepsRules program.now entries.now b.map b.config) }
     ensures layout { IfOk result (λ b. IsLaidOut program.now entries.now b.map b.config) }
     ensures bounded { IfOk result (λ b. IsBounded program.now b.map b.bound) }
-    ensures places { IfOk result (λ b. b.map.places ≡ front.places) }
-    ensures placement { IfOk result (λ b. b.map.placement ≡ placement) }
+    ensures laid { IfOk result (λ b. LiesSo front.places placement b.map) }
     ensures refused { IfErr result (IsNotLoaded program.now entries.now placement.parts) }
     ensures load { (node members cells : ℕ) → result ≡ Err (NoFit.Load node members cells) → AreNotLoaded program.now entries.now placement.parts node members cells }
 {
@@ -218,9 +188,7 @@ fn built_of(
     plan: Plan,
     parser: ParserConfig,
 ) -> Result<Built, NoFit>
-    requires program { IsProgram program.now }
-    requires entries { AreEntries program.now entries.now }
-    requires named { CanBeNamed program.now entries.now }
+    requires given { IsGiven program.now entries.now }
     requires plan { IsPlanFor program.now entries.now plan }
     requires seed { IsFirstSeed program.now entries.now plan.placement.parts plan.seed }
     requires packed { packing program.now ≡ Ok plan.places }
@@ -233,11 +201,15 @@ fn built_of(
     ensures rules { IfOk result (λ b. KeepsRules program.now entries.now b.map b.config) }
     ensures layout { IfOk result (λ b. IsLaidOut program.now entries.now b.map b.config) }
     ensures bounded { IfOk result (λ b. IsBounded program.now b.map b.bound) }
-    ensures places { IfOk result (λ b. b.map.places ≡ plan.places) }
-    ensures placement { IfOk result (λ b. b.map.placement ≡ plan.placement) }
+    ensures laid { IfOk result (λ b. LiesSo plan.places plan.placement b.map) }
     ensures memory { IsOkUnless result NoFit.NoMemory }
 {
-    let stages = stages_of(alloc, program, entries, &plan)?;
+    let whole = PlannedProgram {
+        program,
+        entries,
+        plan: &plan,
+    };
+    let stages = stages_of(alloc, &whole)?;
     let bound = bound(alloc, program, deps)?;
     let names = told_names(alloc, program, entries)?;
     let config = config_of(alloc, program, &plan, parser, stages, names)?;
@@ -290,31 +262,18 @@ fn plan_of(
 }
 
 /// A stage: its units, their instructions, and what its memories hold.
-fn stage_of(
-    alloc: Global,
-    program: &Program,
-    entries: &EntryLists,
-    plan: &Plan,
-    stage: u32,
-    start: u16,
-) -> Result<Stage, NoFit>
-    requires planned { IsPlanned program.now entries.now plan.now stage }
-    requires limits { keeps_limits (standing_in (demands_of program.now plan.now.places) plan.now.placement.parts stage) ≡ true }
-    requires start { start ≡ slice_index plan.now.starts stage }
-    ensures stage { IfOk result (IsBuiltStage program.now entries.now plan.now stage) }
+fn stage_of(alloc: Global, planned: &PlannedStage, start: u16) -> Result<Stage, NoFit>
+    requires planned { IsPlanned planned.now.program.now planned.now.entries.now planned.now.plan.now planned.now.stage }
+    requires limits { keeps_limits (standing_in (demands_of planned.now.program.now planned.now.plan.now.places) planned.now.plan.now.placement.parts planned.now.stage) ≡ true }
+    requires start { start ≡ slice_index planned.now.plan.now.starts planned.now.stage }
+    ensures stage { IfOk result (IsBuiltStage planned.now.program.now planned.now.entries.now planned.now.plan.now planned.now.stage) }
     ensures memory { IsOkUnless result NoFit.NoMemory }
 {
-    let planned = PlannedStage {
-        program,
-        entries,
-        plan,
-        stage,
-    };
-    let units = units_of(alloc, &planned)?;
-    let code = code_of(alloc, program, plan, units.as_slice())?;
+    let units = units_of(alloc, planned)?;
+    let code = code_of(alloc, planned, units.as_slice())?;
     let mut sram = Rows::new(alloc)?;
     let mut tcam = TcamRows::new(alloc)?;
-    write_units(alloc, &mut sram, &mut tcam, &planned, units.as_slice())?;
+    write_units(alloc, &mut sram, &mut tcam, planned, units.as_slice())?;
     let srows = sram_rows(alloc, &sram)?;
     let trows = tcam_rows(alloc, &tcam)?;
     Ok(Stage {
@@ -327,23 +286,23 @@ fn stage_of(
 }
 
 /// The stages, in their order.
-fn stages_of(
-    alloc: Global,
-    program: &Program,
-    entries: &EntryLists,
-    plan: &Plan,
-) -> Result<Sequence<Stage>, NoFit>
-    requires program { IsProgram program.now }
-    requires entries { AreEntries program.now entries.now }
-    requires plan { IsPlanFor program.now entries.now plan.now }
-    ensures stages { IfOk result (AreStagesOf program.now entries.now plan.now) }
+fn stages_of(alloc: Global, whole: &PlannedProgram) -> Result<Sequence<Stage>, NoFit>
+    requires program { IsProgram whole.now.program.now }
+    requires entries { AreEntries whole.now.program.now whole.now.entries.now }
+    requires plan { IsPlanFor whole.now.program.now whole.now.entries.now whole.now.plan.now }
+    ensures stages { IfOk result (AreStagesOf whole.now.program.now whole.now.entries.now whole.now.plan.now) }
     ensures memory { IsOkUnless result NoFit.NoMemory }
 {
     let mut stages = Sequence::new(alloc);
-    let starts = plan.starts.as_slice();
+    let starts = whole.plan.starts.as_slice();
     for number in 0..starts.len() as u32 {
-        let start = starts[number as usize];
-        stages.push(stage_of(alloc, program, entries, plan, number, start)?)?;
+        let planned = PlannedStage {
+            program: whole.program,
+            entries: whole.entries,
+            plan: whole.plan,
+            stage: number,
+        };
+        stages.push(stage_of(alloc, &planned, starts[number as usize])?)?;
     }
     Ok(stages)
 }
@@ -384,7 +343,7 @@ fn config_of(
     ensures stages { IfOk result (λ config. config.stages ≡ stages) }
     ensures names { IfOk result (λ config. config.names ≡ Some names) }
 {
-    let headers = out_headers(alloc, program, &plan.places)?;
+    let headers = out_headers(alloc, program.headers.as_slice(), &plan.places)?;
     Ok(Config {
         seed: plan.seed,
         in_port: lane_of(&plan.places, 0),
@@ -412,7 +371,12 @@ fn map_of(
     ensures starts { IfOk result (λ map. map.starts ≡ plan.starts) }
     ensures cells { IfOk result (λ map. map.cells ≡ cells_planned program.now entries.now plan) }
 {
-    let cells = cells_of(alloc, program, entries, &plan)?;
+    let whole = PlannedProgram {
+        program,
+        entries,
+        plan: &plan,
+    };
+    let cells = cells_of(alloc, &whole)?;
     Ok(Map {
         places: plan.places,
         placement: plan.placement,

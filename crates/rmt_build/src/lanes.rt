@@ -5,14 +5,13 @@ ghost use Rattle.std.specs.List.{AllZip};
 ghost use Rattle.rmt_bits.specs.Bits.{slice as slice_of};
 ghost use Rattle.rmt_bits.specs.declared.lane.Lane.{Lane};
 ghost use Rattle.rmt_ast.specs.Places.{lanes_of};
-ghost use Rattle.rmt_ast.specs.State.{width_of};
-ghost use Rattle.rmt_ast.specs.WellFormed.{IsProgram};
+ghost use Rattle.rmt_ast.specs.declared.program.Header.{Header};
 ghost use Rattle.rmt_config.specs.LaneForm.{bits_of_lanes};
-ghost use Rattle.rmt_phv.specs.Places.{KeepsApart, high_first as high_first_of};
+ghost use Rattle.rmt_phv.specs.Places.{high_first as high_first_of};
 ghost use Rattle.rmt_refine.specs.Places.{StandsIn, HeaderCarried};
 ghost use Rattle.rmt_refine.specs.Units.{tests_from, tests_of};
 
-use rmt_ast::program::{Header, Program, Test};
+use rmt_ast::program::{Header, Test};
 use rmt_bits::bits::slice;
 use rmt_bits::lane::Lane;
 use rmt_bits::sequence::Sequence;
@@ -124,19 +123,19 @@ fn out_header(alloc: Global, places: &Places, header: &Header) -> Result<OutHead
     })
 }
 
-/// The headers of a program as they are sent.
+/// Headers as they are sent by the lanes of their fields.
 pub fn out_headers(
     alloc: Global,
-    program: &Program,
+    headers: &[Header],
     places: &Places,
 ) -> Result<Sequence<OutHeader>, AllocError>
-    requires program { IsProgram program.now }
-    requires places { KeepsApart program.now places.now }
-    ensures { IfOk result (AllZip (HeaderCarried places.now) program.now.headers) }
+    // The field that tells whether a header is there has one piece.
+    requires { All (λ (h : Header). length (lanes_of places.now h.valid) ≡ 1) headers.now }
+    ensures { IfOk result (AllZip (HeaderCarried places.now) headers.now) }
 {
-    let mut headers = Sequence::new(alloc);
-    for header in program.headers.as_slice() {
-        headers.push(out_header(alloc, places, header)?)?;
+    let mut sent = Sequence::new(alloc);
+    for header in headers {
+        sent.push(out_header(alloc, places, header)?)?;
     }
-    Ok(headers)
+    Ok(sent)
 }

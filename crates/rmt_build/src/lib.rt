@@ -10,6 +10,7 @@ pub mod joined;
 mod lanes;
 mod loading;
 mod parts;
+mod planned;
 mod tables;
 mod told;
 mod units;

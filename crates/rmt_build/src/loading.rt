@@ -1,15 +1,10 @@
 //! Exact tables are loaded, all under one seed.
 
 ghost use Rattle.std.specs.Prelude.{◌≡◌, ◌<◌, ◌≤◌, ℕ, AllPairs, IfErr, IfOk, OnOk, option_copied, ◌++◌, Some, length};
-ghost use Rattle.rmt_ast.specs.declared.entry.Entry.{Entry};
+ghost use Rattle.rmt_build.specs.Words.{Entry, AreTwo, AreAllLoaded, IsFirstSeed, IsNotLoaded, layout_in, ways_for, AreTried, IsNodeTable, IsPlacedProgram, StandOrFull, entries_at, table_at};
 ghost use Rattle.rmt_ast.specs.declared.program.Kind.TheVariants.{Exact};
 ghost use Rattle.rmt_cuckoo.specs.declared.layout.Ways.{Ways};
 ghost use Rattle.rmt_pack.specs.Placements.{quanta_in as quanta_of};
-ghost use Rattle.rmt_place.specs.Placing.{AreTwo};
-ghost use Rattle.rmt_build.specs.Loads.{AreAllLoaded, IsFirstSeed, IsNotLoaded, layout_in, ways_for};
-ghost use Rattle.rmt_build.specs.Tries.{AreTried, IsNodeTable, IsPlacedProgram, StandOrFull};
-ghost use Rattle.rmt_refine.specs.Outcomes.{entries_at};
-ghost use Rattle.rmt_refine.specs.Units.{table_at};
 
 use crate::fault::NoFit;
 use crate::parts::quanta_in;
@@ -63,13 +58,14 @@ pub struct PlacedProgram<'a> {
     pub parts: &'a [Part],
 }
 
-/// The table that a node applies, with its entries and the format of its memory.
+/// The table that a node of a placed program applies, with its entries and the format of its memory.
 #[derive(Clone, Copy)]
-struct NodeTable<'a> {
+struct NodeTable<'t, 'p> {
+    placed: &'t PlacedProgram<'p>,
     node: u32,
-    table: &'a Table,
-    entries: &'a [Entry],
-    format: &'a Format,
+    table: &'t Table,
+    entries: &'t [Entry],
+    format: &'t Format,
 }
 
 /// Adds the part of so many quanta, if there are any.
@@ -105,37 +101,27 @@ fn layout_of(
 }
 
 /// Puts the entries of the exact table of a node into cells, under a seed.
-fn try_exact(
-    alloc: Global,
-    placed: &PlacedProgram,
-    own: &NodeTable,
-    seed: u8,
-) -> Result<TableTried, AllocError>
-    requires placed { IsPlacedProgram placed.now.program.now placed.now.entries.now placed.now.formats.now placed.now.parts.now }
-    requires own { IsNodeTable placed.now.program.now own.now.node own.now.table.now own.now.entries.now own.now.format.now }
+fn try_exact(alloc: Global, own: &NodeTable, seed: u8) -> Result<TableTried, AllocError>
+    requires placed { IsPlacedProgram own.now.placed.now.program.now own.now.placed.now.entries.now own.now.placed.now.formats.now own.now.placed.now.parts.now }
+    requires own { IsNodeTable own.now.placed.now.program.now own.now.node own.now.table.now own.now.entries.now own.now.format.now }
     requires exact { own.now.table.now.kind ≡ Exact }
-    ensures { IfOk result (StandOrFull placed.now.program.now placed.now.parts.now seed own.now.node own.now.entries.now (Some own.now.table.now)) }
+    ensures { IfOk result (StandOrFull own.now.placed.now.program.now own.now.placed.now.parts.now seed own.now.node own.now.entries.now (Some own.now.table.now)) }
 {
-    let layout = layout_of(alloc, placed.parts, own.node, own.format)?;
-    let keys = keys_of(alloc, placed.program, own.table, own.entries)?;
+    let layout = layout_of(alloc, own.placed.parts, own.node, own.format)?;
+    let keys = keys_of(alloc, own.placed.program, own.table, own.entries)?;
     let tried = load_exact(alloc, &layout, &keys, seed)?;
     Ok(tried)
 }
 
 /// Puts the entries of the table of a node into cells, under a seed.
-fn try_table(
-    alloc: Global,
-    placed: &PlacedProgram,
-    own: &NodeTable,
-    seed: u8,
-) -> Result<TableTried, AllocError>
-    requires placed { IsPlacedProgram placed.now.program.now placed.now.entries.now placed.now.formats.now placed.now.parts.now }
-    requires own { IsNodeTable placed.now.program.now own.now.node own.now.table.now own.now.entries.now own.now.format.now }
-    ensures { IfOk result (StandOrFull placed.now.program.now placed.now.parts.now seed own.now.node own.now.entries.now (Some own.now.table.now)) }
+fn try_table(alloc: Global, own: &NodeTable, seed: u8) -> Result<TableTried, AllocError>
+    requires placed { IsPlacedProgram own.now.placed.now.program.now own.now.placed.now.entries.now own.now.placed.now.formats.now own.now.placed.now.parts.now }
+    requires own { IsNodeTable own.now.placed.now.program.now own.now.node own.now.table.now own.now.entries.now own.now.format.now }
+    ensures { IfOk result (StandOrFull own.now.placed.now.program.now own.now.placed.now.parts.now seed own.now.node own.now.entries.now (Some own.now.table.now)) }
 {
     match own.table.kind {
         Kind::Keyless => Ok(TableTried::Stand(Sequence::new(alloc))),
-        Kind::Exact => try_exact(alloc, placed, own, seed),
+        Kind::Exact => try_exact(alloc, own, seed),
         Kind::Prefix | Kind::Ternary => {
             let stands = in_order(alloc, own.table.kind, own.entries)?;
             Ok(TableTried::Stand(stands))
@@ -167,12 +153,13 @@ fn try_node(
     };
     let own = placed.entries.as_slice()[node].as_slice();
     let own = NodeTable {
+        placed,
         node: node as u32,
         table,
         entries: own,
         format: &placed.formats[node],
     };
-    try_table(alloc, placed, &own, seed)
+    try_table(alloc, &own, seed)
 }
 
 /// Puts the entries of all nodes into cells, under a seed.

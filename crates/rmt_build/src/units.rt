@@ -2,20 +2,15 @@
 
 ghost use Rattle.std.specs.Prelude.{◌≡◌, ◌≢◌, ◌+◌, ◌<◌, ◌∷◌, [], ℕ, List, All, IfOk, IfSome, OnOk, Some, length, slice_get};
 ghost use Rattle.std.specs.List.{AllZip};
-ghost use Rattle.rmt_ast.specs.declared.entry.Entry.{Entry};
-ghost use Rattle.rmt_ast.specs.declared.program.Guard.{Guard};
+ghost use Rattle.rmt_build.specs.Words.{Entry, Guard, IsProgram, Part, KeepsApart, HaveParts, SmallGuard, SmallUnit, IsPlanned, need_in, stands_of_part, taken_upto};
 ghost use Rattle.rmt_ast.specs.declared.program.What.TheVariants as what;
-ghost use Rattle.rmt_ast.specs.WellFormed.{IsProgram};
-ghost use Rattle.rmt_pack.specs.declared.placement.Part.{Part};
-ghost use Rattle.rmt_phv.specs.Places.{KeepsApart};
 ghost use Rattle.rmt_refine.specs.Units.{UnitCarried, guard_of as guard_of_node, nodes_in, table_at};
-ghost use Rattle.rmt_build.specs.BuiltStage.{HaveParts, SmallGuard, SmallUnit};
 ghost use Rattle.rmt_filling.specs.Memories.{memory_for};
-ghost use Rattle.rmt_build.specs.Plans.{IsPlanned, need_in, stands_of_part, taken_upto};
 
 use crate::lanes::{gate_tests, high_first};
 use crate::parts::{parts_before, quanta_before, quanta_in};
-use rmt_ast::program::{Guard, Kind, Program, Table, Test, What};
+use crate::planned::PlannedTable;
+use rmt_ast::program::{Guard, Kind, Program, Test, What};
 use rmt_bits::sequence::Sequence;
 use rmt_config::config::{GateUnit, Memory, SlotUnit, Unit, UnitGuard};
 use rmt_filling::cells::cells_of;
@@ -69,88 +64,78 @@ fn gate_of(
 }
 
 /// What the memory of a table's part in a stage has to hold.
-fn need_of(planned: &PlannedStage, table: &Table, node: u32) -> PartNeed
-    requires planned { IsPlanned planned.now.program.now planned.now.entries.now planned.now.plan.now planned.now.stage }
-    requires table { table_at planned.now.program.now node ≡ Some table.now }
-    requires key { table.now.kind ≢ Kind.Keyless }
-    ensures { result ≡ need_in planned.now.program.now planned.now.plan.now.placement.parts table.now node planned.now.stage }
+fn need_of(own: &PlannedTable) -> PartNeed
+    requires planned { IsPlanned own.now.planned.now.program.now own.now.planned.now.entries.now own.now.planned.now.plan.now own.now.planned.now.stage }
+    requires table { table_at own.now.planned.now.program.now own.now.node ≡ Some own.now.table.now }
+    requires key { own.now.table.now.kind ≢ Kind.Keyless }
+    ensures { result ≡ need_in own.now.planned.now.program.now own.now.planned.now.plan.now.placement.parts own.now.table.now own.now.node own.now.planned.now.stage }
 {
+    let planned = own.planned;
     let parts = planned.plan.placement.parts.as_slice();
     PartNeed {
-        format: planned.plan.formats.as_slice()[node as usize],
-        quanta: quanta_in(parts, node, planned.stage) as u8,
-        before: parts_before(parts, node, planned.stage),
-        key: key_bits(planned.program, table),
-        held: held_bits(planned.program, table),
-        counted: table.counted,
+        format: planned.plan.formats.as_slice()[own.node as usize],
+        quanta: quanta_in(parts, own.node, planned.stage) as u8,
+        before: parts_before(parts, own.node, planned.stage),
+        key: key_bits(planned.program, own.table),
+        held: held_bits(planned.program, own.table),
+        counted: own.table.counted,
     }
 }
 
 /// The memory of a table's part in a stage, in the next blocks of the stage.
-fn slot_memory(
-    alloc: Global,
-    planned: &PlannedStage,
-    taken: &mut Taken,
-    table: &Table,
-    node: u32,
-) -> Result<Memory, AllocError>
-    requires planned { IsPlanned planned.now.program.now planned.now.entries.now planned.now.plan.now planned.now.stage }
-    requires table { table_at planned.now.program.now node ≡ Some table.now }
-    requires taken { taken.old ≡ taken_upto planned.now.program.now planned.now.plan.now.placement.parts planned.now.stage node }
+fn slot_memory(alloc: Global, own: &PlannedTable, taken: &mut Taken) -> Result<Memory, AllocError>
+    requires planned { IsPlanned own.now.planned.now.program.now own.now.planned.now.entries.now own.now.planned.now.plan.now own.now.planned.now.stage }
+    requires table { table_at own.now.planned.now.program.now own.now.node ≡ Some own.now.table.now }
+    requires taken { taken.old ≡ taken_upto own.now.planned.now.program.now own.now.planned.now.plan.now.placement.parts own.now.planned.now.stage own.now.node }
     ensures memory { IfOk result (λ memory. memory ≡
-        memory_for table.now.kind (need_in planned.now.program.now planned.now.plan.now.placement.parts table.now node planned.now.stage) taken.old) }
-    ensures taken { OnOk result (taken.new ≡ taken_upto planned.now.program.now planned.now.plan.now.placement.parts planned.now.stage (node + 1)) }
+        memory_for own.now.table.now.kind (need_in own.now.planned.now.program.now own.now.planned.now.plan.now.placement.parts own.now.table.now own.now.node own.now.planned.now.stage) taken.old) }
+    ensures taken { OnOk result (taken.new ≡ taken_upto own.now.planned.now.program.now own.now.planned.now.plan.now.placement.parts own.now.planned.now.stage (own.now.node + 1)) }
 {
-    if table.kind == Kind::Keyless {
+    if own.table.kind == Kind::Keyless {
         return Ok(Memory::Without);
     }
-    let need = need_of(planned, table, node);
-    memory_of(alloc, taken, table.kind, &need)
+    let need = need_of(own);
+    memory_of(alloc, taken, own.table.kind, &need)
 }
 
 /// The entries of the table of a node that stand in its part in a stage, by the cells of the part.
-pub fn stands_in(
-    alloc: Global,
-    planned: &PlannedStage,
-    table: &Table,
-    node: u32,
-) -> Result<Stands, AllocError>
-    requires planned { IsPlanned planned.now.program.now planned.now.entries.now planned.now.plan.now planned.now.stage }
-    requires table { table_at planned.now.program.now node ≡ Some table.now }
-    requires stands { node < length planned.now.plan.now.stands }
-    ensures { IfOk result (λ own. own ≡ stands_of_part planned.now.program.now planned.now.plan.now table.now node planned.now.stage) }
+pub fn stands_in(alloc: Global, own: &PlannedTable) -> Result<Stands, AllocError>
+    requires planned { IsPlanned own.now.planned.now.program.now own.now.planned.now.entries.now own.now.planned.now.plan.now own.now.planned.now.stage }
+    requires table { table_at own.now.planned.now.program.now own.now.node ≡ Some own.now.table.now }
+    requires stands { own.now.node < length own.now.planned.now.plan.now.stands }
+    ensures { IfOk result (λ stands. stands ≡ stands_of_part own.now.planned.now.program.now own.now.planned.now.plan.now own.now.table.now own.now.node own.now.planned.now.stage) }
 {
-    if table.kind == Kind::Keyless {
+    let kind = own.table.kind;
+    if kind == Kind::Keyless {
         return Ok(Sequence::new(alloc));
     }
+    let planned = own.planned;
+    let node = own.node;
     let parts = planned.plan.placement.parts.as_slice();
     let per = planned.plan.formats.as_slice()[node as usize].per;
-    let first = cells_of(table.kind, per, quanta_before(parts, node, planned.stage));
-    let cells = cells_of(table.kind, per, quanta_in(parts, node, planned.stage));
+    let first = cells_of(kind, per, quanta_before(parts, node, planned.stage));
+    let cells = cells_of(kind, per, quanta_in(parts, node, planned.stage));
     let stands = planned.plan.stands.as_slice()[node as usize].as_slice();
     stands_from(alloc, stands, first, cells)
 }
 
 /// The unit of a table's part in a stage, with its memory in the next blocks of the stage.
-fn slot_of(
-    alloc: Global,
-    planned: &PlannedStage,
-    taken: &mut Taken,
-    table: &Table,
-    node: u32,
-) -> Result<Unit, AllocError>
-    requires planned { IsPlanned planned.now.program.now planned.now.entries.now planned.now.plan.now planned.now.stage }
-    requires table { table_at planned.now.program.now node ≡ Some table.now }
-    requires node { node < length planned.now.program.now.nodes }
-    requires taken { taken.old ≡ taken_upto planned.now.program.now planned.now.plan.now.placement.parts planned.now.stage node }
-    ensures unit { IfOk result (UnitCarried planned.now.program.now planned.now.plan.now.places planned.now.plan.now.placement.parts planned.now.stage node) }
-    ensures parts { IfOk result (λ unit. HaveParts planned.now.program.now planned.now.entries.now planned.now.plan.now planned.now.stage (unit ∷ [])) }
+fn slot_of(alloc: Global, own: &PlannedTable, taken: &mut Taken) -> Result<Unit, AllocError>
+    requires planned { IsPlanned own.now.planned.now.program.now own.now.planned.now.entries.now own.now.planned.now.plan.now own.now.planned.now.stage }
+    requires table { table_at own.now.planned.now.program.now own.now.node ≡ Some own.now.table.now }
+    requires node { own.now.node < length own.now.planned.now.program.now.nodes }
+    requires taken { taken.old ≡ taken_upto own.now.planned.now.program.now own.now.planned.now.plan.now.placement.parts own.now.planned.now.stage own.now.node }
+    ensures unit { IfOk result (UnitCarried own.now.planned.now.program.now own.now.planned.now.plan.now.places own.now.planned.now.plan.now.placement.parts own.now.planned.now.stage own.now.node) }
+    ensures parts { IfOk result (λ unit. HaveParts own.now.planned.now.program.now own.now.planned.now.entries.now own.now.planned.now.plan.now own.now.planned.now.stage (unit ∷ [])) }
     ensures small { IfOk result SmallUnit }
-    ensures taken { OnOk result (taken.new ≡ taken_upto planned.now.program.now planned.now.plan.now.placement.parts planned.now.stage (node + 1)) }
+    ensures taken { OnOk result (taken.new ≡ taken_upto own.now.planned.now.program.now own.now.planned.now.plan.now.placement.parts own.now.planned.now.stage (own.now.node + 1)) }
 {
+    let planned = own.planned;
+    let table = own.table;
+    let node = own.node;
     let keys = high_first(alloc, &planned.plan.places, table.key.as_slice())?;
-    let memory = slot_memory(alloc, planned, taken, table, node)?;
-    let stands = stands_in(alloc, planned, table, node)?;
+    let memory = slot_memory(alloc, own, taken)?;
+    let stands = stands_in(alloc, own)?;
     let list = planned.entries.as_slice()[node as usize].as_slice();
     let numbers = numbers_of(alloc, stands.as_slice(), list)?;
     Ok(Unit::Slot(SlotUnit {
@@ -185,7 +170,12 @@ fn unit_of(
     match own.what {
         What::Apply(table) => {
             let table = &planned.program.tables.as_slice()[table as usize];
-            slot_of(alloc, planned, taken, table, node)
+            let applied = PlannedTable {
+                planned,
+                table,
+                node,
+            };
+            slot_of(alloc, &applied, taken)
         }
         What::Gate { field, test } => gate_of(
             alloc,

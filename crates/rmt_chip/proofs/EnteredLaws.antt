@@ -1,5 +1,5 @@
 -- What entered in the cycles of a run, one cycle later.
-use Rattle.std.proofs.Common.{◌≡◌, ℕ, ◌+◌, ◌-◌, ◌<◌, ◌≤◌, Bool, cond, ltb, List, [], ◌∷◌, ◌++◌, length, take, Option, Some, None, refl, sym, ap, ◌∙◌, subst, ⊎_elim, append_assoc, arith}
+use Rattle.std.proofs.Common.{◌≡◌, ℕ, ◌+◌, ◌-◌, ◌<◌, ◌≤◌, Bool, true, false, cond, ltb, List, [], ◌∷◌, ◌++◌, length, take, Option, Some, None, refl, sym, ap, ◌∙◌, subst, ⊎_elim, append_assoc, arith}
 use Rattle.std.specs.Prelude.{fold, slice_get, option_map, option_and_then, unwrap_or}
 use Rattle.std.proofs.lemmas.Bool.{cases_lt, lt-ltb, le-ltb}
 use Rattle.std.proofs.lemmas.List.{length_push}
@@ -17,6 +17,12 @@ use Rattle.rmt_chip.specs.Ring.{LooksNow}
 use Rattle.rmt_chip.specs.Runnable.{start_of}
 use Rattle.rmt_chip.proofs.EnterLaws.{IsOf}
 use Rattle.rmt_chip.proofs.LifeLaws.{start_of-get}
+use mir.Val.{bool_byte}
+
+-- a test as a number
+pub byte_of : (b : Bool) → bool_byte b ≡ cond b 1 0
+byte_of true = refl
+byte_of false = refl
 
 -- the age at which a stage begins is that of the run's definition
 start-same : (c : Config) (k : ℕ) → k < length c.stages → start_in c k ≡ start_of c.stages k

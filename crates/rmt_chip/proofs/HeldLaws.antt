@@ -81,8 +81,8 @@ carried_read look stages vector rise k t l stage old new inside is at reads acce
     let whole = life_of look stages vector in
     let s = start_of stages k in
     record {
-      all_words = ap length reads.vector ∙ held.all_words;
-      words = λ w. ap (λ (ws : List ℕ). slice_index ws w) reads.vector ∙ held.words w;
+      all_words = ap length reads.so_far.vector ∙ held.all_words;
+      words = λ w. ap (λ (ws : List ℕ). slice_index ws w) reads.so_far.vector ∙ held.words w;
       looked = λ j d b early late. subst (λ (x : List Looked). AllLooked look j (whole.word (start_of stages j)) (get_or stages j d) x) (sym (reads.looked j)) (held.looked j d b early (omega arith));
       running = λ j d b e late.
           ap (λ (x : List Looked). all_running (get_or stages j d).code x (running_at new.pending.items j)) (reads.looked j)
@@ -106,7 +106,7 @@ carried_read look stages vector rise k t l stage old new inside is at reads acce
           let differ : start_of stages j ≢ s = starts_differ stages rise j k b inside apart in
           ap (λ (x : List Write). last_on x w) (reads.others j apart) ∙ held.due j d b (omega arith) late w)
           (cases_eq j k);
-      outcomes = λ j b before after. reads.outcomes ∙ held.outcomes j b before after;
+      outcomes = λ j b before after. reads.so_far.outcomes ∙ held.outcomes j b before after;
     }
 
 pub carried_read_none : (look : Look) (stages : List Stage) (vector : List ℕ) (t l : ℕ) (place : PacketSlot) → NoneAt stages 9 (t + 1)
@@ -201,8 +201,8 @@ pub carried_look : (look : Look) (stages : List Stage) (vector : List ℕ) → R
 carried_look look stages vector rise k t stage old new inside is at looks accepted held =
     let whole = life_of look stages vector in
     record {
-      all_words = ap length looks.vector ∙ held.all_words;
-      words = λ w. ap (λ (ws : List ℕ). slice_index ws w) looks.vector ∙ held.words w;
+      all_words = ap length looks.so_far.vector ∙ held.all_words;
+      words = λ w. ap (λ (ws : List ℕ). slice_index ws w) looks.so_far.vector ∙ held.words w;
       looked = λ j d b early late.
           ⊎_elim
           (λ (e : j ≡ k).
@@ -224,7 +224,7 @@ carried_look look stages vector rise k t stage old new inside is at looks accept
           ∙ held.running j d b e late)
           (cases_eq j k);
       due = λ j d b early late w. ap (λ (x : List Write). last_on x w) (looks.due j) ∙ held.due j d b early late w;
-      outcomes = λ j b before after. looks.outcomes ∙ held.outcomes j b before after;
+      outcomes = λ j b before after. looks.so_far.outcomes ∙ held.outcomes j b before after;
     }
 
 pub carried_look_none : (look : Look) (stages : List Stage) (vector : List ℕ) (t : ℕ) (place : PacketSlot) → NoneAt stages 0 t

@@ -61,7 +61,7 @@ holds_write_none c e t l place none held =
 pub holds_read : (c : Config) → Rise c.stages → (e : Option Entered) (k t l : ℕ) (stage : Stage) (old new : PacketSlot) → k < length c.stages → get_or c.stages k stage ≡ stage → start_of c.stages k + 9 ≡ t + 1
     → ReadBy k stage old new → HoldsIf c e (t + 1) t t l old → HoldsIf c e (t + 1) (t + 1) t l new
 holds_read c rise e k t l stage old new inside is at r held =
-    step_if c e (t + 1) t t l (t + 1) (t + 1) t l old new r.same (λ no. r.vector)
+    step_if c e (t + 1) t t l (t + 1) (t + 1) t l old new r.so_far.same (λ no. r.so_far.vector)
     (λ x vector is_there version yes. carried_read x.look c.stages vector rise k t l stage old new inside is at r yes) held
 
 pub holds_read_none : (c : Config) (e : Option Entered) (t l : ℕ) (place : PacketSlot) → NoneAt c.stages 9 (t + 1) → HoldsIf c e (t + 1) t t l place → HoldsIf c e (t + 1) (t + 1) t l place
@@ -93,14 +93,12 @@ pub holds_look : (c : Config) → Rise c.stages → (e : Option Entered) (k t : 
     → ((x : Entered) → e ≡ Some x → old.version ≡ x.version → x.look k ≡ look k)
     → LookedBy look k stage old new → HoldsIf c e t t t t old → HoldsIf c e t t t (t + 1) new
 holds_look c rise e k t stage old new look inside is at alike l held =
-    step_if c e t t t t t t t (t + 1) old new l.same (λ no. l.vector)
+    step_if c e t t t t t t t (t + 1) old new l.so_far.same (λ no. l.so_far.vector)
     (λ x vector there version yes. carried_look x.look c.stages vector rise k t stage old new inside is at (own x (alike x there version)) yes) held
   where
     own : (x : Entered) → x.look k ≡ look k → LookedBy x.look k stage old new
     own x same = record {
-      same = l.same;
-      vector = l.vector;
-      outcomes = l.outcomes;
+      so_far = l.so_far;
       running = l.running;
       due = l.due;
       others = l.others;

@@ -12,7 +12,7 @@ use Rattle.rmt_chip.specs.declared.ran.Ran.{Ran}
 use Rattle.rmt_chip.specs.declared.write.Write.{Write}
 use Rattle.rmt_bits.specs.declared.answer.Count.{Count}
 use Rattle.rmt_chip.specs.Counting.{hits_made}
-use Rattle.rmt_chip.specs.Held.{SamePacket, LookedBy, is_accepted}
+use Rattle.rmt_chip.specs.Held.{SameSoFar, LookedBy, is_accepted}
 use Rattle.rmt_chip.specs.Hits.{CountedBy}
 use Rattle.rmt_chip.specs.Ran.{CountsAlso}
 use Rattle.rmt_chip.specs.Pending.{HasRoomFor, HaveRoomFor, looked_at, running_at, due_at}
@@ -73,14 +73,12 @@ found_looked : (ps : List Pending) (k : ℕ) (q : Pending) → slice_get ps k �
 found_looked ps k q is = ap (λ (x : Option Pending). unwrap_or (option_map (λ (y : Pending). y.looked.items) x) []) is
 
 pub looked_by : (look : Look) (k : ℕ) (stage : Stage) (old new : PacketSlot) (p q : Pending) → k < length old.pending.items → slice_get old.pending.items k ≡ Some q → new.pending.items ≡ set old.pending.items k p
-    → SamePacket old new → new.vector ≡ old.vector → new.outcomes ≡ old.outcomes → p.running ≡ q.running → p.due ≡ q.due
+    → SameSoFar old new → p.running ≡ q.running → p.due ≡ q.due
     → AllLooked look k (λ v. slice_index old.vector v) stage p.looked.items → LookedBy look k stage old new
-looked_by look k stage old new p q lt is put same v o r d looked =
+looked_by look k stage old new p q lt is put same r d looked =
     let ps = old.pending.items in
     record {
-      same = same;
-      vector = v;
-      outcomes = o;
+      so_far = same;
       running = λ j. ap (λ (x : List Pending). running_at x j) put ∙ kept (λ (x : Pending). x.running.items) ps k p q lt is (ap (λ (x : Vec Ran Global). x.items) r) j;
       due = λ j. ap (λ (x : List Pending). due_at x j) put ∙ kept (λ (x : Pending). x.due.items) ps k p q lt is (ap (λ (x : Vec Write Global). x.items) d) j;
       others = λ j apart. ap (λ (x : List Pending). looked_at x j) put ∙ ap (λ (x : Option Pending). unwrap_or (option_map (λ (y : Pending). y.looked.items) x) []) (set_there ps k j p apart);

@@ -82,10 +82,14 @@ pub record WrittenBy (k : ℕ) (old new : PacketSlot) : Type 0 where
   pub outcomes : new.outcomes ≡ old.outcomes
   pub pending : new.pending ≡ old.pending
 
-pub record ReadBy (k : ℕ) (stage : Stage) (old new : PacketSlot) : Type 0 where
+-- the packet, its words and its outcomes are as before
+pub record SameSoFar (old new : PacketSlot) : Type 0 where
   pub same : SamePacket old new
   pub vector : new.vector ≡ old.vector
   pub outcomes : new.outcomes ≡ old.outcomes
+
+pub record ReadBy (k : ℕ) (stage : Stage) (old new : PacketSlot) : Type 0 where
+  pub so_far : SameSoFar old new
   pub looked : (j : ℕ) → looked_at new.pending.items j ≡ looked_at old.pending.items j
   pub running : (j : ℕ) → running_at new.pending.items j ≡ running_at old.pending.items j
   pub others : (j : ℕ) → j ≢ k → due_at new.pending.items j ≡ due_at old.pending.items j
@@ -106,9 +110,7 @@ pub record DecidedBy (k : ℕ) (stage : Stage) (old new : PacketSlot) : Type 0 w
       → Decides k stage (acts_of look number stage words old.outcomes) new
 
 pub record LookedBy (look : Look) (k : ℕ) (stage : Stage) (old new : PacketSlot) : Type 0 where
-  pub same : SamePacket old new
-  pub vector : new.vector ≡ old.vector
-  pub outcomes : new.outcomes ≡ old.outcomes
+  pub so_far : SameSoFar old new
   pub running : (j : ℕ) → running_at new.pending.items j ≡ running_at old.pending.items j
   pub due : (j : ℕ) → due_at new.pending.items j ≡ due_at old.pending.items j
   pub others : (j : ℕ) → j ≢ k → looked_at new.pending.items j ≡ looked_at old.pending.items j
@@ -128,15 +130,6 @@ pub record EnteredBy (c : Config) (packet : Packet) (number version : ℕ) (plac
   pub size : place.size ≡ length packet.frame
   pub outcomes : place.outcomes ≡ replicate 256 0
   pub begins : Begins c packet place (parse c.parser packet.frame)
-
--- all but the vector and how the parser ended
-pub record Keeps (old new : PacketSlot) : Type 0 where
-  pub taken : new.taken ≡ old.taken
-  pub number : new.number ≡ old.number
-  pub version : new.version ≡ old.version
-  pub size : new.size ≡ old.size
-  pub outcomes : new.outcomes ≡ old.outcomes
-  pub pending : new.pending ≡ old.pending
 
 -- a packet slot after a cycle's input
 abbrev pub EntersIf : Config → Option Packet → ℕ → ℕ → PacketSlot → Type 0

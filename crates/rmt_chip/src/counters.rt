@@ -3,7 +3,6 @@
 ghost use Rattle.std.specs.Prelude.{◌≡◌, ◌+◌, ◌≤◌, ◌++◌, ◌⊎◌, ◌∷◌, [], ℕ, List, All, Contains, length, map, if◌then◌else◌, IfOk, OnOk};
 ghost use Rattle.std.specs.List.{flat_map};
 ghost use Rattle.rmt_bits.specs.Counts.{counts};
-ghost use Rattle.rmt_config.specs.declared.config.CellNumber.{CellNumber};
 ghost use Rattle.rmt_config.specs.ChipRun.{counted_numbers, unit_numbers};
 ghost use Rattle.rmt_config.specs.RunInputs.{Writes, numbers_brought};
 ghost use Rattle.rmt_bits.specs.declared.answer.Count.{Count};
@@ -12,18 +11,8 @@ ghost use Rattle.rmt_chip.specs.Counting.{AreAmong};
 
 use rmt_bits::counts::Counts;
 use rmt_config::cell_write::CellWrite;
-use rmt_config::config::{CellNumber, Config, Unit};
+use rmt_config::config::{Config, Unit};
 use std::alloc::{AllocError, Global};
-
-/// Adds the numbers of cells.
-fn push_numbers(numbers: &mut Vec<u32>, cells: &[CellNumber]) -> Result<(), AllocError>
-    ensures { OnOk result (numbers.new.items ≡ numbers.old.items ++ map (λ (n : CellNumber). n.number) cells.now) }
-{
-    for cell in cells {
-        numbers.push(cell.number)?;
-    }
-    Ok(())
-}
 
 /// Adds the numbers of a unit's entries, where it counts them.
 fn push_unit(numbers: &mut Vec<u32>, unit: &Unit) -> Result<(), AllocError>
@@ -32,7 +21,10 @@ fn push_unit(numbers: &mut Vec<u32>, unit: &Unit) -> Result<(), AllocError>
     match unit {
         Unit::Slot(slot) => {
             if slot.counted {
-                return push_numbers(numbers, slot.numbers.as_slice());
+                for cell in slot.numbers.as_slice() {
+                    numbers.push(cell.number)?;
+                }
+                return Ok(());
             }
             Ok(())
         }

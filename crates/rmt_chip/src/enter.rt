@@ -1,9 +1,8 @@
 //! How a packet enters its slot.
 
 ghost use Rattle.std.specs.Prelude.{◌≡◌, ◌<◌, ◌≤◌, length};
-ghost use Rattle.rmt_config.specs.Parser.{parse as parse_of};
 ghost use Rattle.rmt_chip.specs.FrameList.{frames_of};
-ghost use Rattle.rmt_chip.specs.Held.{EnteredBy, Begins, Keeps, EntersIf};
+ghost use Rattle.rmt_chip.specs.Held.{EnteredBy, EntersIf};
 ghost use Rattle.rmt_chip.specs.Inputs.{input_of, MayEnter, frames_after};
 ghost use Rattle.rmt_chip.specs.Runnable.{IsRunnable};
 
@@ -18,22 +17,7 @@ use rmt_config::tails::Tails;
 use rmt_ptcam::parse::Parsed;
 use rmt_ptcam::parse_chip;
 
-/// Parses the packet in this slot, and puts its port where the configuration wants it.
-fn begin(place: &mut PacketSlot, config: &Config, port: u16, bytes: &[u8])
-    requires fits { IsRunnable config.now }
-    requires port { port < 512 }
-    requires short { length bytes.now ≤ 9216 }
-    ensures same { Keeps place.old place.new }
-    ensures begins { Begins config.now (record { port = port; frame = bytes.now }) place.new (parse_of config.now.parser bytes.now) }
-{
-    let parsed = parse_chip(&config.parser, bytes, &mut place.vector, &mut place.tails);
-    if is_accepted(parsed) {
-        put(&mut place.vector, config.in_port, u32::from(port));
-    }
-    place.parsed = parsed;
-}
-
-/// The packet enters: it is parsed, and nothing has been read for it.
+/// The packet enters: it is parsed, its port is put where the configuration wants it, and nothing has been read for it.
 fn enter(place: &mut PacketSlot, config: &Config, port: u16, bytes: &[u8], moment: Moment)
     requires fits { IsRunnable config.now }
     requires port { port < 512 }
@@ -46,7 +30,11 @@ fn enter(place: &mut PacketSlot, config: &Config, port: u16, bytes: &[u8], momen
     place.version = moment.version;
     place.size = bytes.len() as u64;
     place.outcomes = [0; 256];
-    begin(place, config, port, bytes);
+    let parsed = parse_chip(&config.parser, bytes, &mut place.vector, &mut place.tails);
+    if is_accepted(parsed) {
+        put(&mut place.vector, config.in_port, u32::from(port));
+    }
+    place.parsed = parsed;
 }
 
 /// A frame enters the newest packet slot, or nothing does.

@@ -4,7 +4,7 @@ use Rattle.std.proofs.lemmas.Nat.{div-add-mod', mul-le, div-mul-add, mod-mul-add
 use Rattle.rmt_bits.specs.Bits.{slice}
 use Rattle.rmt_config.specs.BlockCounts.{divided_up, record_width, records_a_row, record_units}
 use Rattle.rmt_config.specs.Cells.{Blocks, unit_row, blocks_at, Cell, cell_of, local_index, entry_at, data_at, row_record, row_key}
-use Rattle.rmt_config.specs.Layouts.{quantum_of, local_of, entry_in, IsLayout, exact_keys, exact_records, ternary_keys, ternary_records}
+use Rattle.rmt_config.specs.Layouts.{quantum_of, local_of, entry_in, IsLayout, exact_keys, exact_records, ternary_keys, ternary_records, records_of}
 use Rattle.rmt_config.proofs.CellPlaces.{mod-rows, div-rows, mod-div_rows, mod-mod_rows, three-high, three-middle}
 use Rattle.rmt_bits.proofs.BitLaws.{slice-whole}
 
@@ -86,7 +86,7 @@ records-are n some most =
 
 -- records of n bits of t times 1,024 cells a quantum, in as many ways as these cells make
 records-is : (t way ways d n : ℕ) → ways * way ≡ 1024 * t → 0 < t → t < 2 ^ 18 → 0 < way → way < 2 ^ 26 → ways ≤ 4 → 0 < d → d ≤ 106 → 0 < n → n < 65544
-    → IsLayout (record { bits = 112; rows = 1024; side = record_width n; entry = n; per = records_a_row n; units = record_units t n; way = way; ways = ways; quanta = d })
+    → IsLayout (records_of t way ways d n)
 records-is t way ways d n cells lt ht lw hw hs ld hd ln hn =
     let r = records-are n ln (omega (arith, hn)) in
     let q = records_a_row n in

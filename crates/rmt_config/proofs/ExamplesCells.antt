@@ -1,5 +1,5 @@
 -- Stages whose rows and cells keep the rules of form, and stages that break one each.
-use Rattle.std.specs.Prelude.{◌≡◌, ℕ, ◌+◌, ◌*◌, ◌-◌, ◌^◌, Bool, List, [], ◌∷◌, true, false, refl}
+use Rattle.std.specs.Prelude.{◌≡◌, ℕ, ◌+◌, ◌*◌, ◌-◌, ◌^◌, Bool, List, [], ◌∷◌, map, true, false, refl}
 use Rattle.std.proofs.Common.{lit<, lit≤, ◌/◌, ◌%◌, arith}
 use Rattle.std.specs.List.{range_with_len}
 use Rattle.std.proofs.lemmas.Bool.{false≢true}
@@ -46,22 +46,11 @@ exact_rows =
     ∷ record { block = 8; row = 0; bits = 3 * 2 ^ 9 }
     ∷ record { block = 10; row = 341; bits = 511 * 2 ^ 45 } ∷ []
 
-pub exact_first_cell : content_of (exact_stage three_numbers exact_rows) (exact_slot three_numbers) 1
-    ≡ record { head = 1; key = 0xbeef; mask = 2 ^ 16 - 1; held = 3 }
-exact_first_cell = refl
-
-pub exact_second_cell : content_of (exact_stage three_numbers exact_rows) (exact_slot three_numbers) 9190
-    ≡ record { head = 9; key = 0x0102; mask = 2 ^ 16 - 1; held = 0 }
-exact_second_cell = refl
-
-pub exact_third_cell : content_of (exact_stage three_numbers exact_rows) (exact_slot three_numbers) 12289
-    ≡ record { head = 1; key = 0x0304; mask = 2 ^ 16 - 1; held = 511 }
-exact_third_cell = refl
-
--- its neighbour, and the same place in the first quantum, are empty
-pub exact_empty_cell : content_of (exact_stage three_numbers exact_rows) (exact_slot three_numbers) 12288
-    ≡ record { head = 0; key = 0; mask = 2 ^ 16 - 1; held = 0 }
-exact_empty_cell = refl
+-- what its three cells hold, and the neighbour of the last, which is empty, as the same place in the first quantum is
+pub exact_cells : map (content_of (exact_stage three_numbers exact_rows) (exact_slot three_numbers)) (1 ∷ 9190 ∷ 12289 ∷ 12288 ∷ [])
+    ≡ record { head = 1; key = 0xbeef; mask = 2 ^ 16 - 1; held = 3 } ∷ record { head = 9; key = 0x0102; mask = 2 ^ 16 - 1; held = 0 }
+    ∷ record { head = 1; key = 0x0304; mask = 2 ^ 16 - 1; held = 511 } ∷ record { head = 0; key = 0; mask = 2 ^ 16 - 1; held = 0 } ∷ []
+exact_cells = refl
 
 pub exact_rows_kept : rows_are_formed (exact_stage three_numbers exact_rows) ≡ true
 exact_rows_kept = refl

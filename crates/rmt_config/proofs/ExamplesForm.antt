@@ -1,5 +1,5 @@
 -- The rules of form of items: for each rule an item that keeps it, and one that breaks it.
-use Rattle.std.specs.Prelude.{◌≡◌, ℕ, ◌-◌, ◌*◌, ◌^◌, List, [], ◌∷◌, replicate, Option, Some, None, true, false, refl}
+use Rattle.std.specs.Prelude.{◌≡◌, ℕ, ◌-◌, ◌*◌, ◌^◌, List, [], ◌∷◌, map, replicate, Option, Some, None, true, false, refl}
 use Rattle.rmt_bits.specs.declared.lane.Lane.{Lane}
 use Rattle.rmt_config.specs.Types.{Config, OutHeader, ParserConfig, ParserState, ParserEntry, Stage, Unit, GateUnit, GateTest, UnitGuard, SlotUnit, Memory, Vliw, Operation}
 use Rattle.rmt_config.specs.declared.config.Next.TheVariants.{Accept, State}
@@ -21,30 +21,10 @@ use Rattle.rmt_config.proofs.ExamplesParts.{lane, chip, copy, instruction, table
 
 -- ---- lanes and ports
 
--- the words have 8, 16 and 32 bits, and 223 is the last
-pub lane_byte : lane_is_formed (lane 63 0 8) ≡ true
-lane_byte = refl
-
-pub lane_past_byte : lane_is_formed (lane 63 7 2) ≡ false
-lane_past_byte = refl
-
-pub lane_half : lane_is_formed (lane 159 15 1) ≡ true
-lane_half = refl
-
-pub lane_past_half : lane_is_formed (lane 159 0 17) ≡ false
-lane_past_half = refl
-
-pub lane_whole : lane_is_formed (lane 223 0 32) ≡ true
-lane_whole = refl
-
-pub lane_past_whole : lane_is_formed (lane 223 0 33) ≡ false
-lane_past_whole = refl
-
-pub lane_of_no_word : lane_is_formed (lane 224 0 1) ≡ false
-lane_of_no_word = refl
-
-pub lane_of_no_bit : lane_is_formed (lane 0 0 0) ≡ false
-lane_of_no_bit = refl
+-- the words have 8, 16 and 32 bits, and 223 is the last: of each size a lane that ends with its word and one that goes past it, then one of no word, and one of no bit
+pub lanes : map lane_is_formed (lane 63 0 8 ∷ lane 63 7 2 ∷ lane 159 15 1 ∷ lane 159 0 17 ∷ lane 223 0 32 ∷ lane 223 0 33 ∷ lane 224 0 1 ∷ lane 0 0 0 ∷ [])
+    ≡ true ∷ false ∷ true ∷ false ∷ true ∷ false ∷ false ∷ false ∷ []
+lanes = refl
 
 -- a configuration without headers and stages, whose parser accepts each packet
 abbrev pub accepts_all : Config
@@ -237,20 +217,9 @@ entries_mixed = refl
 abbrev guarded : ℕ → Option UnitGuard
 guarded mask = Some (record { parent = 255; mask = mask })
 
-pub guard_none : guard_is_formed None ≡ true
-guard_none = refl
-
-pub guard_hits : guard_is_formed (guarded 0xfffe) ≡ true
-guard_hits = refl
-
-pub guard_never : guard_is_formed (guarded 0) ≡ true
-guard_never = refl
-
-pub guard_of_nothing_run : guard_is_formed (guarded 3) ≡ false
-guard_of_nothing_run = refl
-
-pub guard_wide : guard_is_formed (guarded 0x10000) ≡ false
-guard_wide = refl
+-- without a guard, for a hit, never, for what did not run, and with a bit too many
+pub guards : map guard_is_formed (None ∷ guarded 0xfffe ∷ guarded 0 ∷ guarded 3 ∷ guarded 0x10000 ∷ []) ≡ true ∷ true ∷ true ∷ false ∷ false ∷ []
+guards = refl
 
 abbrev tests : ℕ → ℕ → GateTest
 tests value mask = record { lane = lane 0 2 4; value = value; mask = mask }
@@ -310,21 +279,9 @@ bare_with_number = refl
 abbrev blocks : ℕ → ℕ → ℕ → BlockCounts
 blocks keys records counters = record { keys = keys; records = records; counters = counters }
 
--- one quantum of units of one block and one cell a row, 4,096 cells: no record, 112, 2 and 1 in a row, and 1 in a row of two blocks
-pub exact_no_data : exact_block_counts 1 1 1 0 true ≡ blocks 4 0 4
-exact_no_data = refl
-
-pub exact_1_bit : exact_block_counts 1 1 1 1 true ≡ blocks 4 1 4
-exact_1_bit = refl
-
-pub exact_40_bits : exact_block_counts 1 1 1 40 true ≡ blocks 4 2 4
-exact_40_bits = refl
-
-pub exact_112_bits : exact_block_counts 1 1 1 112 true ≡ blocks 4 4 4
-exact_112_bits = refl
-
-pub exact_113_bits : exact_block_counts 1 1 1 113 true ≡ blocks 4 8 4
-exact_113_bits = refl
+-- one quantum of units of one block and one cell a row, 4,096 cells, with records of so many bits: none, 112, 2 and 1 in a row, and 1 in a row of two blocks
+pub exact_blocks : map (λ held. exact_block_counts 1 1 1 held true) (0 ∷ 1 ∷ 40 ∷ 112 ∷ 113 ∷ []) ≡ blocks 4 0 4 ∷ blocks 4 1 4 ∷ blocks 4 2 4 ∷ blocks 4 4 4 ∷ blocks 4 8 4 ∷ []
+exact_blocks = refl
 
 -- two quanta of units of three blocks and five cells a row: 20 records to 1,024 rows in each, 10 units
 pub exact_two_quanta : exact_block_counts 3 5 2 40 true ≡ blocks 24 20 40
@@ -377,14 +334,8 @@ cell_one_bit_wide = refl
 abbrev exact_of_quanta : ℕ → SlotUnit
 exact_of_quanta d = with_memory (lane 160 0 32 ∷ []) 0 (Exact 1 1 d 4 (replicate (4 * d) 0) [] (replicate (4 * d) 1))
 
-pub quanta_106 : slot_is_formed (exact_of_quanta 106) ≡ true
-quanta_106 = refl
-
-pub quanta_107 : slot_is_formed (exact_of_quanta 107) ≡ false
-quanta_107 = refl
-
-pub quanta_0 : slot_is_formed (exact_of_quanta 0) ≡ false
-quanta_0 = refl
+pub quanta : map (λ d. slot_is_formed (exact_of_quanta d)) (106 ∷ 107 ∷ 0 ∷ []) ≡ true ∷ false ∷ false ∷ []
+quanta = refl
 
 pub width_0 : slot_is_formed (with_memory (lane 160 0 32 ∷ []) 0 (Exact 0 1 1 0 [] [] (replicate 4 1))) ≡ false
 width_0 = refl

@@ -1,5 +1,5 @@
 -- Images that are known byte by byte: one header of a byte, and one table that sends each packet to port 1.
-use Rattle.std.specs.Prelude.{◌≡◌, ℕ, List, [], ◌∷◌, None, true, false, length, refl}
+use Rattle.std.specs.Prelude.{◌≡◌, ℕ, List, [], ◌∷◌, None, true, false, length, map, refl}
 use Rattle.rmt_bits.specs.declared.lane.Lane.{Lane}
 use Rattle.rmt_config.specs.Types.{Config}
 use Rattle.rmt_config.specs.declared.config.Extract.TheVariants.{Bits}
@@ -32,9 +32,6 @@ shared_words = sends_to_one (lane 0 1 1) (lane 1 0 8)
 pub shared_words-spelled : spelled shared_words ≡ bytes_to_one 0 1 1
 shared_words-spelled = refl
 
-pub shared_words-length : length (spelled shared_words) ≡ 95
-shared_words-length = refl
-
 -- each piece has a word of its own
 abbrev pub own_words : Config
 own_words = sends_to_one (lane 1 0 1) (lane 2 0 8)
@@ -42,8 +39,9 @@ own_words = sends_to_one (lane 1 0 1) (lane 2 0 8)
 pub own_words-spelled : spelled own_words ≡ bytes_to_one 1 0 2
 own_words-spelled = refl
 
-pub own_words-length : length (spelled own_words) ≡ 95
-own_words-length = refl
+-- both have 95 bytes
+pub lengths : map (λ c. length (spelled c)) (shared_words ∷ own_words ∷ []) ≡ 95 ∷ 95 ∷ []
+lengths = refl
 
 -- both keep the rules of form and the limits
 pub shared_words-formed : items_are_formed shared_words ≡ true

@@ -1,39 +1,27 @@
 -- What a search for a row finds, and the head that two rows give.
-use Rattle.std.proofs.Common.{◌≡◌, ℕ, ◌+◌, ◌*◌, ◌/◌, ◌%◌, ◌^◌, ◌<◌, ◌≤◌, List, length, get_or, drop, map, true, sym, refl, ap, ◌∙◌, subst, arith, inl, inr}
+use Rattle.std.proofs.Common.{◌≡◌, ℕ, ◌+◌, ◌*◌, ◌/◌, ◌%◌, ◌^◌, ◌<◌, ◌≤◌, List, length, get_or, drop, map, true, sym, refl, ap, ◌∙◌, arith}
 use Rattle.std.specs.Prelude.{All}
-use Rattle.std.proofs.lemmas.Bool.{cases_order}
-use Rattle.std.proofs.lemmas.Nat.{same_from_place, div-add-mod', mod_below}
+use Rattle.std.proofs.lemmas.Nat.{div-add-mod', mod_below}
 use Rattle.std.proofs.lemmas.List.{length-take, length-drop, get_or-take, get_or-drop}
 use Rattle.rmt_bits.specs.Bits.{slice}
 use Rattle.rmt_config.specs.Types.{SramRow}
 use Rattle.rmt_config.specs.Order.{rises_from}
 use Rattle.rmt_config.specs.StageForm.{srow_number}
 use Rattle.rmt_config.specs.Cells.{sram_row, unit_row, blocks_at}
-use Rattle.rmt_config.proofs.RiseLaws.{rise-below}
-use Rattle.rmt_config.proofs.HeldRows.{found-item, found-none, sram-within}
+use Rattle.rmt_config.proofs.HeldRows.{found-numbered, none-numbered, sram-within}
 use Rattle.rmt_config.proofs.HeadBits.{head_across, head-bits}
 
 pub row-found : (rows : List SramRow) (at block row : ℕ) (d : SramRow) → rises_from 0 (map srow_number rows) ≡ true → All (λ (r : SramRow). r.row < 1024) rows
     → row < 1024 → at < length rows → srow_number (get_or rows at d) ≡ block * 1024 + row → (get_or rows at d).bits ≡ sram_row rows block row
 row-found rows at block row d rise low lr lt e =
-    let x = get_or rows at d in
-    let turned : x.block * 1024 + x.row ≡ block * 1024 + row = omega (arith, e) in
-    let same = same_from_place x.block x.row block row 1024 (low at d lt) lr turned in
-    sym (found-item (λ (r : SramRow). r.block) (λ (r : SramRow). r.row) (λ (r : SramRow). r.bits) srow_number 1024 rows at d (λ r. refl) rise lt block row same.0 same.1)
+    found-numbered (λ (r : SramRow). r.block) (λ (r : SramRow). r.row) (λ (r : SramRow). r.bits) srow_number 1024 rows at block row d (λ r. refl) rise low lr lt e
 
 pub row-none : (rows : List SramRow) (at block row : ℕ) → rises_from 0 (map srow_number rows) ≡ true
     → ((k : ℕ) (d : SramRow) → k < at → srow_number (get_or rows k d) < block * 1024 + row)
     → ((k : ℕ) (d : SramRow) → at ≤ k → k < length rows → block * 1024 + row ≤ srow_number (get_or rows k d))
     → ((d : SramRow) → at < length rows → srow_number (get_or rows at d) ≡ block * 1024 + row → ⊥) → 0 ≡ sram_row rows block row
 row-none rows at block row rise below above other =
-    sym (found-none (λ (r : SramRow). r.block) (λ (r : SramRow). r.row) (λ (r : SramRow). r.bits) rows block row (λ k d lt eb er.
-    let x = get_or rows k d in
-    let e : srow_number x ≡ block * 1024 + row = (let eb' : x.block ≡ block = eb in let er' : x.row ≡ row = er in omega (arith, eb', er')) in
-    elim (cases_order k at) as (λ _. ⊥) [
-      | inl same ↦ other d (subst (λ i. i < length rows) same lt) (subst (λ i. srow_number (get_or rows i d) ≡ block * 1024 + row) same e)
-      | inr (inl less) ↦ absurd (omega (arith, below k d less, e))
-      | inr (inr more) ↦ absurd (omega (arith, rise-below srow_number 0 rows rise at k d more lt, above at d (omega arith) (omega (arith, more, lt)), e))
-    ]))
+    none-numbered (λ (r : SramRow). r.block) (λ (r : SramRow). r.row) (λ (r : SramRow). r.bits) srow_number 1024 rows at block row (λ r. refl) rise below above other
 
 -- the head that stands from a bit on, in one block of a unit or across two
 pub head-read : (rows : List SramRow) (blocks : List ℕ) (side unit row bit first second : ℕ) → All (λ (r : SramRow). r.bits < 2 ^ 112) rows

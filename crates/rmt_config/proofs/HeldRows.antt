@@ -1,8 +1,8 @@
 -- What blocks hold, by rows in rising order.
-use Rattle.std.proofs.Common.{◌≡◌, ℕ, zero, suc, ◌+◌, ◌*◌, ◌/◌, ◌%◌, ◌^◌, ◌<◌, List, [], ◌∷◌, length, get_or, map, Bool, true, false, ◌&&◌, eqb, Some, sym, refl, ap, ◌∙◌, arith}
+use Rattle.std.proofs.Common.{◌≡◌, ℕ, zero, suc, ◌+◌, ◌*◌, ◌/◌, ◌%◌, ◌^◌, ◌<◌, ◌≤◌, List, [], ◌∷◌, length, get_or, map, Bool, true, false, ◌&&◌, eqb, Some, sym, refl, ap, ◌∙◌, subst, arith, inl, inr}
 use Rattle.std.specs.Prelude.{All, find, option_map, unwrap_or, slice_get}
-use Rattle.std.proofs.lemmas.Bool.{and_parts, and_from, eqb-true, eq-eqb, false_from_ne_true}
-use Rattle.std.proofs.lemmas.Nat.{div-mul-add, mod-mul-add, pow_pos}
+use Rattle.std.proofs.lemmas.Bool.{and_parts, and_from, cases_order, eqb-true, eq-eqb, false_from_ne_true}
+use Rattle.std.proofs.lemmas.Nat.{div-mul-add, mod-mul-add, pow_pos, same_from_place}
 use Rattle.std.proofs.lemmas.List.Folds.{find_at}
 use Rattle.std.proofs.lemmas.List.Sums.{position_or_len_is}
 use Rattle.rmt_config.specs.declared.form.layout.CellLayout.{CellLayout}
@@ -57,6 +57,31 @@ found-none fb fr val xs b r none =
     let parts = and_parts (eqb (fb (get_or xs k d)) b) (eqb (fr (get_or xs k d)) r) same in
     none k d lt (eqb-true (fb (get_or xs k d)) b parts.0) (eqb-true (fr (get_or xs k d)) r parts.1))))
 
+turned : (h b r : ℕ) → h * b + r ≡ b * h + r
+turned h b r = omega arith
+
+-- an item is found by its number, where blocks have h rows
+pub found-numbered : {X : Type 0} (fb fr val num : X → ℕ) (h : ℕ) (xs : List X) (at block row : ℕ) (d : X) → ((x : X) → num x ≡ h * fb x + fr x) → rises_from 0 (map num xs) ≡ true
+    → All (λ x. fr x < h) xs → row < h → at < length xs → num (get_or xs at d) ≡ block * h + row → val (get_or xs at d) ≡ held_of fb fr val xs block row
+found-numbered fb fr val num h xs at block row d is rise low lr lt e =
+    let x = get_or xs at d in
+    let same = same_from_place (fb x) (fr x) block row h (low at d lt) lr (sym (is x ∙ turned h (fb x) (fr x)) ∙ e) in
+    sym (found-item fb fr val num h xs at d is rise lt block row same.0 same.1)
+
+-- none is found where the items before a place are lower, those from it on are not, and the one there has another number
+pub none-numbered : {X : Type 0} (fb fr val num : X → ℕ) (h : ℕ) (xs : List X) (at block row : ℕ) → ((x : X) → num x ≡ h * fb x + fr x) → rises_from 0 (map num xs) ≡ true
+    → ((k : ℕ) (d : X) → k < at → num (get_or xs k d) < block * h + row) → ((k : ℕ) (d : X) → at ≤ k → k < length xs → block * h + row ≤ num (get_or xs k d))
+    → ((d : X) → at < length xs → num (get_or xs at d) ≡ block * h + row → ⊥) → 0 ≡ held_of fb fr val xs block row
+none-numbered fb fr val num h xs at block row is rise below above other =
+    sym (found-none fb fr val xs block row (λ k d lt eb er.
+    let x = get_or xs k d in
+    let e : num x ≡ block * h + row = is x ∙ ap (λ b. h * b + fr x) eb ∙ ap (λ r. h * block + r) er ∙ turned h block row in
+    elim (cases_order k at) as (λ _. ⊥) [
+      | inl same ↦ other d (subst (λ i. i < length xs) same lt) (subst (λ i. num (get_or xs i d) ≡ block * h + row) same e)
+      | inr (inl less) ↦ absurd (omega (arith, below k d less, e))
+      | inr (inr more) ↦ absurd (omega (arith, rise-below num 0 xs rise at k d more lt, above at d (omega arith) (omega (arith, more, lt)), e))
+    ]))
+
 -- rows that rise, all of them within their blocks, stand for what the blocks hold
 pub rows-agree : {X : Type 0} (l : CellLayout) (fb fr val num : X → ℕ) (xs : List X) → ((x : X) → num x ≡ l.rows * fb x + fr x)
     → rises_from 0 (map num xs) ≡ true → All (λ x. fr x < l.rows) xs → All (λ x. val x < 2 ^ l.bits) xs
@@ -68,9 +93,6 @@ rows-agree {X} l fb fr val num xs is rise low small = record {
   low = λ b r past. found-none fb fr val xs b r (λ k d lt eb er. absurd (omega (arith, low k d lt, er, past)));
 }
   where
-    turned : (h b r : ℕ) → h * b + r ≡ b * h + r
-    turned h b r = omega arith
-
     block_of : (k : ℕ) (d : X) → k < length xs → num (get_or xs k d) / l.rows ≡ fb (get_or xs k d)
     block_of k d lt =
         let x = get_or xs k d in

@@ -57,6 +57,7 @@ pub mod SpelledCandidates
 mod SpelledKeys
 pub mod SpelledWays
 mod KeyListLaws
+mod ExactCellLaws
 mod PrintLaws
 mod MarkLaws
 pub mod HighFirst

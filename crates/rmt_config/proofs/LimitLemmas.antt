@@ -1,5 +1,6 @@
 -- Steps of the loops that look at the limits.
 use Rattle.std.proofs.Common.{◌≡◌, ℕ, zero, suc, ◌+◌, ◌<◌, ◌≤◌, min, max, List, [], ◌∷◌, ◌++◌, length, get_or, take, set, replicate, Bool, true, false, ◌||◌, cond, eqb, ltb, map, append_assoc, sym, refl, subst, ap, ◌∙◌, arith, ◌⊎◌, inl, inr}
+use Rattle.std.proofs.Math.Bool.{or-false, or-true}
 use Rattle.std.specs.List.{list_all, flat_map, sum_by, fold, range_with_len}
 use Rattle.std.proofs.lemmas.Bool.{cases_eq, ne_eqb, eq-eqb, lt-ltb, le-ltb, ltb-true, and_parts, and_from}
 use Rattle.std.proofs.lemmas.List.{map_more, take_more, take_all, flat_map_more, get_or-set_other, get_or-set_same, length-set, get_or-replicate}
@@ -15,16 +16,8 @@ use Rattle.rmt_bits.proofs.MostLaws.{start-le}
 
 -- ---- numbers in lists
 
-or_false : (b : Bool) → (b || false) ≡ b
-or_false true = refl
-or_false false = refl
-
-or_true : (b : Bool) → (b || true) ≡ true
-or_true true = refl
-or_true false = refl
-
 in_more : (ns : List ℕ) (x n : ℕ) → is_in (ns ++ x ∷ []) n ≡ (is_in ns n || eqb x n)
-in_more ns x n = list_any-append (λ m. eqb m n) ns (x ∷ []) ∙ ap (λ b. is_in ns n || b) (or_false (eqb x n))
+in_more ns x n = list_any-append (λ m. eqb m n) ns (x ∷ []) ∙ ap (λ b. is_in ns n || b) (or-false (eqb x n))
 
 times_more : (ns : List ℕ) (x n : ℕ) → times_in (ns ++ x ∷ []) n ≡ times_in ns n + cond (eqb x n) 1 0
 times_more ns x n =
@@ -49,13 +42,13 @@ distinct_more measure (n ∷ ns) x =
     let stands : is_in (ns ++ x ∷ []) n ≡ (is_in ns n || eqb x n) = in_more ns x n in
     elim (cases_eq n x) [
       | inl same ↦
-          let before : is_in (ns ++ x ∷ []) n ≡ true = stands ∙ ap (λ b. is_in ns n || b) (eq-eqb x n (sym same)) ∙ or_true (is_in ns n) in
+          let before : is_in (ns ++ x ∷ []) n ≡ true = stands ∙ ap (λ b. is_in ns n || b) (eq-eqb x n (sym same)) ∙ or-true (is_in ns n) in
           let l : cond (is_in (ns ++ x ∷ []) n) 0 (measure n) ≡ 0 = ap (λ b. cond b 0 (measure n)) before in
           let r : cond (is_in (n ∷ ns) x) 0 (measure x) ≡ 0 = ap (λ b. cond (b || is_in ns x) 0 (measure x)) (eq-eqb n x same) in
           let alike : cond (is_in ns n) 0 (measure n) ≡ cond (is_in ns x) 0 (measure x) = ap (λ k. cond (is_in ns k) 0 (measure k)) same in
           omega (arith, left, right, rest, l, r, alike)
       | inr other ↦
-          let before : is_in (ns ++ x ∷ []) n ≡ is_in ns n = stands ∙ ap (λ b. is_in ns n || b) (ne_eqb x n (λ s. other (sym s))) ∙ or_false (is_in ns n) in
+          let before : is_in (ns ++ x ∷ []) n ≡ is_in ns n = stands ∙ ap (λ b. is_in ns n || b) (ne_eqb x n (λ s. other (sym s))) ∙ or-false (is_in ns n) in
           let l : cond (is_in (ns ++ x ∷ []) n) 0 (measure n) ≡ cond (is_in ns n) 0 (measure n) = ap (λ b. cond b 0 (measure n)) before in
           let r : cond (is_in (n ∷ ns) x) 0 (measure x) ≡ cond (is_in ns x) 0 (measure x) = ap (λ b. cond (b || is_in ns x) 0 (measure x)) (ne_eqb n x other) in
           omega (arith, left, right, rest, l, r)
@@ -92,11 +85,11 @@ one_marked ns marks x lt m =
           elim (cases_eq n x) [
             | inl same ↦
                 let now : get_or (set marks x true) x false ≡ true = get_or-set_same marks x true false inside in
-                let stands : is_in (ns ++ x ∷ []) x ≡ true = in_more ns x x ∙ ap (λ b. is_in ns x || b) (eq-eqb x x refl) ∙ or_true (is_in ns x) in
+                let stands : is_in (ns ++ x ∷ []) x ≡ true = in_more ns x x ∙ ap (λ b. is_in ns x || b) (eq-eqb x x refl) ∙ or-true (is_in ns x) in
                 ap (λ k. get_or (set marks x true) k false) same ∙ now ∙ sym stands ∙ ap (is_in (ns ++ x ∷ [])) (sym same)
             | inr other ↦
                 let now : get_or (set marks x true) n false ≡ get_or marks n false = get_or-set_other marks x n true false other in
-                let stands : is_in (ns ++ x ∷ []) n ≡ is_in ns n = in_more ns x n ∙ ap (λ b. is_in ns n || b) (ne_eqb x n (λ s. other (sym s))) ∙ or_false (is_in ns n) in
+                let stands : is_in (ns ++ x ∷ []) n ≡ is_in ns n = in_more ns x n ∙ ap (λ b. is_in ns n || b) (ne_eqb x n (λ s. other (sym s))) ∙ or-false (is_in ns n) in
                 now ∙ m.each n byte ∙ sym stands
           ];
       sums = λ measure.

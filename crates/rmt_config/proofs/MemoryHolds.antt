@@ -1,12 +1,12 @@
 -- Answers on the rows of a memory, at equal layouts, rows and numbers.
-use Rattle.std.proofs.Common.{◌≡◌, ℕ, ◌*◌, ◌/◌, ◌%◌, List, length, Bool, false, ap, ◌∙◌, subst, arith}
+use Rattle.std.proofs.Common.{◌≡◌, ℕ, ◌*◌, ◌/◌, ◌%◌, List, length, Bool, true, false, sym, ap, ◌∙◌, subst, arith}
 use Rattle.std.specs.Prelude.{◌↔◌, IsTrue}
-use Rattle.std.proofs.lemmas.Bool.{false≢true}
+use Rattle.std.proofs.lemmas.Bool.{both_ways, false≢true}
 use Rattle.rmt_config.specs.declared.form.layout.CellLayout.{CellLayout}
 use Rattle.rmt_config.specs.Types.{Stage, SramRow, SlotUnit, CellNumber}
 use Rattle.rmt_config.specs.BlockCounts.{record_width, record_units}
 use Rattle.rmt_config.specs.Cells.{sram_row}
-use Rattle.rmt_config.specs.Layouts.{BlocksTold, listed_cells, cells_hold, exact_records, SramTold}
+use Rattle.rmt_config.specs.Layouts.{BlocksTold, listed_cells, cells_hold, exact_records, EntriesHeld, SramTold}
 
 abbrev pub RowsAnswer : {X : Type 0} → (X → ℕ) → (X → ℕ) → Bool → CellLayout → List X → List CellNumber → List ℕ → Type 0
 RowsAnswer num bits b l rows numbers blocks =
@@ -24,13 +24,20 @@ cells-same l l' rows rows' numbers numbers' blocks visible first actions el er e
     ap (λ x. cells_hold l' (sram_row rows') blocks visible first actions x) en
     ∙ ap (λ x. cells_hold l' (sram_row x) blocks visible first actions numbers) er ∙ ap (λ x. cells_hold x (sram_row rows) blocks visible first actions numbers) el
 
--- ---- an answer in three parts
+pub true-same : (a b : Bool) → a ≡ b → IsTrue a ↔ IsTrue b
+true-same a b e = (λ h. sym e ∙ h, λ h. e ∙ h)
 
-pub breaks_first : (A B : Type 0) → (A → ⊥) → IsTrue false ↔ (A × B)
-breaks_first A B unmet = (λ f. absurd (false≢true f), λ all. absurd (unmet all.0))
+-- entries that hold in one layout hold in the same one
+pub entries-at : (b : Bool) (stage : Stage) (s : SlotUnit) (visible first : ℕ) {l l' : CellLayout} (blocks : List ℕ) → l' ≡ l
+    → (IsTrue b ↔ EntriesHeld stage s visible first l' blocks) → (IsTrue b ↔ EntriesHeld stage s visible first l blocks)
+entries-at b stage s visible first blocks e h = subst (λ x. IsTrue b ↔ EntriesHeld stage s visible first x blocks) e h
 
-pub breaks_second : (A B C : Type 0) → (B → ⊥) → IsTrue false ↔ (A × (B × C))
-breaks_second A B C unmet = (λ f. absurd (false≢true f), λ all. absurd (unmet all.1.0))
+-- an answer in two parts, of which the first broke or stands
+pub breaks_first : (a : Bool) (A B : Type 0) → (IsTrue a ↔ A) → a ≡ false → IsTrue false ↔ (A × B)
+breaks_first a A B first broken = (λ f. absurd (false≢true f), λ all. absurd (both_ways a broken (first.1 all.0)))
+
+pub then_second : (a b : Bool) (A B : Type 0) → (IsTrue a ↔ A) → a ≡ true → (IsTrue b ↔ B) → IsTrue b ↔ (A × B)
+then_second a b A B first stands second = (λ h. (first.0 stands, second.0 h), λ all. second.1 all.1)
 
 -- a record of no bits has no blocks
 pub no_records : (stage : Stage) (s : SlotUnit) (p d : ℕ) (rs : List ℕ) → s.held ≡ 0

@@ -1,16 +1,19 @@
 -- The rules on names of tables with parts.
 use Rattle.std.proofs.Common.{◌≡◌, ℕ, ◌+◌, ◌≤◌, List, [], ◌∷◌, length, map, Bool, true, false, ◌&&◌, subst, sym, refl, ap, ◌∙◌}
-use Rattle.std.specs.Prelude.{nat_le, sum}
+use Rattle.std.specs.Prelude.{◌==◌, nat_le, sum}
 use Rattle.std.specs.List.{list_all}
 use Rattle.std.proofs.lemmas.Bool.{le-leb}
 use Rattle.std.proofs.lemmas.List.{length-map}
 use Rattle.std.proofs.lemmas.List.Folds.{list_all-append, list_all-map}
 use Rattle.std.proofs.lemmas.Simd.{map-map}
+use Rattle.rmt_ast.specs.declared.names.ActionName.{ActionName}
 use Rattle.rmt_ast.specs.declared.names.Names.{Names}
-use Rattle.rmt_config.specs.Types.{SlotUnit, Stage, Unit}
-use Rattle.rmt_config.specs.NamesForm.{is_named}
+use Rattle.rmt_ast.specs.declared.names.TableName.{TableName}
+use Rattle.rmt_config.specs.Types.{Config, SlotUnit, Stage, Unit}
+use Rattle.rmt_config.specs.NamesForm.{has_actions, has_key_bits, is_named}
+use Rattle.rmt_config.specs.LaneForm.{bits_of_lanes}
 use Rattle.rmt_config.specs.PartsTold.{part_at, parts_at}
-use Rattle.rmt_config.specs.Rooms.{PartAt}
+use Rattle.rmt_config.specs.Rooms.{PartAt, parts_of}
 use Rattle.rmt_config.specs.declared.form.names.part_list.Part.{Part}
 use Rattle.rmt_config.specs.TableForm.{Placed, placed_from}
 
@@ -29,9 +32,18 @@ module _ (parts : List Part) (ps : List PartAt) (seen : parts_at parts ≡ ps) w
   pub with_part : (b : Bool) → 1 ≤ length parts → b ≡ (nat_le 1 (length ps) && b)
   with_part b some = ap (λ has. has && b) (sym (le-leb 1 (length ps) (subst (λ n. 1 ≤ n) seen_length some)))
 
-  pub both_seen : (f g : SlotUnit → Bool)
+  both_seen : (f g : SlotUnit → Bool)
       → (list_all (λ (p : Part). f p.slot.now) parts && list_all (λ (p : Part). g p.slot.now) parts) ≡ (list_all (λ (p : PartAt). f p.slot) ps && list_all (λ (p : PartAt). g p.slot) ps)
   both_seen f g = ap (λ b. b && list_all (λ (p : Part). g p.slot.now) parts) (each_seen f) ∙ ap (λ b. list_all (λ (p : PartAt). f p.slot) ps && b) (each_seen g)
+
+-- what the parts of a table say of its key and its actions
+pub fit_seen : (c : Config) (t : TableName) (parts : List Part) → parts_at parts ≡ parts_of c t.node
+    → (list_all (λ (p : Part). sum t.keys == bits_of_lanes p.slot.now.keys) parts
+    && list_all (λ (p : Part). (length t.actions == p.slot.now.actions) && list_all (λ (a : ActionName). nat_le (sum a.params) p.slot.now.held) t.actions) parts)
+    ≡ (has_key_bits c t && has_actions c t)
+fit_seen c t parts seen =
+    both_seen parts (parts_of c t.node) seen (λ (s : SlotUnit). sum t.keys == bits_of_lanes s.keys)
+    (λ (s : SlotUnit). (length t.actions == s.actions) && list_all (λ (a : ActionName). nat_le (sum a.params) s.held) t.actions)
 
 pub then_too : (a b : Bool) → a ≡ true → b ≡ (a && b)
 then_too a b e = ap (λ x. x && b) (sym e)

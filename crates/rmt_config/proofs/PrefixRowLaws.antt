@@ -9,6 +9,7 @@ use Rattle.std.proofs.lemmas.List.Elements.{All-head, All-tail}
 use Rattle.std.proofs.lemmas.List.Folds.{list_all-map}
 use Rattle.std.proofs.lemmas.Option.{none-some, same_Some}
 use Rattle.rmt_bits.proofs.AllLaws.{All-from_test}
+use Rattle.rmt_bits.specs.declared.lane.Lane.{Lane}
 use Rattle.rmt_config.specs.Types.{CellNumber, Config, Memory, SlotUnit, Stage, TcamRow, Unit}
 use Rattle.rmt_config.specs.declared.config.Memory.TheVariants.{Ternary}
 use Rattle.rmt_config.specs.StageForm.{is_listed, rows_are_formed, tcam_blocks, trow_is_formed, trow_number}
@@ -22,7 +23,7 @@ use Rattle.rmt_config.specs.Rooms.{PartAt}
 use Rattle.rmt_config.specs.RunCells.{own_content}
 use Rattle.rmt_config.specs.BlockCounts.{divided_up}
 use Rattle.rmt_config.proofs.RiseLaws.{one_off}
-use Rattle.rmt_config.proofs.SpelledParts.{held-is}
+use Rattle.rmt_config.proofs.SpelledParts.{held-is, rows-in}
 use Rattle.rmt_config.proofs.TcamRowLaws.{trow-found as row-found, trow-none as row-none}
 
 -- ---- a row of a block
@@ -174,6 +175,27 @@ module _ (c : Config) (p : PartAt) (stands : PartStands c p) (d : ℕ) (ks rs cs
   key-small memory n =
       let within = values-within stands.stage.trows (n % 2048) (blocks_at ks (divided_up (bits_of_lanes p.slot.keys) 40) (n / 2048)) (prefix-rows c p stands memory).within in
       omega (arith, within, key-there n, mask-there n, mask-small n)
+
+  -- what rows and blocks as they are read say of a cell
+  pub record CellRead (n : ℕ) (rows : List TcamRow) (blocks : List ℕ) : Type 0 where
+    pub key : unit_row 40 (tcam_row (λ (t : TcamRow). t.value) rows) (n % 2048) blocks ≡ (own_content c p.stage p.place n).key
+    pub mask : unit_row 40 (tcam_row (λ (t : TcamRow). t.mask) rows) (n % 2048) blocks ≡ (own_content c p.stage p.place n).mask
+    pub small_key : (own_content c p.stage p.place n).key < 2 ^ bits_of_lanes p.slot.keys
+    pub small_mask : (own_content c p.stage p.place n).mask < 2 ^ bits_of_lanes p.slot.keys
+
+  -- from the stage, its rows, the blocks of the part and those of the cell, as they are read one after another
+  pub cell-read : {stages : List Stage} {stage : Stage} {rows : List TcamRow} {lanes : List Lane} {bits side : ℕ} {keys blocks : List ℕ} → MemoryIsFormed c → (n : ℕ)
+      → stages ≡ c.stages → stage ≡ get_or stages p.stage stage → rows ≡ (get_or stages p.stage stage).trows
+      → lanes ≡ p.slot.keys → bits ≡ bits_of_lanes lanes → side ≡ divided_up bits 40 → keys ≡ ks → blocks ≡ blocks_at keys side (n / 2048) → CellRead n rows blocks
+  cell-read memory n all at own el eb es ek eu =
+      let rows_are = rows-in (λ (x : Stage). x.trows) c p stands all at own in
+      let side_is = es ∙ ap (λ b. divided_up b 40) (eb ∙ ap bits_of_lanes el) in
+      record {
+        key = key-read n _ _ _ _ rows_are side_is ek eu;
+        mask = mask-read n _ _ _ _ rows_are side_is ek eu;
+        small_key = key-small memory n;
+        small_mask = mask-small n;
+      }
 
 -- what has no bit behind those of a short key fits 128 bits
 pub short-fits : (x bits : ℕ) → x < 2 ^ bits → bits ≤ 128 → x < 2 ^ 128

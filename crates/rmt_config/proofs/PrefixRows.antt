@@ -22,15 +22,15 @@ use Rattle.rmt_ast.specs.Naming.{rank_of}
 use Rattle.rmt_config.specs.Types.{CellNumber, Config, Memory}
 use Rattle.rmt_config.specs.declared.config.Memory.TheVariants.{Without, Exact, Ternary}
 use Rattle.rmt_config.specs.declared.form.names.part_list.Part.{Part}
+use Rattle.rmt_config.specs.declared.form.names.part_list.TableParts.{TableParts}
+use Rattle.rmt_config.specs.TableStands.{TableStands}
 use Rattle.rmt_config.specs.declared.form.names.prefix_rows.Row.{Row}
-use Rattle.rmt_config.specs.Form.{items_are_formed}
 use Rattle.rmt_config.specs.LaneForm.{bits_of_lanes}
-use Rattle.rmt_config.specs.MemoryRules.{MemoryIsFormed}
 use Rattle.rmt_config.specs.Rooms.{PartAt, parts_of}
 use Rattle.rmt_config.specs.PartStands.{PartStands}
 use Rattle.rmt_config.specs.PartsTold.{listed_numbers, part_at, parts_at}
 use Rattle.rmt_config.specs.TableForm.{is_ternary}
-use Rattle.rmt_config.specs.NamesForm.{each_later, each_part, entries_by_cell, entry_in, has_keys_once, has_order, has_parts, has_prefixes, held_by, is_filled_so, is_made_so, is_of_kind, prefix_length, rank_in, stands_in_candidates, tests_of_key}
+use Rattle.rmt_config.specs.NamesForm.{each_later, each_part, entries_by_cell, entry_in, has_keys_once, has_order, has_prefixes, held_by, is_filled_so, is_of_kind, prefix_length, rank_in, stands_in_candidates, tests_of_key}
 use Rattle.rmt_config.specs.PrefixRows.{have_lengths, have_same, length_in, row_goes_first, row_in, rows_keep, rows_of, stand_once}
 use Rattle.rmt_config.proofs.SpelledLists.{drop-at}
 use Rattle.rmt_config.proofs.SpelledParts.{parts-stand}
@@ -189,48 +189,47 @@ prefix-memory (Ternary d ks rs cs) e = e
 
 -- ---- the parts as they are gone over
 
-module _ (c : Config) (t : TableName) (parts : List Part) (same : parts_at parts ≡ parts_of c t.node) (items : IsTrue (items_are_formed c)) (memory : MemoryIsFormed c) (is : t.kind ≡ kind.Prefix)
-    (alone : table_is_formed t ≡ true) (has : has_parts c t ≡ true) (made : is_made_so c t ≡ true) where
-  key : OneKey t
-  key = one-key t is alone
+module _ (of : TableParts) (stands : TableStands of) (is : of.table.now.kind ≡ kind.Prefix) (alone : table_is_formed of.table.now ≡ true) where
+  key : OneKey of.table.now
+  key = one-key of.table.now is alone
 
-  pub key-one : length t.keys ≡ 1
+  pub key-one : length of.table.now.keys ≡ 1
   key-one = ap (λ (ws : List ℕ). length ws) key.is
 
-  key-bits : sum t.keys ≡ key.width
+  key-bits : sum of.table.now.keys ≡ key.width
   key-bits = ap (λ (ws : List ℕ). sum ws) key.is ∙ sum-one key.width
 
-  pub key-low : sum t.keys ≤ 128
+  pub key-low : sum of.table.now.keys ≤ 128
   key-low = subst (λ n. n ≤ 128) (sym key-bits) key.low
 
-  all-prefix : All (PrefixPart c) (parts_of c t.node)
+  all-prefix : All (PrefixPart of.config.now) (parts_of of.config.now of.table.now.node)
   all-prefix =
-      prefix-all c (sum t.keys) (parts_of c t.node) key-low (parts-stand c t.node items memory) (of-kind c t kind.Prefix is has)
-      (and_parts _ _ (and_parts _ _ made).0).0
+      prefix-all of.config.now (sum of.table.now.keys) (parts_of of.config.now of.table.now.node) key-low (parts-stand of.config.now of.table.now.node stands.items stands.memory) (of-kind of.config.now of.table.now kind.Prefix is stands.has)
+      (and_parts _ _ (and_parts _ _ stands.made).0).0
 
-  pub prefix-at : (i : ℕ) (x : Part) → i < length parts → x ≡ get_or parts i x → PrefixPart c (part_at x)
+  pub prefix-at : (i : ℕ) (x : Part) → i < length of.parts.now → x ≡ get_or of.parts.now i x → PrefixPart of.config.now (part_at x)
   prefix-at i x lt at =
-      subst (λ y. PrefixPart c (part_at y)) (sym at)
-      (All-unmap (PrefixPart c) part_at parts (subst (All (PrefixPart c)) (sym same) all-prefix) i x lt)
+      subst (λ y. PrefixPart of.config.now (part_at y)) (sym at)
+      (All-unmap (PrefixPart of.config.now) part_at of.parts.now (subst (All (PrefixPart of.config.now)) (sym stands.parts) all-prefix) i x lt)
 
-  prefix-told : is_filled_so c t ≡ (leb (length (listed_numbers (parts_of c t.node))) t.size && rows_keep key.width (rows_of c (parts_of c t.node)))
+  prefix-told : is_filled_so of.config.now of.table.now ≡ (leb (length (listed_numbers (parts_of of.config.now of.table.now.node))) of.table.now.size && rows_keep key.width (rows_of of.config.now (parts_of of.config.now of.table.now.node)))
   prefix-told =
-      prefix-answer c t key.width is key.is
-      (all-stand c (is_of_kind kind.Prefix) prefix-memory (parts_of c t.node) (parts-stand c t.node items memory) (of-kind c t kind.Prefix is has))
+      prefix-answer of.config.now of.table.now key.width is key.is
+      (all-stand of.config.now (is_of_kind kind.Prefix) prefix-memory (parts_of of.config.now of.table.now.node) (parts-stand of.config.now of.table.now.node stands.items stands.memory) (of-kind of.config.now of.table.now kind.Prefix is stands.has))
 
-  pub prefix-full : (numbers : List ℕ) → numbers ≡ listed_numbers (parts_of c t.node) → t.size < length numbers → false ≡ is_filled_so c t
-  prefix-full numbers e lt =
+  pub prefix-full : of.table.now.size < length of.numbers.now → false ≡ is_filled_so of.config.now of.table.now
+  prefix-full lt =
       sym (prefix-told
-      ∙ ap (λ (ns : List ℕ). leb (length ns) t.size && rows_keep key.width (rows_of c (parts_of c t.node))) (sym e)
-      ∙ ap (λ b. b && rows_keep key.width (rows_of c (parts_of c t.node))) (lt-leb (length numbers) t.size lt))
+      ∙ ap (λ (ns : List ℕ). leb (length ns) of.table.now.size && rows_keep key.width (rows_of of.config.now (parts_of of.config.now of.table.now.node))) (sym stands.numbers)
+      ∙ ap (λ b. b && rows_keep key.width (rows_of of.config.now (parts_of of.config.now of.table.now.node))) (lt-leb (length of.numbers.now) of.table.now.size lt))
 
-  pub prefix-filled : (numbers : List ℕ) (bits : ℕ) (rows : List Row) → numbers ≡ listed_numbers (parts_of c t.node) → length numbers ≤ t.size → bits ≡ sum t.keys
-      → rows ≡ rows_of c (parts_of c t.node) → rows_keep bits rows ≡ is_filled_so c t
-  prefix-filled numbers bits rows e le one h =
+  pub prefix-filled : (bits : ℕ) (rows : List Row) → length of.numbers.now ≤ of.table.now.size → bits ≡ sum of.table.now.keys
+      → rows ≡ rows_of of.config.now (parts_of of.config.now of.table.now.node) → rows_keep bits rows ≡ is_filled_so of.config.now of.table.now
+  prefix-filled bits rows le one h =
       ap (λ n. rows_keep n rows) (one ∙ key-bits) ∙ ap (rows_keep key.width) h
       ∙ sym (prefix-told
-      ∙ ap (λ (ns : List ℕ). leb (length ns) t.size && rows_keep key.width (rows_of c (parts_of c t.node))) (sym e)
-      ∙ ap (λ b. b && rows_keep key.width (rows_of c (parts_of c t.node))) (le-leb (length numbers) t.size le))
+      ∙ ap (λ (ns : List ℕ). leb (length ns) of.table.now.size && rows_keep key.width (rows_of of.config.now (parts_of of.config.now of.table.now.node))) (sym stands.numbers)
+      ∙ ap (λ b. b && rows_keep key.width (rows_of of.config.now (parts_of of.config.now of.table.now.node))) (le-leb (length of.numbers.now) of.table.now.size le))
 
 -- the rows of a part more
 pub rows-next : (c : Config) (old new : List Row) (parts : List Part) (i : ℕ) (x : Part) (whole : List Row) → i < length parts → x ≡ get_or parts i x

@@ -88,24 +88,36 @@ module _ (bits : ℕ) (rows : List Row) where
   pub seen-first : (set : BTreeSet (ℕ × ℕ)) → Knows bits [] set → RowsSeen bits rows rows set
   seen-first set h = record { seen = []; known = h; answer = new-once bits rows }
 
-  pub seen-at : (i : ℕ) (d : Row) (set : BTreeSet (ℕ × ℕ)) → i < length rows → RowsSeen bits rows (drop i rows) set
+  seen-at : (i : ℕ) (d : Row) (set : BTreeSet (ℕ × ℕ)) → i < length rows → RowsSeen bits rows (drop i rows) set
       → RowsSeen bits rows (get_or rows i d ∷ drop (i + 1) rows) set
   seen-at i d set lt r = subst (λ rest. RowsSeen bits rows rest set) (drop-at rows i d lt) r
 
-  pub seen-no : (x : Row) (rest : List Row) (set : BTreeSet (ℕ × ℕ)) (pair : ℕ × ℕ) → RowsSeen bits rows (x ∷ rest) set → pair ≡ pair_of bits x
-      → false ≡ not (contains pair_cmp set pair) → false ≡ stand_once bits rows
-  seen-no x rest set pair r own is =
-      sym (r.answer
-      ∙ ap (λ b. b && are_new (have_same bits) (x ∷ r.seen) rest) (sym (is ∙ ap (λ q. not (contains pair_cmp set q)) own ∙ ap not (r.known (pair_of bits x)))))
+  -- the row at a place, whose key and mask were cut to these
+  module _ (i : ℕ) (d : Row) (set : BTreeSet (ℕ × ℕ)) (key mask : ℕ) (lt : i < length rows) (h : RowsSeen bits rows (drop i rows) set)
+      (own_key : key ≡ slice (get_or rows i d).key 0 bits) (own_mask : mask ≡ slice (get_or rows i d).mask 0 bits) where
+    own : (key, mask) ≡ pair_of bits (get_or rows i d)
+    own = ap (λ k. (k, mask)) own_key ∙ ap (λ m. (slice (get_or rows i d).key 0 bits, m)) own_mask
 
-  pub seen-more : (x : Row) (rest : List Row) (set new : BTreeSet (ℕ × ℕ)) (pair : ℕ × ℕ) → RowsSeen bits rows (x ∷ rest) set → pair ≡ pair_of bits x
-      → true ≡ not (contains pair_cmp set pair) → Updates pair_cmp set new pair true → RowsSeen bits rows rest new
-  seen-more x rest set new pair r own is up = record {
-    seen = x ∷ r.seen;
-    known = knows-more bits x r.seen set new r.known (subst (λ q. Updates pair_cmp set new q true) own up);
-    answer = r.answer
-        ∙ ap (λ b. b && are_new (have_same bits) (x ∷ r.seen) rest) (sym (is ∙ ap (λ q. not (contains pair_cmp set q)) own ∙ ap not (r.known (pair_of bits x))));
-  }
+    seen-here : RowsSeen bits rows (get_or rows i d ∷ drop (i + 1) rows) set
+    seen-here = seen-at i d set lt h
+
+    -- what is left to be found out, where it is known whether the row is new
+    left : (new : Bool) → new ≡ not (contains pair_cmp set (key, mask))
+        → stand_once bits rows ≡ (new && are_new (have_same bits) (get_or rows i d ∷ seen-here.seen) (drop (i + 1) rows))
+    left new is =
+        seen-here.answer
+        ∙ ap (λ b. b && are_new (have_same bits) (get_or rows i d ∷ seen-here.seen) (drop (i + 1) rows))
+        (sym (is ∙ ap (λ q. not (contains pair_cmp set q)) own ∙ ap not (seen-here.known (pair_of bits (get_or rows i d)))))
+
+    pub seen-no : false ≡ not (contains pair_cmp set (key, mask)) → false ≡ stand_once bits rows
+    seen-no is = sym (left false is)
+
+    pub seen-more : (new : BTreeSet (ℕ × ℕ)) → true ≡ not (contains pair_cmp set (key, mask)) → Updates pair_cmp set new (key, mask) true → RowsSeen bits rows (drop (i + 1) rows) new
+    seen-more new is up = record {
+      seen = get_or rows i d ∷ seen-here.seen;
+      known = knows-more bits (get_or rows i d) seen-here.seen set new seen-here.known (subst (λ q. Updates pair_cmp set new q true) own up);
+      answer = left true is;
+    }
 
   pub seen-all : (rest : List Row) (set : BTreeSet (ℕ × ℕ)) → rest ≡ [] → RowsSeen bits rows rest set → true ≡ stand_once bits rows
   seen-all rest set none r = sym (r.answer ∙ ap (are_new (have_same bits) r.seen) none)

@@ -19,7 +19,7 @@ use Rattle.rmt_config.specs.StageForm.{is_listed, sram_blocks, tcam_blocks, srow
 use Rattle.rmt_config.specs.UnitForm.{slot_is_formed, slot_head_is_formed, memory_is_formed, may_have_memory, unit_is_formed}
 use Rattle.rmt_config.specs.CellForm.{SlotHolds, numbers_are_formed, head_is_formed, none, coded_from}
 use Rattle.rmt_config.specs.MemoryRules.{FormedRows, ExactFits, TernaryFits}
-use Rattle.rmt_config.specs.Layouts.{quantum_of, local_of, entry_in, listed_cells, cells_hold, exact_keys, exact_records, ternary_keys, ternary_records, SramTold, TcamTold}
+use Rattle.rmt_config.specs.Layouts.{ExactHeld, SramTold, TcamTold, TernaryHeld, cells_hold, entry_in, exact_keys, exact_records, listed_cells, local_of, quantum_of, ternary_keys, ternary_records}
 use Rattle.rmt_config.proofs.RiseLaws.{one_off}
 use Rattle.rmt_config.proofs.CellLayouts.{exact-entry, ternary-record}
 use Rattle.rmt_config.proofs.MemoryLaws.{exact-told, ternary-told}
@@ -92,6 +92,19 @@ ternary-slot visible stage first s d ks rs cs rows fit =
       λ holds. (e ∙ holds.numbers, told.1 (holds.others, holds.ends)),
     )
 
+-- the same, by entries with heads and by what else there is
+pub exact-held : (visible : ℕ) (stage : Stage) (first : ℕ) (s : SlotUnit) (k p d w : ℕ) (ks rs cs : List ℕ) → FormedRows stage → ExactFits s k p d ks rs
+    → ExactHeld stage s visible first k p d ks rs ↔ SlotHolds visible stage first (record s { memory = Exact k p d w ks rs cs })
+exact-held visible stage first s k p d w ks rs cs rows fit =
+    let slot = exact-slot visible stage first s k p d w ks rs cs rows fit in
+    (λ all. slot.0 (all.0.0, (all.0.1, all.1)), λ holds. let all = slot.1 holds in ((all.0, all.1.0), all.1.1))
+
+pub ternary-held : (visible : ℕ) (stage : Stage) (first : ℕ) (s : SlotUnit) (d : ℕ) (ks rs cs : List ℕ) → FormedRows stage → TernaryFits s d ks rs
+    → TernaryHeld stage s visible first d ks rs ↔ SlotHolds visible stage first (record s { memory = Ternary d ks rs cs })
+ternary-held visible stage first s d ks rs cs rows fit =
+    let slot = ternary-slot visible stage first s d ks rs cs rows fit in
+    (λ all. slot.0 (all.0.0, (all.1, all.0.1)), λ holds. let all = slot.1 holds in ((all.0, all.1.1), all.1.0))
+
 pub without-slot : (visible : ℕ) (stage : Stage) (first : ℕ) (s : SlotUnit) → s.numbers ≡ [] → SlotHolds visible stage first (record s { memory = Without })
 without-slot visible stage first s e = record {
   numbers = ap (λ ns. numbers_are_formed visible first stage (record s { memory = Without; numbers = ns })) e;
@@ -103,6 +116,13 @@ without-slot visible stage first s e = record {
 pub slot-at : (X : Type 0) (visible : ℕ) (stage : Stage) (first : ℕ) (s : SlotUnit) (m : Memory) → s.memory ≡ m
     → (X ↔ SlotHolds visible stage first (record s { memory = m })) → (X ↔ SlotHolds visible stage first s)
 slot-at X visible stage first s m e h = subst (λ m'. X ↔ SlotHolds visible stage first (record s { memory = m' })) (sym e) h
+
+-- what was found out of the lists of a memory, as they are read, is found out of the slot that has it
+pub slot-by : (b : Bool) (visible : ℕ) (stage : Stage) (first : ℕ) (s : SlotUnit) (m : Memory) (Held : List ℕ → List ℕ → Type 0) {ks ks' rs rs' : List ℕ} → s.memory ≡ m → ks' ≡ ks → rs' ≡ rs
+    → (IsTrue b ↔ Held ks' rs') → (Held ks rs ↔ SlotHolds visible stage first (record s { memory = m })) → (IsTrue b ↔ SlotHolds visible stage first s)
+slot-by b visible stage first s m Held {ks} {ks'} {rs} {rs'} e ek er found slot =
+    let told : IsTrue b ↔ Held ks rs = subst (λ (x : List ℕ). IsTrue b ↔ Held x rs) ek (subst (λ (x : List ℕ). IsTrue b ↔ Held ks' x) er found) in
+    slot-at (IsTrue b) visible stage first s m e (λ h. slot.0 (told.0 h), λ h. told.1 (slot.1 h))
 
 -- ---- what the item rules say
 
@@ -196,6 +216,17 @@ ternary-fits s d ks rs cs head h =
       keys = eqb-true (length ks) (d * divided_up (bits_of_lanes s.keys) 40) lengths.0;
       records = eqb-true (length rs) (d * (record_units 2 (s.held + 8) * record_width (s.held + 8))) lengths.1;
     }
+
+-- the same of the memory that a slot has
+pub slot-exact : (s : SlotUnit) (k p d w : ℕ) (ks rs cs : List ℕ) → slot_is_formed s ≡ true → s.memory ≡ Exact k p d w ks rs cs → ExactFits s k p d ks rs
+slot-exact s k p d w ks rs cs h e =
+    let parts = and_parts (slot_head_is_formed s) (memory_is_formed s s.memory) h in
+    exact-fits s k p d w ks rs cs parts.0 (sym (ap (memory_is_formed s) e) ∙ parts.1)
+
+pub slot-ternary : (s : SlotUnit) (d : ℕ) (ks rs cs : List ℕ) → slot_is_formed s ≡ true → s.memory ≡ Ternary d ks rs cs → TernaryFits s d ks rs
+slot-ternary s d ks rs cs h e =
+    let parts = and_parts (slot_head_is_formed s) (memory_is_formed s s.memory) h in
+    ternary-fits s d ks rs cs parts.0 (sym (ap (memory_is_formed s) e) ∙ parts.1)
 
 pub without-numbers : (s : SlotUnit) → memory_is_formed s Without ≡ true → s.numbers ≡ []
 without-numbers s h = nil_from_length s.numbers (eqb-true (length s.numbers) 0 (and_parts _ _ h).1)

@@ -8,12 +8,12 @@ use Rattle.std.proofs.Math.Nat.{mod-eq_of_lt, mul-le-mul_left, div-one, pow-le-p
 use Rattle.rmt_bits.specs.Bits.{slice, bytes_of, number_of}
 use Rattle.rmt_bits.proofs.ByteLaws.{number_of-bytes_of}
 use Rattle.rmt_config.specs.declared.form.layout.CellLayout.{CellLayout}
-use Rattle.rmt_config.specs.Layouts.{IsLayout, position_of}
+use Rattle.rmt_config.specs.Layouts.{IsInSram, IsLayout, local_of, position_of, quantum_of, row_of, unit_of}
 use Rattle.rmt_bits.proofs.BitLaws.{mod-low, slice-lt}
 use Rattle.rmt_config.specs.BlockCounts.{divided_up}
 use Rattle.rmt_config.specs.Types.{SramRow}
-use Rattle.rmt_config.specs.Cells.{sram_row, unit_row}
-use Rattle.rmt_config.proofs.CellPlaces.{mod-div_rows}
+use Rattle.rmt_config.specs.Cells.{Blocks, blocks_at, sram_row, unit_row}
+use Rattle.rmt_config.proofs.CellPlaces.{blocks_there, mod-div_rows, unit_below}
 use Rattle.rmt_config.proofs.HeldRows.{sram-within}
 use Rattle.rmt_config.proofs.HeadBits.{head_across, head-bits}
 
@@ -128,6 +128,32 @@ entry_there l i is =
     let fit : (i % l.per + 1) * l.entry ≤ l.per * l.entry = mul-le (i % l.per + 1) l.entry l.per l.entry (omega (arith, lt)) (omega arith) in
     let next : (i % l.per + 1) * l.entry ≡ i % l.per * l.entry + l.entry = omega arith in
     omega (arith, fit, next, is.fits)
+
+-- what is read at the spot where the entry of a cell begins is read at its place in the layout
+pub spot-read : {X : Type 0} (l : CellLayout) (held : Blocks) (blocks : List ℕ) (n unit row low : ℕ) (read : ℕ → ℕ → X) → l.bits ≡ 112
+    → unit ≡ unit_of l (quantum_of l n) (local_of l n) → row ≡ row_of l (local_of l n) → low ≡ position_of l (local_of l n) * l.entry
+    → read (unit_row 112 held row (blocks_at blocks l.side unit)) low
+    ≡ read (unit_row l.bits held (row_of l (local_of l n)) (blocks_at blocks l.side (unit_of l (quantum_of l n) (local_of l n)))) (position_of l (local_of l n) * l.entry)
+spot-read l held blocks n unit row low read in_sram eu er el =
+    ap (λ u. read (unit_row 112 held row (blocks_at blocks l.side u)) low) eu
+    ∙ ap (λ r. read (unit_row 112 held r (blocks_at blocks l.side (unit_of l (quantum_of l n) (local_of l n)))) low) er
+    ∙ ap (λ s. read (unit_row s held (row_of l (local_of l n)) (blocks_at blocks l.side (unit_of l (quantum_of l n) (local_of l n)))) low) (sym in_sram)
+    ∙ ap (read (unit_row l.bits held (row_of l (local_of l n)) (blocks_at blocks l.side (unit_of l (quantum_of l n) (local_of l n))))) el
+
+-- the blocks of the unit of a cell are there, its row is one of them, and its entry lies in that row
+pub spot-unit : (l : CellLayout) (n unit len : ℕ) → IsLayout l → n < l.ways * l.quanta * l.way → len ≡ l.quanta * l.units * l.side → unit ≡ unit_of l (quantum_of l n) (local_of l n)
+    → (unit + 1) * l.side ≤ len
+spot-unit l n unit len is lt e eu = rw eu (blocks_there l (unit_of l (quantum_of l n) (local_of l n)) len (unit_below l n is lt) e)
+
+pub spot-row : (l : CellLayout) (n row : ℕ) → IsInSram l → row ≡ row_of l (local_of l n) → row < 1024
+spot-row l n row is er =
+    let e = mod-div_rows (local_of l n) l.rows l.per is.is.some_rows is.is.some_per in
+    omega (arith, e, er, mod_below (local_of l n / l.per) l.rows is.is.some_rows, is.in_blocks)
+
+pub spot-low : (l : CellLayout) (n low : ℕ) → IsInSram l → low ≡ position_of l (local_of l n) * l.entry → low + l.entry ≤ 112 * l.side
+spot-low l n low is el =
+    let wide : l.bits * l.side ≡ 112 * l.side = ap (λ b. b * l.side) is.in_sram in
+    omega (arith, entry_there l (local_of l n) is.is, wide, el)
 
 -- all bits of a slice
 pub slice-whole : (v low len : ℕ) → slice (slice v low len) 0 len ≡ slice v low len

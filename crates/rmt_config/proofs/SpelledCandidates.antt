@@ -7,8 +7,8 @@ use Rattle.std.proofs.lemmas.List.Folds.{list_any-append}
 use Rattle.rmt_bits.specs.Bits.{slice, bytes_of}
 use Rattle.rmt_bits.specs.Hash.{hash_row}
 use Rattle.rmt_bits.proofs.BitLaws.{slice-lt, slice-slice}
-use Rattle.rmt_config.specs.Types.{CellNumber}
-use Rattle.rmt_config.specs.Cells.{Cell, cell_of}
+use Rattle.rmt_config.specs.Types.{CellNumber, SramRow}
+use Rattle.rmt_config.specs.Cells.{Cell, blocks_at, cell_of, entry_at, sram_row, unit_row}
 use Rattle.rmt_config.specs.KeysSeen.{is_candidate, stands_there}
 use Rattle.rmt_config.proofs.SpelledRows.{range-from, range-to}
 use Rattle.rmt_bits.proofs.OptionLaws.{same_Bool}
@@ -79,6 +79,14 @@ above-byte x bits lt = mod-eq_of_lt (shr_below x bits 8 lt)
 -- what is read of an entry behind its head is the key
 pub key-read : (x low bits : ℕ) → slice x (low + 8) bits ≡ slice x low (bits + 8) / 256
 key-read x low bits = sym (slice-slice x low (bits + 8) 8 bits (omega arith)) ∙ above-byte (slice x low (bits + 8)) bits (slice-lt x low (bits + 8))
+
+-- the key in an entry, read from the row of its unit
+pub entry-key : (rows rs : List SramRow) (blocks unit : List ℕ) (width bits way row position r : ℕ) → rs ≡ rows → unit ≡ blocks_at blocks width (row / 1024 * 4 + way) → r ≡ row % 1024
+    → slice (unit_row 112 (sram_row rs) r unit) (position * (bits + 8) + 8) bits ≡ entry_at (sram_row rows) blocks width bits (record { way = way; row = row; position = position }) / 256
+entry-key rows rs blocks unit width bits way row position r er eu e =
+    let key : List SramRow → ℕ → List ℕ → ℕ = λ xs n bs. slice (unit_row 112 (sram_row xs) n bs) (position * (bits + 8) + 8) bits in
+    ap (λ (xs : List SramRow). key xs r unit) er ∙ ap (key rows r) eu ∙ ap (λ n. key rows n (blocks_at blocks width (row / 1024 * 4 + way))) e
+    ∙ key-read (unit_row 112 (sram_row rows) (row % 1024) (blocks_at blocks width (row / 1024 * 4 + way))) (position * (bits + 8)) bits
 
 -- what is said of a cell is said of the place where it lies
 pub place-same : {X : Type 0} (f : Cell → X) (rows per n way row position : ℕ) → way ≡ n / per / rows → row ≡ n / per % rows → position ≡ n % per

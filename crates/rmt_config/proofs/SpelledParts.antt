@@ -1,8 +1,9 @@
 -- The parts of a table stand in the stages of a configuration that keeps the rules of items and of memory.
-use Rattle.std.proofs.Common.{◌≡◌, ℕ, ◌+◌, Option, List, [], ◌∷◌, ◌++◌, Bool, true, false, cond, eqb, Some, option_map, unwrap_or, ap, ◌∙◌, arith}
+use Rattle.std.proofs.Common.{◌≡◌, ℕ, ◌+◌, Option, List, [], ◌∷◌, ◌++◌, Bool, true, false, cond, eqb, Some, option_map, unwrap_or, get_or, sym, ap, ◌∙◌, arith}
 use Rattle.std.specs.Prelude.{All, IsTrue, option_and_then, slice_get}
 use Rattle.std.specs.List.{enumerate_from, flat_map, list_all}
 use Rattle.std.proofs.lemmas.Bool.{and_parts}
+use Rattle.std.proofs.lemmas.Option.{get_or_from_slice_get}
 use Rattle.std.proofs.lemmas.List.Elements.{All-nil, All-cons, All-head, All-tail, All-append}
 use Rattle.rmt_bits.proofs.ListLaws.{first_from, next_from}
 use Rattle.rmt_config.specs.Types.{Config, Stage, Unit, SlotUnit}
@@ -71,3 +72,10 @@ pub held-is : (c : Config) (p : PartAt) → (stands : PartStands c p) → (n : �
 held-is c p stands n =
     ap (λ (o : Option Stage). unwrap_or (option_and_then (λ (x : Stage). option_map (λ (y : SlotUnit). content_of x y n) (option_and_then as_slot (slice_get x.units p.place))) o) no_content) stands.in_stages
     ∙ ap (λ (o : Option Unit). unwrap_or (option_map (λ (y : SlotUnit). content_of stands.stage y n) (option_and_then as_slot o)) no_content) stands.in_units
+
+-- the rows that are read are those of the part's stage
+pub rows-in : {X : Type 0} (of : Stage → List X) (c : Config) (p : PartAt) (stands : PartStands c p) {stages : List Stage} {stage : Stage} {rows : List X} → stages ≡ c.stages
+    → stage ≡ get_or stages p.stage stage → rows ≡ of (get_or stages p.stage stage) → rows ≡ of stands.stage
+rows-in of c p stands {stages} {stage} {rows} all at own =
+    let is : stage ≡ stands.stage = at ∙ ap (λ (ss : List Stage). get_or ss p.stage stage) all ∙ get_or_from_slice_get c.stages p.stage stands.stage stage stands.in_stages in
+    own ∙ ap of (sym at ∙ is)

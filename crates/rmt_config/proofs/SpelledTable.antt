@@ -22,19 +22,22 @@ use Rattle.rmt_config.specs.Form.{items_are_formed}
 use Rattle.rmt_config.specs.MemoryRules.{ExactFits, MemoryIsFormed}
 use Rattle.rmt_config.specs.Rooms.{PartAt, parts_of}
 use Rattle.rmt_config.specs.PartStands.{PartStands}
+use Rattle.rmt_config.specs.TableStands.{TableStands}
 use Rattle.rmt_config.specs.PartsTold.{listed_numbers, part_at, parts_at}
 use Rattle.rmt_config.specs.declared.form.names.part_list.Part.{Part}
+use Rattle.rmt_config.specs.declared.form.names.part_list.TableParts.{TableParts}
+use Rattle.rmt_bits.specs.declared.lane.Lane.{Lane}
 use Rattle.rmt_bits.proofs.AllLaws.{All-from_test, All-unmap}
 use Rattle.std.proofs.lemmas.List.Folds.{list_all-map}
-use Rattle.std.proofs.lemmas.Option.{get_or_from_slice_get}
-use Rattle.rmt_config.proofs.SlotLaws.{exact-fits, key_is_short}
-use Rattle.rmt_config.specs.NamesForm.{each_later, entries_by_cell, entry_in, has_key_bits, has_parts, held_by, is_filled_so, is_made_so, is_of_kind, stands_in_candidates, tests_of_key}
-use Rattle.rmt_config.specs.KeyPrints.{KeysAdded}
+use Rattle.rmt_config.proofs.SlotLaws.{key_is_short, slot-exact}
+use Rattle.rmt_config.specs.NamesForm.{each_later, entries_by_cell, entry_in, has_key_bits, has_parts, held_by, is_filled_so, is_of_kind, stands_in_candidates, tests_of_key}
+use Rattle.rmt_config.specs.ExactCells.{CellsFit}
+use Rattle.rmt_config.specs.KeyPrints.{KeysAdded, kept_of_keys}
 use Rattle.rmt_config.specs.KeysSeen.{WaysLow, key_held, key_in, keys_listed, news, stands_in, stands_there}
 use Rattle.rmt_config.proofs.CellLayouts.{up-enough}
 use Rattle.rmt_config.proofs.SpelledCandidates.{above-byte}
 use Rattle.rmt_config.proofs.SpelledExact.{news-differ}
-use Rattle.rmt_config.proofs.SpelledParts.{held-is, parts-stand}
+use Rattle.rmt_config.proofs.SpelledParts.{held-is, parts-stand, rows-in}
 use Rattle.rmt_config.proofs.SpelledRanks.{entries-count, later-map}
 use Rattle.rmt_config.proofs.SpelledTernary.{filled_as, of-kind}
 use Rattle.rmt_config.proofs.SpelledWays.{PartFollows, parts-follow, ways-low}
@@ -46,10 +49,9 @@ pub exact-found : (c : Config) (p : PartAt) (st : PartStands c p) (T : List Sram
     (bits : ℕ) (ns : List CellNumber) (found blocks : List ℕ) → stages ≡ c.stages → stage ≡ get_or stages p.stage stage → rows ≡ (get_or stages p.stage stage).srows → bits ≡ bits_of_lanes p.slot.keys
     → ns ≡ p.slot.numbers → found ≡ blocks → T rows bits ns found → T st.stage.srows (bits_of_lanes p.slot.keys) p.slot.numbers blocks
 exact-found c p st T stages stage rows bits ns found blocks all at of own cells same h =
-    let is : stage ≡ st.stage = at ∙ ap (λ (ss : List Stage). get_or ss p.stage stage) all ∙ get_or_from_slice_get c.stages p.stage st.stage stage st.in_stages in
     subst (λ (ks : List ℕ). T st.stage.srows (bits_of_lanes p.slot.keys) p.slot.numbers ks) same
     (subst (λ (xs : List CellNumber). T st.stage.srows (bits_of_lanes p.slot.keys) xs found) cells
-    (subst (λ b. T st.stage.srows b ns found) own (subst (λ (rs : List SramRow). T rs bits ns found) (of ∙ ap (λ (x : Stage). x.srows) (sym at ∙ is)) h)))
+    (subst (λ b. T st.stage.srows b ns found) own (subst (λ (rs : List SramRow). T rs bits ns found) (rows-in (λ (x : Stage). x.srows) c p st all at of) h)))
 
 module _ (c : Config) (p : PartAt) (st : PartStands c p) (k per d w : ℕ) (ks rs cs : List ℕ) (e : p.slot.memory ≡ Exact k per d w ks rs cs) where
   exact-key : (n : CellNumber) → key_in st.stage.srows ks k per d (bits_of_lanes p.slot.keys) n ≡ key_held c p n
@@ -71,16 +73,34 @@ module _ (c : Config) (p : PartAt) (st : PartStands c p) (k per d w : ℕ) (ks r
       ∙ ap (λ m. list_any (λ m. eqb m n.cell) (candidates c.seed (bits_of_lanes p.slot.keys) m (key_held c p n))) (sym e)
 
   -- the numbers of the part keep their rules
-  pub exact-fit : ExactFits p.slot k per d ks rs
-  exact-fit =
-      let parts = and_parts (slot_head_is_formed p.slot) (memory_is_formed p.slot p.slot.memory) st.slot in
-      exact-fits p.slot k per d w ks rs cs parts.0 (sym (ap (memory_is_formed p.slot) e) ∙ parts.1)
+  exact-fit : ExactFits p.slot k per d ks rs
+  exact-fit = slot-exact p.slot k per d w ks rs cs st.slot e
 
-  pub exact-within : All (λ (n : CellNumber). n.cell < 4096 * d * per) p.slot.numbers
+  exact-within : All (λ (n : CellNumber). n.cell < 4096 * d * per) p.slot.numbers
   exact-within =
       All-from_test (λ (n : CellNumber). n.cell < 4096 * d * per) (λ (n : CellNumber). ltb n.cell (4096 * d * per)) (λ n h. ltb-true n.cell (4096 * d * per) h) p.slot.numbers
       (sym (list_all-map (λ n. ltb n (4096 * d * per)) (λ (n : CellNumber). n.cell) p.slot.numbers)
       ∙ sym (ap (λ m. list_all (λ n. ltb n (cells_in m)) (map (λ (n : CellNumber). n.cell) p.slot.numbers)) e) ∙ (and_parts _ _ (and_parts _ _ st.holds.numbers).0).1)
+
+  -- the cells as they are read fit
+  pub exact-read : {rows : List SramRow} {bits : ℕ} {ns : List CellNumber} {blocks : List ℕ} → WaysLow p.slot.memory → rows ≡ st.stage.srows → bits ≡ bits_of_lanes p.slot.keys
+      → ns ≡ p.slot.numbers → blocks ≡ ks → CellsFit rows ns blocks k per d w bits
+  exact-read {rows} {bits} {ns} {blocks} ways er eb en ek =
+      subst (λ (x : List SramRow). CellsFit x ns blocks k per d w bits) (sym er)
+      (subst (λ (x : List CellNumber). CellsFit st.stage.srows x blocks k per d w bits) (sym en)
+      (subst (λ (x : List ℕ). CellsFit st.stage.srows p.slot.numbers x k per d w bits) (sym ek)
+      (subst (λ b. CellsFit st.stage.srows p.slot.numbers ks k per d w b) (sym eb) (record {
+        rows = record { rise = st.rows.srise; low = st.rows.slow; small = st.rows.sbits };
+        width = exact-fit.some_k;
+        per = exact-fit.some_p;
+        quanta = exact-fit.some_d;
+        few = exact-fit.most_d;
+        short = exact-fit.most_bits;
+        fits = exact-fit.fits;
+        blocks = exact-fit.keys;
+        ways = subst WaysLow e ways;
+        within = exact-within;
+      }))))
 
   pub exact-keys : (whole : Bool) (old new : List ℕ) (stand : Bool)
       → (let key = key_in st.stage.srows ks k per d (bits_of_lanes p.slot.keys) in
@@ -207,46 +227,70 @@ keys-count c (p ∷ ps) =
 
 -- ---- the parts as they are gone over
 
-module _ (c : Config) (t : TableName) (parts : List Part) (same : parts_at parts ≡ parts_of c t.node) (items : IsTrue (items_are_formed c)) (memory : MemoryIsFormed c) (is : t.kind ≡ kind.Exact)
-    (has : has_parts c t ≡ true) (made : is_made_so c t ≡ true) where
-  all-exact : All (ExactPart c (sum t.keys)) (parts_of c t.node)
-  all-exact = exact-parts c t items memory is has (and_parts _ _ (and_parts _ _ made).0).0
+module _ (of : TableParts) (stands : TableStands of) (is : of.table.now.kind ≡ kind.Exact) where
+  all-exact : All (ExactPart of.config.now (sum of.table.now.keys)) (parts_of of.config.now of.table.now.node)
+  all-exact = exact-parts of.config.now of.table.now stands.items stands.memory is stands.has (and_parts _ _ (and_parts _ _ stands.made).0).0
 
-  pub exact-at : (i : ℕ) (x : Part) → i < length parts → x ≡ get_or parts i x → ExactPart c (sum t.keys) (part_at x)
+  pub exact-at : (i : ℕ) (x : Part) → i < length of.parts.now → x ≡ get_or of.parts.now i x → ExactPart of.config.now (sum of.table.now.keys) (part_at x)
   exact-at i x lt at =
-      subst (λ y. ExactPart c (sum t.keys) (part_at y)) (sym at)
-      (All-unmap (ExactPart c (sum t.keys)) part_at parts (subst (All (ExactPart c (sum t.keys))) (sym same) all-exact) i x lt)
+      subst (λ y. ExactPart of.config.now (sum of.table.now.keys) (part_at y)) (sym at)
+      (All-unmap (ExactPart of.config.now (sum of.table.now.keys)) part_at of.parts.now (subst (All (ExactPart of.config.now (sum of.table.now.keys))) (sym stands.parts) all-exact) i x lt)
+
+  -- what was found out of a part's cells, by the bits of its own key, is found out by those of the table's
+  pub part-added : (i : ℕ) (x : Part) → i < length of.parts.now → x ≡ get_or of.parts.now i x → (whole : Bool) (old new : List ℕ) (found stand : Bool) → found ≡ stand
+      → KeysAdded whole (divided_up (bits_of_lanes x.slot.now.keys) 8) (stands_in of.config.now (part_at x)) (key_held of.config.now (part_at x)) x.slot.now.numbers old new found
+      → KeysAdded whole (divided_up (sum of.table.now.keys) 8) (stands_in of.config.now (part_at x)) (key_held of.config.now (part_at x)) x.slot.now.numbers old new stand
+  part-added i x lt at whole old new found stand e h =
+      let Added : ℕ → Bool → Type 0 = λ b s. KeysAdded whole (divided_up b 8) (stands_in of.config.now (part_at x)) (key_held of.config.now (part_at x)) x.slot.now.numbers old new s in
+      subst (λ b. Added b stand) (sym (exact-at i x lt at).all_bits) (subst (Added (bits_of_lanes x.slot.now.keys)) e h)
 
   -- its first part
-  pub some-part : 0 < length parts
+  some-part : 0 < length of.parts.now
   some-part =
-      let some : 1 ≤ length (parts_of c t.node) = leb-true 1 (length (parts_of c t.node)) (and_parts _ _ has).0 in
-      let long : length (parts_at parts) ≡ length (parts_of c t.node) = ap (λ (ps : List PartAt). length ps) same in
-      omega (arith, some, long, length-map parts part_at)
+      let some : 1 ≤ length (parts_of of.config.now of.table.now.node) = leb-true 1 (length (parts_of of.config.now of.table.now.node)) (and_parts _ _ stands.has).0 in
+      let long : length (parts_at of.parts.now) ≡ length (parts_of of.config.now of.table.now.node) = ap (λ (ps : List PartAt). length ps) stands.parts in
+      omega (arith, some, long, length-map of.parts.now part_at)
 
-  pub first-bits : (x : Part) → x ≡ get_or parts 0 x → sum t.keys ≡ bits_of_lanes (get_or parts 0 x).slot.now.keys
+  first-bits : (x : Part) → x ≡ get_or of.parts.now 0 x → sum of.table.now.keys ≡ bits_of_lanes (get_or of.parts.now 0 x).slot.now.keys
   first-bits x is = (exact-at 0 x some-part is).all_bits ∙ ap (λ (y : Part). bits_of_lanes y.slot.now.keys) is
 
-  pub first-short : (x : Part) → x ≡ get_or parts 0 x → bits_of_lanes (get_or parts 0 x).slot.now.keys ≤ 640
+  pub first-short : (x : Part) → x ≡ get_or of.parts.now 0 x → bits_of_lanes (get_or of.parts.now 0 x).slot.now.keys ≤ 640
   first-short x is =
       let s = x.slot.now in
       subst (λ (y : Part). bits_of_lanes y.slot.now.keys ≤ 640) is
       (key_is_short s s.memory (and_parts (slot_head_is_formed s) (memory_is_formed s s.memory) (exact-at 0 x some-part is).stands.slot).1)
 
+  -- the bytes of a key, as they are told by the first part
+  pub first-size : {x : Part} {keys : List Lane} {bits size : ℕ} → x ≡ get_or of.parts.now 0 x → keys ≡ (get_or of.parts.now 0 x).slot.now.keys → bits ≡ bits_of_lanes keys → size ≡ divided_up bits 8
+      → size ≡ divided_up (sum of.table.now.keys) 8
+  first-size {x} at own eb es = es ∙ ap (λ b. divided_up b 8) (eb ∙ ap bits_of_lanes own ∙ sym (first-bits x at))
+
+  -- as many keys as numbers
+  pub keys-counted : length (keys_listed of.config.now (parts_at of.parts.now)) ≡ length of.numbers.now
+  keys-counted =
+      keys-count of.config.now (parts_at of.parts.now) ∙ ap (λ (ps : List PartAt). length (listed_numbers ps)) stands.parts ∙ sym (ap (λ (ns : List ℕ). length ns) stands.numbers)
+
+  -- what is kept of all keys are their bytes, so many of each
+  pub bytes-kept : {none kept bytes : List ℕ} {size : ℕ} → none ≡ [] → kept ≡ none ++ kept_of_keys true (divided_up (sum of.table.now.keys) 8) (keys_listed of.config.now (parts_at of.parts.now))
+      → bytes ≡ kept → size ≡ divided_up (sum of.table.now.keys) 8 → bytes ≡ kept_of_keys true size (keys_listed of.config.now (parts_at of.parts.now))
+  bytes-kept en ek eb es =
+      let ks = keys_listed of.config.now (parts_at of.parts.now) in
+      eb ∙ ek ∙ ap (λ (old : List ℕ). old ++ kept_of_keys true (divided_up (sum of.table.now.keys) 8) ks) en ∙ ap (λ n. kept_of_keys true n ks) (sym es)
+
   -- a table is filled so where it has room, its cells are candidates and its keys differ
-  pub table-is : (numbers : List ℕ) (room stand differ : Bool) → numbers ≡ listed_numbers (parts_of c t.node) → leb (length numbers) t.size ≡ room
-      → stand ≡ list_all (stands_in_candidates c) (parts_at parts) → (stand ≡ true → differ ≡ news (divided_up (sum t.keys) 8) [] (keys_listed c (parts_at parts)))
-      → (room && (stand && differ)) ≡ is_filled_so c t
-  table-is numbers room stand differ e fits cells keys =
-      let size = divided_up (sum t.keys) 8 in
-      let candidates : List PartAt → Bool = λ ps. list_all (stands_in_candidates c) ps in
-      let new : List PartAt → Bool = λ ps. news size [] (keys_listed c ps) in
-      sym (exact-answer c t is all-exact
-      ∙ ap (λ (ps : List PartAt). leb (length (listed_numbers (parts_of c t.node))) t.size && (candidates ps && new ps)) (sym same)
-      ∙ ap (λ (ns : List ℕ). leb (length ns) t.size && (candidates (parts_at parts) && new (parts_at parts))) (sym e)
-      ∙ ap (λ b. b && (candidates (parts_at parts) && new (parts_at parts))) fits
-      ∙ ap (λ b. room && (b && new (parts_at parts))) (sym cells)
-      ∙ ap (λ b. room && b) (both stand differ (new (parts_at parts)) keys))
+  pub table-is : (room stand differ : Bool) → leb (length of.numbers.now) of.table.now.size ≡ room
+      → stand ≡ list_all (stands_in_candidates of.config.now) (parts_at of.parts.now) → (stand ≡ true → differ ≡ news (divided_up (sum of.table.now.keys) 8) [] (keys_listed of.config.now (parts_at of.parts.now)))
+      → (room && (stand && differ)) ≡ is_filled_so of.config.now of.table.now
+  table-is room stand differ fits cells keys =
+      let size = divided_up (sum of.table.now.keys) 8 in
+      let candidates : List PartAt → Bool = λ ps. list_all (stands_in_candidates of.config.now) ps in
+      let new : List PartAt → Bool = λ ps. news size [] (keys_listed of.config.now ps) in
+      sym (exact-answer of.config.now of.table.now is all-exact
+      ∙ ap (λ (ps : List PartAt). leb (length (listed_numbers (parts_of of.config.now of.table.now.node))) of.table.now.size && (candidates ps && new ps)) (sym stands.parts)
+      ∙ ap (λ (ns : List ℕ). leb (length ns) of.table.now.size && (candidates (parts_at of.parts.now) && new (parts_at of.parts.now))) (sym stands.numbers)
+      ∙ ap (λ b. b && (candidates (parts_at of.parts.now) && new (parts_at of.parts.now))) fits
+      ∙ ap (λ b. room && (b && new (parts_at of.parts.now))) (sym cells)
+      ∙ ap (λ b. room && b) (both stand differ (new (parts_at of.parts.now)) keys))
     where
       both : (a x y : Bool) → (a ≡ true → x ≡ y) → (a && y) ≡ (a && x)
       both true x y h = sym (h refl)

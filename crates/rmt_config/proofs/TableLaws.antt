@@ -125,6 +125,27 @@ slot_stands nodes before behind stage s k lt guard =
     let none_behind : eqb (left_of nodes s.node) 1 ≡ not (is_among s.node behind) = none_own nodes before behind x k lt in
     rw (guard, k.last s.node lt, k.so_far s.node lt, none_behind) refl
 
+-- ---- what is told of a unit whose guard was looked at
+
+abbrev pub GuardTold : Nodes → ℕ → Unit → Bool → Type 0
+GuardTold nodes stage unit b =
+    (before behind : List Placed) → Knows nodes before (record { stage = stage; unit = unit } ∷ behind) → b ≡ guard_stands (node_of unit) (guard_of unit) before behind
+
+pub unguarded-tells : (nodes : Nodes) (stage : ℕ) (unit at : Unit) (b : Bool) → at ≡ unit → GuardTold nodes stage unit b → b ≡ false → Tells nodes stage b at
+unguarded-tells nodes stage unit at b is told e =
+    subst (Tells nodes stage b) (sym is) (λ before behind k. e ∙ sym (guard_breaks before behind (record { stage = stage; unit = unit }) (sym (told before behind k) ∙ e)))
+
+pub gate-tells : (nodes : Nodes) (stage : ℕ) (g : GateUnit) (at : Unit) (b alone : Bool) → at ≡ Gate g → GuardTold nodes stage (Gate g) b → b ≡ true → g.node < 256
+    → alone ≡ (eqb (so_far_of nodes g.node) 0 && eqb (left_of nodes g.node) 1) → Tells nodes stage alone at
+gate-tells nodes stage g at b alone is told e lt value =
+    subst (Tells nodes stage alone) (sym is) (λ before behind k. value ∙ gate_stands nodes before behind stage g k lt (sym (told before behind k) ∙ e))
+
+pub slot-tells : (nodes : Nodes) (stage : ℕ) (s : SlotUnit) (at : Unit) (b stands : Bool) → at ≡ Slot s → GuardTold nodes stage (Slot s) b → b ≡ true → s.node < 256
+    → stands ≡ (follows_part stage s (last_of nodes s.node) && ways_follow (so_far_of nodes s.node) s.memory && same_flag s.last (eqb (left_of nodes s.node) 1))
+    → Tells nodes stage stands at
+slot-tells nodes stage s at b stands is told e lt value =
+    subst (Tells nodes stage stands) (sym is) (λ before behind k. value ∙ slot_stands nodes before behind stage s k lt (sym (told before behind k) ∙ e))
+
 -- ---- the pass over all units
 
 -- what is known, and what the rules say of the units that come, decide what they say of all

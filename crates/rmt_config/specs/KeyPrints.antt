@@ -1,5 +1,5 @@
 -- What is kept of the keys of exact parts, one after another: their bytes, or prints by which they are told apart, since keys of different prints differ.
-use Rattle.std.specs.Prelude.{◌≡◌, ℕ, ◌*◌, ◌/◌, ◌%◌, ◌^◌, List, [], ◌∷◌, ◌++◌, length, Bool, true, false, if◌then◌else◌, nat_le, bit_xor, map}
+use Rattle.std.specs.Prelude.{◌≡◌, ℕ, ◌*◌, ◌/◌, ◌%◌, ◌^◌, ◌<◌, ◌≤◌, Option, None, Some, List, [], ◌∷◌, ◌++◌, length, Bool, true, false, if◌then◌else◌, nat_le, bit_xor, map}
 use Rattle.std.specs.List.{flat_map, list_all}
 use Rattle.rmt_bits.specs.Bits.{bytes_of, number_of}
 use Rattle.rmt_bits.specs.Hash.{fnv}
@@ -19,6 +19,11 @@ print bytes = if nat_le (length bytes) 8 then spread (number_of bytes) else fnv 
 -- the print of a key as that many bytes
 abbrev pub print_of : ℕ → ℕ → ℕ
 print_of size key = print (bytes_of size key)
+
+-- the number of bytes is known exactly where they are at most 8
+abbrev pub NumberKnown : List ℕ → Option ℕ → Type 0
+NumberKnown bytes None = 8 < length bytes
+NumberKnown bytes (Some number) = (length bytes ≤ 8) × (number_of bytes ≡ number)
 
 -- what is kept of a key of these bytes: all of them, or its print
 abbrev pub kept_of : Bool → List ℕ → List ℕ

@@ -7,7 +7,7 @@ use Rattle.rmt_config.specs.CellForm.{head_is_formed}
 use Rattle.rmt_bits.specs.Bits.{slice}
 use Rattle.rmt_config.specs.declared.form.layout.CellLayout.{CellLayout}
 use Rattle.rmt_config.specs.Types.{Stage, SramRow, TcamRow, SlotUnit, CellNumber, Memory}
-use Rattle.rmt_config.specs.Cells.{Blocks, unit_row, blocks_at}
+use Rattle.rmt_config.specs.Cells.{Blocks, unit_row, blocks_at, sram_row}
 use Rattle.rmt_config.specs.StageForm.{is_listed, srow_number, trow_number}
 use Rattle.rmt_config.specs.LaneForm.{bits_of_lanes}
 use Rattle.rmt_config.specs.BlockCounts.{divided_up, record_width, records_a_row, record_units}
@@ -106,19 +106,23 @@ exact_keys k p d bits = record {
   quanta = d;
 }
 
--- the records of an exact part, of n bits
-abbrev pub exact_records : ℕ → ℕ → ℕ → CellLayout
-exact_records p d n = record {
+-- records of n bits of t times 1,024 cells a quantum, in that many ways of so many cells
+abbrev pub records_of : ℕ → ℕ → ℕ → ℕ → ℕ → CellLayout
+records_of t way ways d n = record {
   bits = 112;
   rows = 1024;
   side = record_width n;
   entry = n;
   per = records_a_row n;
-  units = record_units (4 * p) n;
-  way = 1024 * p;
-  ways = 4;
+  units = record_units t n;
+  way = way;
+  ways = ways;
   quanta = d;
 }
+
+-- the records of an exact part, of n bits
+abbrev pub exact_records : ℕ → ℕ → ℕ → CellLayout
+exact_records p d n = records_of (4 * p) (1024 * p) 4 d n
 
 -- the keys of a ternary part, of that many bits
 abbrev pub ternary_keys : ℕ → ℕ → CellLayout
@@ -136,17 +140,7 @@ ternary_keys d bits = record {
 
 -- the records of a ternary part, of n bits
 abbrev pub ternary_records : ℕ → ℕ → CellLayout
-ternary_records d n = record {
-  bits = 112;
-  rows = 1024;
-  side = record_width n;
-  entry = n;
-  per = records_a_row n;
-  units = record_units 2 n;
-  way = 2048;
-  ways = 1;
-  quanta = d;
-}
+ternary_records d n = records_of 2 2048 1 d n
 
 -- the bits that are set in the rows of a stage stand in entries of listed cells
 abbrev pub SramTold : CellLayout → Stage → SlotUnit → List ℕ → Type 0
@@ -175,6 +169,19 @@ abbrev pub cells_hold : CellLayout → Blocks → List ℕ → ℕ → ℕ → �
 cells_hold l sram blocks visible first actions numbers =
     rises_from 0 (listed_cells numbers) && list_all (λ n. nat_lt n (l.ways * l.quanta * l.way)) (listed_cells numbers)
     && heads_hold l sram blocks visible first actions (listed_cells numbers)
+
+-- the entries of listed cells begin with heads, and no bit outside them is set
+abbrev pub EntriesHeld : Stage → SlotUnit → ℕ → ℕ → CellLayout → List ℕ → Type 0
+EntriesHeld stage s visible first l blocks = IsTrue (cells_hold l (sram_row stage.srows) blocks visible first s.actions s.numbers) × SramTold l stage s blocks
+
+-- what an exact part holds: its entries, and records of no other cells
+abbrev pub ExactHeld : Stage → SlotUnit → ℕ → ℕ → ℕ → ℕ → ℕ → List ℕ → List ℕ → Type 0
+ExactHeld stage s visible first k p d ks rs =
+    EntriesHeld stage s visible first (exact_keys k p d (bits_of_lanes s.keys)) ks × SramTold (exact_records p d s.held) stage s rs
+
+-- what a ternary part holds: records with heads, and keys of no other cells
+abbrev pub TernaryHeld : Stage → SlotUnit → ℕ → ℕ → ℕ → List ℕ → List ℕ → Type 0
+TernaryHeld stage s visible first d ks rs = EntriesHeld stage s visible first (ternary_records d (s.held + 8)) rs × TcamTold (ternary_keys d (bits_of_lanes s.keys)) stage s ks
 
 -- a layout in SRAM, whose blocks have 1,024 rows of 112 bits
 pub record IsInSram (l : CellLayout) : Type 0 where

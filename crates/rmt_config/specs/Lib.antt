@@ -26,6 +26,8 @@ pub mod Spells
 pub mod Layouts
 pub mod WayRows
 pub mod MemoryRules
+pub mod HeadedEntries
+pub mod ListedCells
 pub mod Agreement
 pub mod RunCells
 pub mod RunInputs
@@ -35,7 +37,10 @@ pub mod Effects
 pub mod PartsTold
 pub mod PrefixRow
 pub mod PartStands
+pub mod TableStands
+pub mod FilledTables
 pub mod KeyPrints
 pub mod Marks
 pub mod KeysSeen
+pub mod ExactCells
 pub mod PrefixRows

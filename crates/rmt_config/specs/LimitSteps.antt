@@ -3,12 +3,14 @@ use Rattle.std.specs.Prelude.{◌≡◌, ℕ, ◌+◌, ◌<◌, List, [], ◌∷
 use Rattle.std.specs.List.{list_all, sum_by}
 use Rattle.rmt_config.specs.Instructions.{unit_instructions}
 use Rattle.rmt_config.specs.declared.limits.LimitHit.{LimitHit}
+use Rattle.rmt_config.specs.declared.limits.crossbar.Crossbar.{Crossbar}
+use Rattle.rmt_config.specs.declared.limits.crossbar.Crossbar.TheVariants as crossbar
 use Rattle.rmt_config.specs.declared.limits.total.Resource.{Resource}
 use Rattle.rmt_config.specs.declared.limits.total.Resource.TheVariants as resource
 use Rattle.rmt_config.specs.declared.limits.stage.StageLimit.{StageLimit}
 use Rattle.rmt_config.specs.declared.limits.stage.StageLimit.TheVariants as limit
 use Rattle.rmt_config.specs.Types.{Stage, Unit}
-use Rattle.rmt_config.specs.Resources.{is_slot, is_gate, unit_data, unit_sram, unit_tcam, is_in, distinct, times_in}
+use Rattle.rmt_config.specs.Resources.{is_slot, is_gate, unit_data, unit_sram, unit_tcam, is_in, distinct, times_in, exact_words, ternary_words}
 use Rattle.rmt_config.specs.Limits.{told, sram_hit, tcam_hit, exact_words_hit, ternary_words_hit, slots_hit, code_hit, data_hit, gates_hit, width_hit, listed_hit}
 
 -- how much a unit takes
@@ -19,6 +21,11 @@ taken_by resource.Slots = λ unit. cond (is_slot unit) 1 0
 taken_by resource.Instructions = unit_instructions
 taken_by resource.DataBits = unit_data
 taken_by resource.Gates = λ unit. cond (is_gate unit) 1 0
+
+-- the words that a unit reads over a crossbar
+abbrev pub words_over : Crossbar → Unit → List ℕ
+words_over crossbar.Exact = exact_words
+words_over crossbar.Ternary = ternary_words
 
 -- what numbers that are marked measure together, where the first mark is that of this number
 abbrev pub marked_sum : (ℕ → ℕ) → ℕ → List Bool → ℕ

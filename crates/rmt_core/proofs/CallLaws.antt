@@ -1,12 +1,13 @@
 -- What calls of commands leave, one step after another.
 use Rattle.std.proofs.Common.{◌≡◌, ◌≢◌, ◌⊎◌, inl, inr, ⊎_elim, ℕ, List, refl, sym, ◌∙◌}
+use Rattle.std.specs.Prelude.{IsTrue}
 use Rattle.rmt_io.specs.Outside.{ShelfState, SinkState, GainedNone, HasFile, OnlyPrinted, OnlyRead, ReadingFailed}
 use Rattle.rmt_io.proofs.OutsideLaws.{only_printed_refl, only_read_refl, only_read_trans, reading_failed_later, writing_failed_later}
 use Rattle.rmt_drive.specs.declared.status.Status.{Status}
 use Rattle.rmt_drive.specs.declared.status.Status.TheVariants.{ReadFault, WriteFault, TooLong, NoMemory}
 use Rattle.rmt_drive.specs.Files.{Files}
 use Rattle.rmt_drive.specs.Given.{Given, Opens, Reads}
-use Rattle.rmt_drive.specs.Ends.{Answered, Outside, ReadsAndPrints, WritesAndPrints, outside}
+use Rattle.rmt_drive.specs.Ends.{Answered, Befalls, Outside, ReadsAndPrints, WritesAndPrints, outside}
 use Rattle.rmt_drive.specs.Loading.{IsFound, NotOpened, NotRead}
 use Rattle.rmt_drive.specs.Telling.{Tells}
 use Rattle.rmt_drive.proofs.EndLaws.{no_memory, not_opened, not_read, opens_on, reads_on}
@@ -37,28 +38,41 @@ told_quiet wanted s unread short quiet (inr (inl h)) (inr (inr e)) = absurd (cc)
 told_quiet wanted s unread short quiet (inr (inr h)) (inr (inl e)) = absurd (cc)
 told_quiet wanted s unread short quiet (inr (inr h)) (inr (inr e)) = absurd (cc)
 
-module _ (before after : Outside) (mid : ShelfState) (name : List ℕ) (next : Files → List ℕ → Given → Type 0) where
-  -- a command that read a file goes on with its bytes
-  pub reads_then : (limit : ℕ) (bytes : List ℕ) (status : Status) → OnlyRead before.shelf mid → IsFound before.shelf name limit bytes
-      → ReadsAndPrints (outside mid before.sink) after (λ files. next files bytes) status → ReadsAndPrints before after (λ files. Reads files name limit (next files)) status
-  reads_then limit bytes status r is h = record {
-    answered = reads_on before after mid name next limit bytes status r is h.answered;
+-- a call behind a reading, by what is answered over what there was before it
+module _ (before after : Outside) (mid : ShelfState) (gives other : Files → Given → Type 0) (status : Status) (r : OnlyRead before.shelf mid)
+    (answered : IsTrue before.shelf.tells → Answered before after (other before.shelf.files) status) where
+  pub read_behind : ReadsAndPrints (outside mid before.sink) after gives status → ReadsAndPrints before after other status
+  read_behind h = record {
+    answered = answered;
     read_fault = λ e. reading_failed_later after.shelf r (h.read_fault e);
     write_fault = h.write_fault;
     only_read = only_read_trans r h.only_read;
     only_printed = h.only_printed;
   }
 
+  pub write_behind : WritesAndPrints (outside mid before.sink) after gives status → WritesAndPrints before after other status
+  write_behind h = record {
+    answered = answered;
+    quiet = h.quiet;
+    read_fault = λ e. reading_failed_later after.shelf r (h.read_fault e);
+    write_fault = λ e. ⊎_elim (λ failed. inl (writing_failed_later after.shelf r failed.0, failed.1)) (λ failed. inr failed) (h.write_fault e);
+    steady_write = λ e steady. h.steady_write e (r.stays_steady steady);
+    tells = h.tells ∙ r.tells;
+    only_printed = h.only_printed;
+  }
+
+module _ (before after : Outside) (mid : ShelfState) (name : List ℕ) (next : Files → List ℕ → Given → Type 0) where
+  -- a command that read a file goes on with its bytes
+  pub reads_then : (limit : ℕ) (bytes : List ℕ) (status : Status) → OnlyRead before.shelf mid → IsFound before.shelf name limit bytes
+      → ReadsAndPrints (outside mid before.sink) after (λ files. next files bytes) status → ReadsAndPrints before after (λ files. Reads files name limit (next files)) status
+  reads_then limit bytes status r is h =
+      read_behind before after mid (λ files. next files bytes) (λ files. Reads files name limit (next files)) status r (reads_on before after mid name next limit bytes status r is h.answered) h
+
   -- and so does one that opened a file
   pub opens_then : (status : Status) → OnlyRead before.shelf mid → HasFile before.shelf name mid.rest
       → ReadsAndPrints (outside mid before.sink) after (λ files. next files mid.rest) status → ReadsAndPrints before after (λ files. Opens files name (next files)) status
-  opens_then status r is h = record {
-    answered = opens_on before after mid name next status r is h.answered;
-    read_fault = λ e. reading_failed_later after.shelf r (h.read_fault e);
-    write_fault = h.write_fault;
-    only_read = only_read_trans r h.only_read;
-    only_printed = h.only_printed;
-  }
+  opens_then status r is h =
+      read_behind before after mid (λ files. next files mid.rest) (λ files. Opens files name (next files)) status r (opens_on before after mid name next status r is h.answered) h
 
 module _ (before : ShelfState) (sink : SinkState) (after : ShelfState) (name : List ℕ) (next : Files → List ℕ → Given → Type 0) where
   -- a command ends where a file isn't read
@@ -105,16 +119,16 @@ ends_at_once o gives = record {
   only_printed = only_printed_refl o.sink;
 }
 
+-- a command ran over a packet text
+pub runs_on : {before after : Outside} {gives : Files → Given → Type 0} {status : Status} → Befalls before after status → (IsTrue before.shelf.tells → Answered before after (gives before.shelf.files) status)
+    → ReadsAndPrints before after gives status
+runs_on b answered = record { answered = answered; read_fault = b.read_fault; write_fault = b.write_fault; only_read = b.only_read; only_printed = b.only_printed }
+
 -- what is said of a command is said of one that goes on as it
 pub goes_on_as : (before after : Outside) (gives other : Files → Given → Type 0) (status : Status)
     → (Answered before after (gives before.shelf.files) status → Answered before after (other before.shelf.files) status) → ReadsAndPrints before after gives status → ReadsAndPrints before after other status
-goes_on_as before after gives other status turn h = record {
-  answered = λ tells. turn (h.answered tells);
-  read_fault = h.read_fault;
-  write_fault = h.write_fault;
-  only_read = h.only_read;
-  only_printed = h.only_printed;
-}
+goes_on_as before after gives other status turn h =
+    read_behind before after before.shelf gives other status (only_read_refl before.shelf) (λ tells. turn (h.answered tells)) h
 
 -- ---- commands that may write a file
 
@@ -135,25 +149,11 @@ writes_none before after gives status h quiet = record {
 pub writes_then : (before after : Outside) (mid : ShelfState) (name : List ℕ) (next : Files → List ℕ → Given → Type 0) (limit : ℕ) (bytes : List ℕ) (status : Status)
     → OnlyRead before.shelf mid → IsFound before.shelf name limit bytes
     → WritesAndPrints (outside mid before.sink) after (λ files. next files bytes) status → WritesAndPrints before after (λ files. Reads files name limit (next files)) status
-writes_then before after mid name next limit bytes status r is h = record {
-  answered = reads_on before after mid name next limit bytes status r is h.answered;
-  quiet = h.quiet;
-  read_fault = λ e. reading_failed_later after.shelf r (h.read_fault e);
-  write_fault = λ e. ⊎_elim (λ failed. inl (writing_failed_later after.shelf r failed.0, failed.1)) (λ failed. inr failed) (h.write_fault e);
-  steady_write = λ e steady. h.steady_write e (r.stays_steady steady);
-  tells = h.tells ∙ r.tells;
-  only_printed = h.only_printed;
-}
+writes_then before after mid name next limit bytes status r is h =
+    write_behind before after mid (λ files. next files bytes) (λ files. Reads files name limit (next files)) status r (reads_on before after mid name next limit bytes status r is h.answered) h
 
 -- what is said of a command is said of one that goes on as it
 pub writes_as : (before after : Outside) (gives other : Files → Given → Type 0) (status : Status)
     → (Answered before after (gives before.shelf.files) status → Answered before after (other before.shelf.files) status) → WritesAndPrints before after gives status → WritesAndPrints before after other status
-writes_as before after gives other status turn h = record {
-  answered = λ tells. turn (h.answered tells);
-  quiet = h.quiet;
-  read_fault = h.read_fault;
-  write_fault = h.write_fault;
-  steady_write = h.steady_write;
-  tells = h.tells;
-  only_printed = h.only_printed;
-}
+writes_as before after gives other status turn h =
+    write_behind before after before.shelf gives other status (only_read_refl before.shelf) (λ tells. turn (h.answered tells)) h

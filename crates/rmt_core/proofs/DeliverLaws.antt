@@ -15,6 +15,7 @@ use Rattle.rmt_runs.specs.Printing.{GainedFront}
 use Rattle.rmt_core.specs.Writing.{StoodUpTo}
 use Rattle.rmt_runs.proofs.FrontLaws.{gained_none}
 use Rattle.rmt_drive.proofs.EndLaws.{answered_where, ends_by}
+use Rattle.rmt_core.proofs.CallLaws.{writes_as}
 use Rattle.rmt_core.proofs.WritingLaws.{others_stand}
 
 -- ---- a call, by what befell it
@@ -132,15 +133,7 @@ delivered_short before after sink writes lines tells status some kind stood brok
 -- a command that may give this, and whose call printed nothing where memory was wanting
 pub delivers : (before after : Outside) (gives : Files → Given → Type 0) (writes : List Write) (lines : List ℕ) (result : Status) → gives before.shelf.files (stored before.shelf.files writes lines)
     → (result ≡ Done) ⊎ (result ≡ WriteFault) ⊎ (result ≡ NoMemory) → WritesAndPrints before after (Stores writes lines) result → WritesAndPrints before after gives result
-delivers before after gives writes lines result is kind h = record {
-  answered = λ told. by result kind (λ e. h.quiet (inl e)) (h.answered told);
-  quiet = h.quiet;
-  read_fault = h.read_fault;
-  write_fault = h.write_fault;
-  steady_write = h.steady_write;
-  tells = h.tells;
-  only_printed = h.only_printed;
-}
+delivers before after gives writes lines result is kind h = writes_as before after (Stores writes lines) gives result (by result kind (λ e. h.quiet (inl e))) h
   where
     to : (g : Given) → g ≡ stored before.shelf.files writes lines → gives before.shelf.files g
     to g e = subst (gives before.shelf.files) (sym e) is

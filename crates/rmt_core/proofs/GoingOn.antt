@@ -1,5 +1,5 @@
 -- What is said of a command that goes on with an image, or with a program and its entries, is said of the command that first reads them.
-use Rattle.std.proofs.Common.{◌≡◌, ◌≢◌, ℕ, List, Result, Ok, Err, sym, refl, subst, inl, inr}
+use Rattle.std.proofs.Common.{◌≡◌, ◌≢◌, ◌≤◌, ℕ, length, List, Result, Ok, Err, sym, refl, subst, inl, inr}
 use Rattle.rmt_core.specs.Types.{Program, Config}
 use Rattle.rmt_ast.specs.declared.entry.Entry.{Entry}
 use Rattle.rmt_check.specs.Means.{Means}
@@ -12,7 +12,9 @@ use Rattle.rmt_image.specs.Reading.{Answers}
 use Rattle.rmt_drive.specs.declared.status.Status.{Status}
 use Rattle.rmt_drive.specs.declared.status.Status.TheVariants as status
 use Rattle.rmt_drive.specs.Ends.{Answered, AreSame, Outside}
+use Rattle.rmt_drive.specs.Files.{entries_limit, program_limit}
 use Rattle.rmt_drive.specs.Given.{Given}
+use Rattle.rmt_core.specs.Making.{AreOfTexts}
 use Rattle.rmt_core.specs.Simulating.{Spelled}
 use Rattle.rmt_core.specs.ImageFaults.{bad_image_line}
 use Rattle.rmt_drive.specs.Telling.{Tells}
@@ -21,6 +23,12 @@ use Rattle.rmt_drive.proofs.EndLaws.{answered_as, no_memory}
 use Rattle.rmt_core.proofs.GivenDone.{spelled_is, understood}
 use Rattle.rmt_core.proofs.GivenOnce.{OneMeaning}
 use Rattle.rmt_core.proofs.TextLaws.{line_answered}
+
+-- what two texts within their limits mean and say
+pub said_by : (p : Program) (lists : List (List Entry)) (text entry_text : List ℕ) → Means text (Ok p) → entries_of p entry_text ≡ Ok lists → length text ≤ program_limit
+    → length entry_text ≤ entries_limit → AreOfTexts p lists
+said_by p lists text entry_text means says short short_entries =
+    record { text = text; entry_text = entry_text; means = means; says = says; is_short = short; has_short_entries = short_entries }
 
 -- two texts mean a program and its entries
 pub understood_answered : OneMeaning → (before after : Outside) (text entry_text : List ℕ) (next : Program → List (List Entry) → Given → Type 0) (p : Program) (lists : List (List Entry)) (s : Status)

@@ -8,6 +8,7 @@ use Rattle.rmt_bits.specs.declared.lane.Lane.{Lane}
 use Rattle.rmt_ast.specs.declared.deps.Edge.{Edge}
 use Rattle.rmt_core.specs.Types.{Program, Config}
 use Rattle.rmt_ast.specs.declared.entry.Entry.{Entry}
+use Rattle.rmt_ast.specs.EntryLists.{AreEntries}
 use Rattle.rmt_ast.specs.WellFormed.{IsProgram}
 use Rattle.rmt_bounds.specs.declared.bound.Bound.{Bound}
 use Rattle.rmt_bounds.specs.declared.bound.Proof.{Proof}
@@ -15,14 +16,14 @@ use Rattle.rmt_bounds.specs.declared.bound.Proof.TheVariants.{Chain, Sram, Tcam,
 use Rattle.rmt_bounds.specs.Bounds.{stage_bound}
 use Rattle.rmt_bounds.specs.Proofs.{Gives, IsChain}
 use Rattle.rmt_bounds.proofs.GivenLaws.{bound-given}
+use Rattle.rmt_check.specs.Means.{Means}
 use Rattle.rmt_check.specs.NamedTexts.{IsShortFor}
-use Rattle.rmt_config.specs.Form.{Formed}
 use Rattle.rmt_config.specs.ImageSpelling.{spelled_image}
 use Rattle.rmt_deps.specs.Edges.{field_edges}
 use Rattle.rmt_deps.proofs.EdgeLaws.{go_forward}
 use Rattle.rmt_refine.specs.declared.map.Map.{Map}
 use Rattle.rmt_refine.specs.Carries.{Carries}
-use Rattle.rmt_refine.specs.RunsAs.{RunsAs}
+use Rattle.rmt_refine.specs.Laws.{ListsAreAnswered}
 use Rattle.rmt_build.specs.declared.built.Built.{Built}
 use Rattle.rmt_build.specs.declared.fault.NoFit.{NoFit}
 use Rattle.rmt_build.specs.declared.fault.NoFit.TheVariants as no_fit
@@ -86,8 +87,8 @@ unrefused None rest e = refl
 unrefused (Some fault) rest e = absurd (none-some (parser_told fault) (sym e))
 
 -- what the back end built is an image of the program with its entries
-pub is_built : (placer : Placer) (p : Program) (lists : List (List Entry)) (r : Result Built NoFit) → IsProgram p → (said : AreOfTexts p lists) → IsShortFor said.text p
-    → ((m : Map) (c : Config) → Carries p lists m c → Formed c → RunsAs p lists c)
+pub is_built : (placer : Placer) (p : Program) (lists : List (List Entry)) (r : Result Built NoFit) → IsProgram p → AreEntries p lists → AreOfTexts p lists
+    → ((text : List ℕ) (q : Program) → Means text (Ok q) → IsShortFor text q) → ListsAreAnswered
     → IfOk r (λ b. refusal_by placer p ≡ None)
     → IfOk r (λ b. Carries p lists b.map b.config)
     → IfOk r (λ b. IsConfigOf p lists b.config)
@@ -96,16 +97,16 @@ pub is_built : (placer : Placer) (p : Program) (lists : List (List Entry)) (r : 
     → IfOk r (λ b. IsLaidOut p lists b.map b.config)
     → IfOk r (λ b. IsBounded p b.map b.bound)
     → IfOk r (IsBuilt placer p lists)
-is_built placer p lists (Err fault) program said brief runs none carries config rules placement layout bounded = tt
-is_built placer p lists (Ok b) program said brief runs none carries config rules placement layout bounded =
+is_built placer p lists (Err fault) program entries said brief answered none carries config rules placement layout bounded = tt
+is_built placer p lists (Ok b) program entries said brief answered none carries config rules placement layout bounded =
     let made : IsMadeBy placer p lists b.map b.config = record { rules = rules; placement = placement; layout = layout } in
     record {
       no_refusal = none;
       makes = record {
         spells = record { spelled = refl; formed = config.formed; limits = config.limits };
         names = config.names;
-        short = image_is_short p lists b.map b.config program said brief carries config.formed config.limits config.names;
-        runs = runs b.map b.config carries config.formed;
+        short = image_is_short p lists b.map b.config program said (brief said.text p said.means) carries config.formed config.limits config.names;
+        runs = answered p lists b.map b.config program entries carries;
         carries = carries;
         made_by = made;
         map = has_map_file placer p lists b.map b.config program said carries made config.formed config.limits (unrefused (refusal p) (option_or (option_map action_told (first_deep 0 p.actions)) (placing_refusal placer p (packing p))) none);

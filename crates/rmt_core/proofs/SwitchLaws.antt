@@ -2,7 +2,7 @@
 use Rattle.std.proofs.Common.{◌≡◌, ◌≢◌, ◌⊎◌, inl, inr, ⊎_elim, ℕ, List, [], Result, Ok, Err, refl, sym, ap, ◌∙◌, subst}
 use Rattle.std.specs.Prelude.{IsTrue}
 use Rattle.rmt_io.specs.Outside.{ShelfState, SinkState, OnlyRead, ReadingFailed}
-use Rattle.rmt_io.proofs.OutsideLaws.{only_printed_refl, reading_failed_later, tells_later, writing_failed_later}
+use Rattle.rmt_io.proofs.OutsideLaws.{only_printed_refl, tells_later}
 use Rattle.rmt_items.specs.declared.fault.ImageFault.TheVariants as image_fault
 use Rattle.rmt_pcap.specs.declared.capture.Capture.{Capture as Said}
 use Rattle.rmt_pcap.specs.declared.fault.CaptureFault.TheVariants as capture_fault
@@ -26,7 +26,7 @@ use Rattle.rmt_core.specs.Switching.{HasCapture, HasGroups, OfCapture, OfGroups,
 use Rattle.rmt_core.specs.SwitchSetup.{AreFound, IsImageOf, NoneRead, SaysFault, no_capture, no_groups, no_image, setup_fault_line, setup_fault_status}
 use Rattle.rmt_drive.specs.Telling.{Tells}
 use Rattle.rmt_core.specs.Texts.{bad_entries_line}
-use Rattle.rmt_core.proofs.CallLaws.{unread_unwritten}
+use Rattle.rmt_core.proofs.CallLaws.{unread_unwritten, write_behind}
 use Rattle.rmt_drive.proofs.EndLaws.{later, no_memory, not_read}
 use Rattle.rmt_core.proofs.GoingOn.{bad_image_answered, refused}
 use Rattle.rmt_core.proofs.TextLaws.{line_answered}
@@ -65,19 +65,12 @@ module _ (image groups capture : List ℕ) where
       let b = inputs.image.items in
       let t = inputs.groups.items in
       let f = inputs.capture.items in
-      record {
-        answered = λ tells.
-            answered_found before after image image_limit b (λ bytes. Reads files groups groups_limit (λ text. Reads files capture capture_limit (λ file. next files bytes text file))) s found.image tells
-            (answered_found before after groups groups_limit t (λ text. Reads files capture capture_limit (λ file. next files b text file)) s found.groups tells
-            (answered_found before after capture capture_limit f (λ file. next files b t file) s found.capture tells
-            (later before after mid (λ fs. next fs b t f) s r (h.answered (tells_later r tells)))));
-        quiet = h.quiet;
-        read_fault = λ e. reading_failed_later after.shelf r (h.read_fault e);
-        write_fault = λ e. ⊎_elim (λ failed. inl (writing_failed_later after.shelf r failed.0, failed.1)) (λ failed. inr failed) (h.write_fault e);
-        steady_write = λ e steady. h.steady_write e (r.stays_steady steady);
-        tells = h.tells ∙ r.tells;
-        only_printed = h.only_printed;
-      }
+      write_behind before after mid (λ fs. next fs b t f) (λ fs. ReadsThree fs image groups capture (next fs)) s r
+      (λ tells.
+      answered_found before after image image_limit b (λ bytes. Reads files groups groups_limit (λ text. Reads files capture capture_limit (λ file. next files bytes text file))) s found.image tells
+      (answered_found before after groups groups_limit t (λ text. Reads files capture capture_limit (λ file. next files b text file)) s found.groups tells
+      (answered_found before after capture capture_limit f (λ file. next files b t file) s found.capture tells
+      (later before after mid (λ fs. next fs b t f) s r (h.answered (tells_later r tells)))))) h
 
   pub none_read_kind : {shelf : ShelfState} {s : Status} → NoneRead shelf image groups capture s → (s ≡ status.ReadFault) ⊎ (s ≡ status.TooLong) ⊎ (s ≡ status.NoMemory)
   none_read_kind (no_image w) = w.kind
@@ -166,16 +159,15 @@ setup_fault_answered before after out every bytes text file fault s says want sa
         (bad_capture_given before.shelf.files out every bytes text file says.0 says.1 says.2 code says.3 says.4) same (inr (inr (inr (inr (inr refl))))) t
 
 -- its status is no fault of reading, and not that of a file that is too long
+setup_fault_other : (fault : SetupFault) → (setup_fault_status fault ≢ status.ReadFault) × (setup_fault_status fault ≢ status.TooLong)
+setup_fault_other (Image f) = (λ e. cc, λ e. cc)
+setup_fault_other (Groups group_fault.NoMemory) = (λ e. cc, λ e. cc)
+setup_fault_other (Groups (group_fault.At code line)) = (λ e. cc, λ e. cc)
+setup_fault_other (Capture capture_fault.NoMemory) = (λ e. cc, λ e. cc)
+setup_fault_other (Capture (capture_fault.Code code)) = (λ e. cc, λ e. cc)
+
 pub setup_fault_unread : (fault : SetupFault) → setup_fault_status fault ≢ status.ReadFault
-setup_fault_unread (Image f) e = cc
-setup_fault_unread (Groups group_fault.NoMemory) e = cc
-setup_fault_unread (Groups (group_fault.At code line)) e = cc
-setup_fault_unread (Capture capture_fault.NoMemory) e = cc
-setup_fault_unread (Capture (capture_fault.Code code)) e = cc
+setup_fault_unread fault = (setup_fault_other fault).0
 
 pub setup_fault_short : (fault : SetupFault) → setup_fault_status fault ≢ status.TooLong
-setup_fault_short (Image f) e = cc
-setup_fault_short (Groups group_fault.NoMemory) e = cc
-setup_fault_short (Groups (group_fault.At code line)) e = cc
-setup_fault_short (Capture capture_fault.NoMemory) e = cc
-setup_fault_short (Capture (capture_fault.Code code)) e = cc
+setup_fault_short fault = (setup_fault_other fault).1

@@ -1,8 +1,8 @@
 -- What calls leave that first read a program text and an entry text.
-use Rattle.std.proofs.Common.{◌≡◌, ◌⊎◌, ⊎_elim, inl, inr, ℕ, List, ◌∙◌}
+use Rattle.std.proofs.Common.{◌≡◌, ◌⊎◌, ℕ, List}
 use Rattle.std.specs.Prelude.{IsTrue}
 use Rattle.rmt_io.specs.Outside.{ShelfState, SinkState, OnlyRead, ReadingFailed}
-use Rattle.rmt_io.proofs.OutsideLaws.{only_printed_refl, only_read_trans, reading_failed_later, tells_later, writing_failed_later}
+use Rattle.rmt_io.proofs.OutsideLaws.{only_printed_refl, tells_later}
 use Rattle.rmt_drive.specs.declared.status.Status.{Status}
 use Rattle.rmt_drive.specs.declared.status.Status.TheVariants as status
 use Rattle.rmt_core.specs.declared.text_files.TextFiles.{TextFiles}
@@ -10,7 +10,7 @@ use Rattle.rmt_drive.specs.Ends.{Answered, Outside, ReadsAndPrints, WritesAndPri
 use Rattle.rmt_drive.specs.Files.{Files, entries_limit, program_limit}
 use Rattle.rmt_drive.specs.Given.{Given, Reads}
 use Rattle.rmt_core.specs.TextFiles.{AreFound, NoneRead, ReadsTexts, no_entries, no_program}
-use Rattle.rmt_core.proofs.CallLaws.{unread_unwritten}
+use Rattle.rmt_core.proofs.CallLaws.{read_behind, unread_unwritten, write_behind}
 use Rattle.rmt_drive.proofs.EndLaws.{later, not_read}
 use Rattle.rmt_core.proofs.SwitchLaws.{answered_found}
 
@@ -37,25 +37,11 @@ module _ (program entries : List ℕ) (next : Files → List ℕ → List ℕ �
 
     pub reads_texts : ReadsAndPrints (outside mid before.sink) after (λ files. next files text entry_text) s
         → ReadsAndPrints before after (λ files. ReadsTexts files program entries (next files)) s
-    reads_texts h = record {
-      answered = found_answered h.answered;
-      read_fault = λ e. reading_failed_later after.shelf r (h.read_fault e);
-      write_fault = h.write_fault;
-      only_read = only_read_trans r h.only_read;
-      only_printed = h.only_printed;
-    }
+    reads_texts h = read_behind before after mid (λ files. next files text entry_text) (λ files. ReadsTexts files program entries (next files)) s r (found_answered h.answered) h
 
     pub texts_then : WritesAndPrints (outside mid before.sink) after (λ files. next files text entry_text) s
         → WritesAndPrints before after (λ files. ReadsTexts files program entries (next files)) s
-    texts_then h = record {
-      answered = found_answered h.answered;
-      quiet = h.quiet;
-      read_fault = λ e. reading_failed_later after.shelf r (h.read_fault e);
-      write_fault = λ e. ⊎_elim (λ failed. inl (writing_failed_later after.shelf r failed.0, failed.1)) (λ failed. inr failed) (h.write_fault e);
-      steady_write = λ e steady. h.steady_write e (r.stays_steady steady);
-      tells = h.tells ∙ r.tells;
-      only_printed = h.only_printed;
-    }
+    texts_then h = write_behind before after mid (λ files. next files text entry_text) (λ files. ReadsTexts files program entries (next files)) s r (found_answered h.answered) h
 
   -- ---- one was not read
 

@@ -115,39 +115,20 @@ abbrev pub WritesFiles : Command → Type 0
 WritesFiles (Compile program entries image) = Unit {0}
 WritesFiles (CompileMap program entries image map) = Unit {0}
 WritesFiles (Improve program entries image budget) = Unit {0}
-WritesFiles (Sim image packets) = ⊥
-WritesFiles (Probe image packets cycle) = ⊥
-WritesFiles (Plain program entries packets) = ⊥
-WritesFiles (Report image) = ⊥
-WritesFiles (Sample number) = ⊥
 WritesFiles (Switch image groups capture out every) = Unit {0}
-WritesFiles (Verify program entries image map) = ⊥
+WritesFiles _ = ⊥
 
 -- it prints nothing before it has all that it prints
 abbrev pub PrintsAtEnd : Command → Type 0
-PrintsAtEnd (Compile program entries image) = Unit {0}
-PrintsAtEnd (CompileMap program entries image map) = Unit {0}
-PrintsAtEnd (Improve program entries image budget) = Unit {0}
 PrintsAtEnd (Sim image packets) = ⊥
 PrintsAtEnd (Probe image packets cycle) = ⊥
 PrintsAtEnd (Plain program entries packets) = ⊥
-PrintsAtEnd (Report image) = Unit {0}
-PrintsAtEnd (Sample number) = Unit {0}
-PrintsAtEnd (Switch image groups capture out every) = Unit {0}
-PrintsAtEnd (Verify program entries image map) = Unit {0}
+PrintsAtEnd _ = Unit {0}
 
 -- it reads no file
 abbrev pub ReadsNone : Command → Type 0
-ReadsNone (Compile program entries image) = ⊥
-ReadsNone (CompileMap program entries image map) = ⊥
-ReadsNone (Improve program entries image budget) = ⊥
-ReadsNone (Sim image packets) = ⊥
-ReadsNone (Probe image packets cycle) = ⊥
-ReadsNone (Plain program entries packets) = ⊥
-ReadsNone (Report image) = ⊥
 ReadsNone (Sample number) = Unit {0}
-ReadsNone (Switch image groups capture out every) = ⊥
-ReadsNone (Verify program entries image map) = ⊥
+ReadsNone _ = ⊥
 
 -- the answers of a program text and an entry text, and of what they say
 abbrev pub IsOfTexts : Status → Type 0

@@ -234,16 +234,9 @@ IsComplete = (files : Files) (command : Command) (g : Given) → IsReady files c
 
 -- the command writes more than one file
 abbrev pub WritesSeveral : Command → Type 0
-WritesSeveral (Compile program entries image) = ⊥
 WritesSeveral (CompileMap program entries image map) = Unit {0}
-WritesSeveral (Improve program entries image budget) = ⊥
-WritesSeveral (Sim image packets) = ⊥
-WritesSeveral (Probe image packets cycle) = ⊥
-WritesSeveral (Plain program entries packets) = ⊥
-WritesSeveral (Report image) = ⊥
-WritesSeveral (Sample number) = ⊥
 WritesSeveral (Switch image groups capture out every) = Unit {0}
-WritesSeveral (Verify program entries image map) = ⊥
+WritesSeveral _ = ⊥
 
 -- any other one that ends for want of memory, or by a fault of reading, leaves all files as they are
 abbrev pub LeavesFiles : Type 0
@@ -258,26 +251,13 @@ abbrev pub IsBuilding : Command → Type 0
 IsBuilding (Compile program entries image) = Unit {0}
 IsBuilding (CompileMap program entries image map) = Unit {0}
 IsBuilding (Improve program entries image budget) = Unit {0}
-IsBuilding (Sim image packets) = ⊥
-IsBuilding (Probe image packets cycle) = ⊥
-IsBuilding (Plain program entries packets) = ⊥
-IsBuilding (Report image) = ⊥
 IsBuilding (Sample number) = Unit {0}
-IsBuilding (Switch image groups capture out every) = ⊥
-IsBuilding (Verify program entries image map) = ⊥
+IsBuilding _ = ⊥
 
 -- the command that checks one against a program
 abbrev pub IsChecking : Command → Type 0
-IsChecking (Compile program entries image) = ⊥
-IsChecking (CompileMap program entries image map) = ⊥
-IsChecking (Improve program entries image budget) = ⊥
-IsChecking (Sim image packets) = ⊥
-IsChecking (Probe image packets cycle) = ⊥
-IsChecking (Plain program entries packets) = ⊥
-IsChecking (Report image) = ⊥
-IsChecking (Sample number) = ⊥
-IsChecking (Switch image groups capture out every) = ⊥
 IsChecking (Verify program entries image map) = Unit {0}
+IsChecking _ = ⊥
 
 -- each other command gives something
 abbrev pub GivesAlways : Type 0

@@ -24,3 +24,4 @@ pub mod Making
 pub mod WantedNames
 pub mod ImageFaults
 pub use Rattle.rmt_drive.specs.CommitsOf
+pub mod Parts

@@ -1,9 +1,8 @@
 //! The last line of a bad image.
 
 ghost use Rattle.std.specs.Prelude.{◌≡◌, IfOk};
-ghost use Rattle.rmt_io.specs.Outside.{OnlyPrinted};
+ghost use Rattle.rmt_core.specs.Parts.{OnlyPrinted, Tells};
 ghost use Rattle.rmt_core.specs.ImageFaults.{bad_image_line};
-ghost use Rattle.rmt_drive.specs.Telling.{Tells};
 
 use rmt_drive::status::Status;
 use rmt_drive::telling::tell;

@@ -1,11 +1,8 @@
 //! From a program and its entries to an image, its map, and the lines that are printed.
 
 ghost use Rattle.std.specs.Prelude.{◌≡◌, ◌≢◌, ℕ, [], if◌then◌else◌, Some, None, Err, IfOk, IsOkUnless, Vec};
+ghost use Rattle.rmt_core.specs.Parts.{AreEntries, Formed, IsProgram, IsWithinLimits};
 ghost use Rattle.std.specs.Global.{Global};
-ghost use Rattle.rmt_ast.specs.EntryLists.{AreEntries};
-ghost use Rattle.rmt_ast.specs.WellFormed.{IsProgram};
-ghost use Rattle.rmt_config.specs.Form.{Formed};
-ghost use Rattle.rmt_config.specs.Limits.{IsWithinLimits};
 ghost use Rattle.rmt_config.specs.ImageSpelling.{spelled_image};
 ghost use Rattle.rmt_core.specs.CompileText.{compile_text};
 ghost use Rattle.rmt_phv.specs.Places.{KeepsApart};

@@ -1,8 +1,7 @@
 //! Building a program with its entries on the chip, with its nodes placed by the rule or better.
 
 ghost use Rattle.std.specs.Prelude.{◌≡◌, ◌≢◌, None, Ok, IfErr, IfOk, IfSome};
-ghost use Rattle.rmt_ast.specs.EntryLists.{AreEntries};
-ghost use Rattle.rmt_ast.specs.WellFormed.{IsProgram};
+ghost use Rattle.rmt_core.specs.Parts.{AreEntries, IsProgram};
 ghost use Rattle.rmt_core.specs.Making.{AreBothRefused, AreOfTexts, IsBuilt, TellsWhy};
 ghost use Rattle.rmt_core.specs.NoFitText.{no_fit_line};
 ghost use Rattle.rmt_core.specs.Placers.{IsBudget, IsPlacedBy, IsPlacer};

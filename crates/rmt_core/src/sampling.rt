@@ -1,14 +1,12 @@
 //! The command `sample`.
 
 ghost use Rattle.std.specs.Prelude.{◌≡◌, ◌≢◌, ◌≤◌, ℕ, List};
-ghost use Rattle.rmt_config.specs.Form.{Formed};
-ghost use Rattle.rmt_config.specs.Limits.{IsWithinLimits};
+ghost use Rattle.rmt_core.specs.Parts.{Formed, IsWithinLimits, OnlyPrinted, Tells, outside};
 ghost use Rattle.rmt_sample.specs.Texts.{packets_text};
-ghost use Rattle.rmt_io.specs.Outside.{ShelfState, GainedNone, PrintingFailed, OnlyPrinted};
+ghost use Rattle.rmt_io.specs.Outside.{ShelfState, GainedNone, PrintingFailed};
 ghost use Rattle.rmt_core.specs.Commands.{IsPossible, Sample as SampleOf};
-ghost use Rattle.rmt_drive.specs.Ends.{Answered, outside};
+ghost use Rattle.rmt_drive.specs.Ends.{Answered};
 ghost use Rattle.rmt_core.specs.Sampling.{GivesSample, chip_line};
-ghost use Rattle.rmt_drive.specs.Telling.{Tells};
 
 use crate::making::{Refusal, fit};
 use crate::placer::Placer;

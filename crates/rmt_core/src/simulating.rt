@@ -8,7 +8,7 @@ ghost use Rattle.rmt_core.specs.Simulating.{GivesRun};
 use crate::bad_image::tell_bad_image;
 use crate::loading::{IMAGE_LIMIT, PACKETS_LIMIT, open_file, read_file};
 use rmt_chip::chip::Chip;
-use rmt_drive::running::{run_chip, run_watched};
+use rmt_drive::running::run_watched;
 use rmt_drive::status::Status;
 use rmt_drive::watch::Watch;
 use rmt_image::read_image;
@@ -45,12 +45,14 @@ pub fn simulate<F: Shelf, O: Sink>(
     let Ok(mut chip) = Chip::open(alloc, config) else {
         return Status::NoMemory;
     };
-    let limit = PACKETS_LIMIT;
     let mut commits = None;
-    match watch {
-        Watch::Answers => run_chip(alloc, shelf, limit, &mut chip, &mut commits, out),
-        Watch::Vectors { .. } => {
-            run_watched(alloc, shelf, limit, &mut chip, &mut commits, watch, out)
-        }
-    }
+    run_watched(
+        alloc,
+        shelf,
+        PACKETS_LIMIT,
+        &mut chip,
+        &mut commits,
+        watch,
+        out,
+    )
 }

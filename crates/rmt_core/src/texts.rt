@@ -1,14 +1,11 @@
 //! Understanding a program text and an entry text.
 
 ghost use Rattle.std.specs.Prelude.{◌≡◌, ◌<◌, ℕ, Ok, Err, length, IfOk};
+ghost use Rattle.rmt_core.specs.Parts.{AreEntries, IsProgram, OnlyPrinted, Tells};
 ghost use Rattle.rmt_ast.specs.declared.program.Program.{Program};
-ghost use Rattle.rmt_ast.specs.EntryLists.{AreEntries};
-ghost use Rattle.rmt_ast.specs.WellFormed.{IsProgram};
 ghost use Rattle.rmt_check.specs.Means.{Means, fault_at};
 ghost use Rattle.rmt_entries.specs.Entries.{entries_of};
 ghost use Rattle.rmt_entries.specs.declared.fault.EntryFault.TheVariants.{At};
-ghost use Rattle.rmt_io.specs.Outside.{OnlyPrinted};
-ghost use Rattle.rmt_drive.specs.Telling.{Tells};
 ghost use Rattle.rmt_core.specs.TextFaults.{text_fault_line, text_fault_status};
 
 use rmt_ast::entry::EntryLists;

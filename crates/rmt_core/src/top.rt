@@ -1,9 +1,10 @@
 //! The top call.
 
 ghost use Rattle.std.specs.Prelude.{◌≡◌, ◌⊎◌, ◌↔◌, None, IsTrue};
-ghost use Rattle.rmt_io.specs.Outside.{ReadingFailed, WritingFailed, GainedNone, PrintingFailed, OnlyPrinted};
+ghost use Rattle.rmt_core.specs.Parts.{OnlyPrinted, outside};
+ghost use Rattle.rmt_io.specs.Outside.{ReadingFailed, WritingFailed, GainedNone, PrintingFailed};
 ghost use Rattle.rmt_core.specs.Commands.{IfCommand, IsPossible, PrintsAtEnd, ReadsNone, WritesFiles, command_of, words_of};
-ghost use Rattle.rmt_drive.specs.Ends.{Answered, outside};
+ghost use Rattle.rmt_drive.specs.Ends.{Answered};
 ghost use Rattle.rmt_core.specs.Gives.{Gives};
 
 use crate::commands::{Command, command_from};

@@ -1,11 +1,10 @@
 //! The command `verify`.
 
 ghost use Rattle.std.specs.Prelude.{◌≡◌, ◌≤◌, ◌⊎◌, [], IfOk, length, string_bytes};
-ghost use Rattle.rmt_io.specs.Outside.{ShelfState, GainedNone, OnlyPrinted};
+ghost use Rattle.rmt_core.specs.Parts.{OnlyPrinted, ReadsAndPrints, Tells, outside};
+ghost use Rattle.rmt_io.specs.Outside.{ShelfState, GainedNone};
 ghost use Rattle.rmt_core.specs.Commands.{IsPossible, Verify};
-ghost use Rattle.rmt_drive.specs.Ends.{ReadsAndPrints, outside};
 ghost use Rattle.rmt_drive.specs.Files.{entries_limit, program_limit};
-ghost use Rattle.rmt_drive.specs.Telling.{Tells};
 ghost use Rattle.rmt_core.specs.Verifying.{ChecksTexts, GivesVerify, answer_line, bad_map_line};
 
 use crate::bad_image::tell_bad_image;

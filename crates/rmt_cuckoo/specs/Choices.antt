@@ -4,7 +4,7 @@ use Rattle.std.specs.List.{flat_map, range_with_len}
 use Rattle.rmt_cuckoo.specs.declared.layout.Ways.{Ways}
 use Rattle.rmt_cuckoo.specs.declared.way.Way.{Way}
 use Rattle.rmt_cuckoo.specs.declared.choices.Choices.{Choices}
-use Rattle.rmt_cuckoo.specs.Loading.{ways_of, row_start}
+use Rattle.rmt_cuckoo.specs.Loading.{cells_of, ways_of, row_start}
 
 -- the cells of a key's rows in these ways
 abbrev pub rows_in : ℕ → List Way → List ℕ → List ℕ
@@ -20,6 +20,7 @@ IsWay cells way = (1 ≤ way.rows) × (way.first + way.rows * way.per ≤ cells)
 
 -- the choices of these keys
 pub record AreChoices (layout : List Ways) (seed : ℕ) (keys : List (List ℕ)) (c : Choices) : Type 0 where
+  pub cells : c.cells ≡ cells_of layout
   pub ways : c.ways.items ≡ ways_of layout
   pub own_keys : c.keys.now ≡ keys
   pub own_seed : c.seed ≡ seed

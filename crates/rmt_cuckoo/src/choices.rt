@@ -8,13 +8,15 @@ ghost use Rattle.rmt_cuckoo.specs.Choices.{AreChoices, IsWay, choices_at, rows_i
 ghost use Rattle.rmt_cuckoo.specs.Search.{AreTaken};
 
 use crate::layout::{Key, Keys, Layout};
-use crate::way::{Way, way_list};
+use crate::way::{Way, WayList, way_list};
 use rmt_bits::hash::hash_row;
 use std::alloc::{AllocError, Global};
 
 /// The ways of a table, and the keys that may stand in their rows under a seed.
 #[derive(Drop)]
 pub struct Choices<'a> {
+    /// How many cells the ways have together.
+    pub cells: u32,
     ways: Vec<Way>,
     keys: &'a [Key],
     seed: u8,
@@ -116,8 +118,9 @@ impl<'a> Choices<'a> {
         requires cells { cells_of layout.now < 2 ^ 32 }
         ensures { IfOk result (λ choices. AreChoices layout.now seed keys.now choices) }
     {
-        let ways = way_list(alloc, layout.as_slice())?;
+        let WayList { ways, cells } = way_list(alloc, layout.as_slice())?;
         Ok(Choices {
+            cells,
             ways,
             keys: keys.as_slice(),
             seed,

@@ -7,26 +7,13 @@ ghost use Rattle.rmt_cuckoo.specs.Told.{Explains};
 
 use crate::choices::Choices;
 use crate::fault::LoadFault;
-use crate::layout::{Keys, Layout, Ways};
+use crate::layout::{Keys, Layout};
 use crate::loading::Loading;
 use crate::overfull::members;
 use crate::search::Search;
-use crate::way::part_cells;
 use rmt_bits::answer::Numbers;
 use rmt_bits::sequence::Sequence;
 use std::alloc::Global;
-
-/// How many cells a table has.
-fn cell_count(layout: &[Ways]) -> u32
-    requires { cells_of layout.now < 2 ^ 32 }
-    ensures { result ≡ cells_of layout.now }
-{
-    let mut cells = 0;
-    for part in layout {
-        cells += part_cells(*part);
-    }
-    cells
-}
 
 /// A cell for each key: one of those in which the key may stand under this seed, and no two keys in one.
 ///
@@ -50,7 +37,7 @@ pub fn load(alloc: Global, layout: &Layout, keys: &Keys, seed: u8) -> Result<Num
     ensures exact { result ≢ Err LoadFault.NoMemory → IsOk result ↔ ((cells : List ℕ) × IsLoading layout.now seed keys.now cells) }
 {
     let choices = Choices::new(alloc, layout, keys, seed)?;
-    let count = cell_count(layout.as_slice()) as usize;
+    let count = choices.cells as usize;
     let mut loading = Loading::new(alloc, count)?;
     let mut search = Search::new(alloc, count)?;
     for _ in 0..keys.len() {

@@ -24,7 +24,7 @@ fn way_cells(part: Ways) -> u32
 }
 
 /// How many cells a part has.
-pub fn part_cells(part: Ways) -> u32
+fn part_cells(part: Ways) -> u32
     requires { cells_in part < 2 ^ 32 }
     ensures { result ≡ cells_in part }
 {
@@ -60,17 +60,25 @@ fn push_ways(ways: &mut Vec<Way>, number: u8, first: u32, part: Ways) -> Result<
     ])
 }
 
-/// The ways of a table, in their order.
-pub fn way_list(alloc: Global, layout: &[Ways]) -> Result<Vec<Way>, AllocError>
+/// The ways of a table, in their order, and how many cells they have together.
+#[derive(Drop)]
+pub struct WayList {
+    pub ways: Vec<Way>,
+    pub cells: u32,
+}
+
+/// The ways of a table and their cells.
+pub fn way_list(alloc: Global, layout: &[Ways]) -> Result<WayList, AllocError>
     requires parts { length layout.now ≤ 64 }
     requires cells { cells_of layout.now < 2 ^ 32 }
-    ensures { IfOk result (λ ways. ways.items ≡ ways_of layout.now) }
+    ensures ways { IfOk result (λ list. list.ways.items ≡ ways_of layout.now) }
+    ensures cells { IfOk result (λ list. list.cells ≡ cells_of layout.now) }
 {
     let mut ways = Vec::new(alloc);
-    let mut first = 0;
+    let mut cells = 0;
     for (at, part) in layout.iter().enumerate() {
-        push_ways(&mut ways, 4 * at as u8, first, *part)?;
-        first += part_cells(*part);
+        push_ways(&mut ways, 4 * at as u8, cells, *part)?;
+        cells += part_cells(*part);
     }
-    Ok(ways)
+    Ok(WayList { ways, cells })
 }

@@ -1,19 +1,18 @@
 -- The answers of a run do not wait for later inputs.
-use Rattle.std.proofs.Common.{◌≡◌, ⊎_elim, ℕ, ◌+◌, ◌-◌, ◌<◌, ◌≤◌, cond, ltb, List, [], ◌∷◌, ◌++◌, length, Option, Some, None, sym, refl, ap, ◌∙◌, arith, length-append}
+use Rattle.std.proofs.Common.{◌≡◌, ⊎_elim, ℕ, ◌+◌, ◌-◌, ◌<◌, ◌≤◌, cond, ltb, List, [], ◌∷◌, ◌++◌, length, Option, None, sym, refl, ap, ◌∙◌, arith, length-append}
 use Rattle.std.specs.Prelude.{filter_map, fold, option_and_then, option_map, slice_get}
 use Rattle.std.specs.Option.{option_to_list}
-use Rattle.std.specs.List.{range_with_len, cons_option}
+use Rattle.std.specs.List.{range_with_len}
 use Rattle.std.proofs.lemmas.Bool.{cases_lt, lt-ltb}
 use Rattle.std.proofs.lemmas.List.{take-append-le}
-use Rattle.std.proofs.lemmas.List.Elements.{filter_map-append}
-use Rattle.rmt_bits.proofs.ListLaws.{range_more, slice_get-front}
+use Rattle.rmt_bits.proofs.ListLaws.{slice_get-front}
 use Rattle.rmt_config.specs.declared.config.Config.{Config}
-use Rattle.rmt_config.specs.ChipRun.{Outcome, latency_of, outcome_of}
+use Rattle.rmt_config.specs.ChipRun.{latency_of, outcome_of}
 use Rattle.rmt_config.specs.Life.{Look}
 use Rattle.rmt_config.specs.RunCells.{look_in, own_cells}
 use Rattle.rmt_config.specs.RunInputs.{Input, after_input, answer_in, cells_at, look_from, outcome_from_cycle, packet_of, start_of}
 use Rattle.rmt_refine.specs.EventRuns.{outcomes_in}
-use Rattle.rmt_drive.proofs.EmitLaws.{same_answers}
+use Rattle.rmt_drive.proofs.EmitLaws.{one_answer_more}
 
 module _ (c : Config) (starts : (k : ℕ) → start_of c k ≤ latency_of c.stages) (inputs more : List Input) where
   cells_before : (n : ℕ) → n ≤ length inputs → cells_at c (inputs ++ more) n ≡ cells_at c inputs n
@@ -40,17 +39,5 @@ module _ (c : Config) (starts : (k : ℕ) → start_of c k ≤ latency_of c.stag
 pub given_more : (c : Config) → ((k : ℕ) → start_of c k ≤ latency_of c.stages) → (inputs : List Input) (x : Input)
     → outcomes_in c (inputs ++ x ∷ []) ≡ outcomes_in c inputs ++ option_to_list (answer_in c (inputs ++ x ∷ []) (length inputs))
 given_more c starts inputs x =
-    let n = length inputs in
-    let whole = inputs ++ x ∷ [] in
-    let long : length whole ≡ n + 1 = length-append inputs (x ∷ []) in
-    let last : 0 + n ≡ n = omega arith in
-    ap (λ m. filter_map (answer_in c whole) (range_with_len 0 m)) long
-    ∙ ap (filter_map (answer_in c whole)) (range_more 0 n)
-    ∙ filter_map-append (answer_in c whole) (range_with_len 0 n) ((0 + n) ∷ [])
-    ∙ ap (λ l. l ++ filter_map (answer_in c whole) ((0 + n) ∷ [])) (same_answers (answer_in c whole) (answer_in c inputs) 0 n (λ k h. answer_before c starts inputs (x ∷ []) (0 + k) (omega (arith, h))))
-    ∙ ap (λ m. outcomes_in c inputs ++ filter_map (answer_in c whole) (m ∷ [])) last
-    ∙ ap (λ l. outcomes_in c inputs ++ l) (one (answer_in c whole n))
-  where
-    one : (o : Option Outcome) → cons_option o [] ≡ option_to_list o
-    one None = refl
-    one (Some y) = refl
+    let f = answer_in c (inputs ++ x ∷ []) in
+    ap (λ m. filter_map f (range_with_len 0 m)) (length-append inputs (x ∷ [])) ∙ one_answer_more f (answer_in c inputs) (length inputs) (answer_before c starts inputs (x ∷ []))

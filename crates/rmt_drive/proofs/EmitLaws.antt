@@ -20,6 +20,20 @@ same_answers f g a (suc n) e =
     let later : (k : ℕ) → k < n → f (a + 1 + k) ≡ g (a + 1 + k) = λ k h. subst (λ m. f m ≡ g m) (omega arith) (e (suc k) (omega arith)) in
     ap (λ o. cons_option o (filter_map f (range_with_len (a + 1) n))) first ∙ ap (λ l. cons_option (g a) l) (same_answers f g (a + 1) n later)
 
+one_answer : {Y : Type 0} (o : Option Y) → cons_option o [] ≡ option_to_list o
+one_answer None = refl
+one_answer (Some y) = refl
+
+-- one more answer, where those before it are the same
+pub one_answer_more : {Y : Type 0} (f g : ℕ → Option Y) (n : ℕ) → ((k : ℕ) → k < n → f k ≡ g k) → filter_map f (range_with_len 0 (n + 1)) ≡ filter_map g (range_with_len 0 n) ++ option_to_list (f n)
+one_answer_more f g n same =
+    let last : 0 + n ≡ n = omega arith in
+    ap (filter_map f) (range_more 0 n)
+    ∙ filter_map-append f (range_with_len 0 n) ((0 + n) ∷ [])
+    ∙ ap (λ l. l ++ filter_map f ((0 + n) ∷ [])) (same_answers f g 0 n (λ k h. same (0 + k) (omega (arith, h))))
+    ∙ ap (λ m. filter_map g (range_with_len 0 n) ++ filter_map f (m ∷ [])) last
+    ∙ ap (λ l. filter_map g (range_with_len 0 n) ++ l) (one_answer (f n))
+
 -- what leaves in a cycle does not wait for later inputs
 answer_before : (c : Config) (inputs : List (Option Packet)) (x : Option Packet) (k : ℕ) → k < length inputs → answer_at c (inputs ++ x ∷ []) k ≡ answer_at c inputs k
 answer_before c inputs x k h =
@@ -29,20 +43,8 @@ answer_before c inputs x k h =
 -- one more cycle
 pub emitted-more : (c : Config) (inputs : List (Option Packet)) (x : Option Packet) → emitted c (inputs ++ x ∷ []) ≡ emitted c inputs ++ option_to_list (answer_at c (inputs ++ x ∷ []) (length inputs))
 emitted-more c inputs x =
-    let n = length inputs in
-    let whole = inputs ++ x ∷ [] in
-    let long : length whole ≡ n + 1 = length-append inputs (x ∷ []) in
-    let last : 0 + n ≡ n = omega arith in
-    ap (λ m. filter_map (answer_at c whole) (range_with_len 0 m)) long
-    ∙ ap (filter_map (answer_at c whole)) (range_more 0 n)
-    ∙ filter_map-append (answer_at c whole) (range_with_len 0 n) ((0 + n) ∷ [])
-    ∙ ap (λ l. l ++ filter_map (answer_at c whole) ((0 + n) ∷ [])) (same_answers (answer_at c whole) (answer_at c inputs) 0 n (λ k h. answer_before c inputs x (0 + k) (omega (arith, h))))
-    ∙ ap (λ m. emitted c inputs ++ filter_map (answer_at c whole) (m ∷ [])) last
-    ∙ ap (λ l. emitted c inputs ++ l) (one (answer_at c whole n))
-  where
-    one : (o : Option Outcome) → cons_option o [] ≡ option_to_list o
-    one None = refl
-    one (Some y) = refl
+    let f = answer_at c (inputs ++ x ∷ []) in
+    ap (λ m. filter_map f (range_with_len 0 m)) (length-append inputs (x ∷ [])) ∙ one_answer_more f (answer_at c inputs) (length inputs) (answer_before c inputs x)
 
 -- the lines of more answers stand behind those of the first
 pub answer_lines-append : (n : ℕ) (xs ys : List Outcome) → answer_lines n (xs ++ ys) ≡ answer_lines n xs ++ answer_lines (n + length xs) ys

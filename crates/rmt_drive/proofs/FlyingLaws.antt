@@ -122,6 +122,16 @@ module _ (inputs : List Input) (x : Input) where
     packet_old : (t : ℕ) (p : Packet) → packet_in (inputs ++ x ∷ []) t ≡ Some p → packet_in inputs t ≡ Some p
     packet_old t p e = elim (packet_was t p e) [ inl old ↦ old | inr new ↦ absurd (none-some p (sym none ∙ new.1)) ]
 
+-- a packet of an older version is one still, where no version is made
+older_stays : (inputs : List Input) (x : Input) → versions_in (inputs ++ x ∷ []) ≡ versions_in inputs → (Never : Type 0) (At : ℕ → Type 0)
+    → Never ⊎ ((t : ℕ) × (p : Packet) × (packet_in inputs t ≡ Some p) × (versions_in (take t inputs) < versions_in inputs) × At t)
+    → Never ⊎ ((t : ℕ) × (p : Packet) × (packet_in (inputs ++ x ∷ []) t ≡ Some p) × (versions_in (take t (inputs ++ x ∷ [])) < versions_in (inputs ++ x ∷ [])) × At t)
+older_stays inputs x same Never At (inl z) = inl z
+older_stays inputs x same Never At (inr y) =
+    let lt = y.3 in
+    let less : versions_in (take y.0 inputs) < versions_in (inputs ++ x ∷ []) = omega (arith, lt, same) in
+    inr (y.0, y.1, packet_stays inputs x y.0 y.1 y.2, subst (λ (xs : List Input). versions_in xs < versions_in (inputs ++ x ∷ [])) (sym (before_stays inputs x y.0 y.1 y.2)) less, y.4)
+
 -- nothing enters, and no version is made
 at_quiet : (c : Config) (inputs : List Input) (x : Input) (older all : ℕ) → packet_of x ≡ None → versions_in (x ∷ []) ≡ 0 → IsAt c inputs older all → IsAt c (inputs ++ x ∷ []) older all
 at_quiet c inputs x older all none still at =
@@ -134,13 +144,7 @@ at_quiet c inputs x older all none still at =
           let old = packet_old inputs x none t p e in
           let less : versions_in (take t inputs) < versions_in (inputs ++ x ∷ []) = subst (λ (xs : List Input). versions_in xs < versions_in (inputs ++ x ∷ [])) (before_stays inputs x t p old) lt in
           at.older_gone t p old (omega (arith, less, same));
-      older_last = elim at.older_last [
-        | inl z ↦ inl z
-        | inr y ↦
-            let lt = y.3 in
-            let less : versions_in (take y.0 inputs) < versions_in (inputs ++ x ∷ []) = omega (arith, lt, same) in
-            inr (y.0, y.1, packet_stays inputs x y.0 y.1 y.2, subst (λ (xs : List Input). versions_in xs < versions_in (inputs ++ x ∷ [])) (sym (before_stays inputs x y.0 y.1 y.2)) less, y.4)
-      ];
+      older_last = older_stays inputs x same (older ≡ 0) (λ t. older ≡ t + latency_of c.stages + 1) at.older_last;
     }
 
 -- a packet enters
@@ -163,13 +167,7 @@ at_enters c inputs packet older all at =
             let less : versions_in inputs < versions_in (inputs ++ x ∷ []) = subst (λ (xs : List Input). versions_in xs < versions_in (inputs ++ x ∷ [])) front lt in
             absurd (omega (arith, less, same))
       ];
-      older_last = elim at.older_last [
-        | inl z ↦ inl z
-        | inr y ↦
-            let lt = y.3 in
-            let less : versions_in (take y.0 inputs) < versions_in (inputs ++ x ∷ []) = omega (arith, lt, same) in
-            inr (y.0, y.1, packet_stays inputs x y.0 y.1 y.2, subst (λ (xs : List Input). versions_in xs < versions_in (inputs ++ x ∷ [])) (sym (before_stays inputs x y.0 y.1 y.2)) less, y.4)
-      ];
+      older_last = older_stays inputs x same (older ≡ 0) (λ t. older ≡ t + latency_of c.stages + 1) at.older_last;
     }
 
 -- a version is made, and all packets are of older ones

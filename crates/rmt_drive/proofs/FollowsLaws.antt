@@ -30,9 +30,14 @@ use Rattle.rmt_runs.specs.Cuts.{Cut}
 use Rattle.rmt_drive.specs.Running.{AreCommitsAt, Follows, HasCome, IsFew, IsPlannedAt, LeftOff, Stopped, ahead, amid, behind, with_text}
 use Rattle.rmt_drive.specs.ChipCycles.{Goes}
 use Rattle.rmt_drive.proofs.ChipReadLaws.{chip_line}
-use Rattle.rmt_drive.proofs.FlyingLaws.{no_versions, none_written, version_is, versions-append, versions_in}
-use Rattle.rmt_drive.proofs.WaitLaws.{no_packets, none_in_writes, packets-append}
+use Rattle.rmt_drive.proofs.FlyingLaws.{version_is, versions-append, versions_in}
+use Rattle.rmt_drive.proofs.WaitLaws.{commit_whole, packets-append, packets_waited, versions_waited}
 use Rattle.rmt_runs.proofs.WaitingLaws.{written_front}
+
+-- a run, with what changes its entries as it was found
+pub follows_with : {w : Watch} {c : Config} {said : EventReading} {run : Run} {chip : Chip} {found commits : Option Commits} {before now : SinkState} → found ≡ commits
+    → Follows w c said run chip found before now → Follows w c said run chip commits before now
+follows_with {w} {c} {said} {run} {chip} {found} {commits} {before} {now} is f = subst (λ (o : Option Commits). Follows w c said run chip o before now) is f
 
 -- ---- what a line of a kind does
 
@@ -204,28 +209,21 @@ module _ (w : Watch) (c : Config) (made : List Input) (old run : Run) (first chi
         cycles = omega (arith, one, few.cycles);
       }
 
-  -- the packets and versions of a commit's cycles
+  -- the packets and versions of a commit's cycles: those of its turn
+  commit_counts : (count : List Input → ℕ) → ((xs ys : List Input) → count (xs ++ ys) ≡ count xs + count ys) → (r : RunState) (moved : Bool) (seed : ℕ) (writes : List CellWrite)
+      → count ((made ++ replicate (waits r moved) Idle) ++ map Writes writes) ≡ count made → count (made ++ commit_cycles r moved seed writes) ≡ count made + count (Turning seed ∷ [])
+  commit_counts count append r moved seed writes waited =
+      omega (arith, ap count (commit_whole made r moved seed writes), append ((made ++ replicate (waits r moved) Idle) ++ map Writes writes) (Turning seed ∷ []), waited)
+
   commit_packets : (r : RunState) (moved : Bool) (seed : ℕ) (writes : List CellWrite) → packets_of (made ++ commit_cycles r moved seed writes) ≡ packets_of made
   commit_packets r moved seed writes =
-      let n = waits r moved in
-      let a = packets-append made (commit_cycles r moved seed writes) in
-      let b = packets-append (replicate n Idle) (map Writes writes ++ Turning seed ∷ []) in
-      let d = packets-append (map Writes writes) (Turning seed ∷ []) in
-      let i = no_packets n in
-      let ws = none_in_writes writes in
       let t : packets_of (Turning seed ∷ []) ≡ 0 = refl in
-      omega (arith, a, b, d, i, ws, t)
+      omega (arith, commit_counts packets_of packets-append r moved seed writes (packets_waited made (waits r moved) writes), t)
 
   commit_versions : (r : RunState) (moved : Bool) (seed : ℕ) (writes : List CellWrite) → versions_in (made ++ commit_cycles r moved seed writes) ≡ versions_in made + 1
   commit_versions r moved seed writes =
-      let n = waits r moved in
-      let a = versions-append made (commit_cycles r moved seed writes) in
-      let b = versions-append (replicate n Idle) (map Writes writes ++ Turning seed ∷ []) in
-      let d = versions-append (map Writes writes) (Turning seed ∷ []) in
-      let i = no_versions n in
-      let ws = none_written writes in
       let t : versions_in (Turning seed ∷ []) ≡ 1 = refl in
-      omega (arith, a, b, d, i, ws, t)
+      omega (arith, commit_counts versions_in versions-append r moved seed writes (versions_waited made (waits r moved) writes), t)
 
   pub few_commit : (r : RunState) (moved : Bool) (seed : ℕ) (writes : List CellWrite) → Goes w c (made ++ commit_cycles r moved seed writes) run chip before later → run.cycles ≤ old.cycles + 8589934592
       → (lines : ℕ) → IsFew lines old first → IsFew (lines + 1) run chip

@@ -1,12 +1,14 @@
 -- A run of the chip, one cycle later.
-use Rattle.std.proofs.Common.{◌≡◌, ◌≢◌, ℕ, ◌+◌, ◌-◌, ◌<◌, ◌≤◌, true, false, cond, eqb, List, [], ◌∷◌, ◌++◌, length, max, Option, Some, None, sym, refl, ap, ◌∙◌, subst, arith, append-nil, length-append}
+use Rattle.std.proofs.Common.{◌≡◌, ◌≢◌, ℕ, ◌+◌, ◌-◌, ◌<◌, ◌≤◌, Bool, true, false, cond, eqb, List, [], ◌∷◌, ◌++◌, length, max, Option, Some, None, sym, refl, ap, ◌∙◌, subst, arith, append-nil, length-append}
 use Rattle.std.specs.Prelude.{is_some}
 use Rattle.std.specs.Option.{option_to_list}
 use Rattle.std.proofs.lemmas.Bool.{le-ltb}
 use Rattle.std.proofs.lemmas.List.Sums.{sum_by_push}
 use Rattle.rmt_bits.specs.declared.answer.Verdict.{Verdict}
 use Rattle.rmt_io.specs.Outside.{SinkState}
+use Rattle.rmt_ast.specs.Events.{Event}
 use Rattle.rmt_config.specs.declared.config.Config.{Config}
+use Rattle.rmt_config.specs.Commits.{RunState}
 use Rattle.rmt_config.specs.ChipRun.{Outcome, latency_of}
 use Rattle.rmt_config.specs.RunInputs.{Idle, Input, answer_in, flight_in}
 use Rattle.rmt_chip.specs.declared.chip.Chip.{Chip}
@@ -19,13 +21,14 @@ use Rattle.rmt_drive.specs.declared.running.state.Run.{Run}
 use Rattle.rmt_drive.specs.declared.watch.Watch.{Watch}
 use Rattle.rmt_drive.specs.declared.watch.Watch.TheVariants as watch
 use Rattle.rmt_drive.specs.ChipText.{flying_below, lines_of}
-use Rattle.rmt_drive.specs.ChipCycles.{Goes, line_if}
+use Rattle.rmt_drive.specs.ChipCycles.{Came, Goes, line_if}
 use Rattle.rmt_drive.specs.SimText.{answer_lines}
 use Rattle.rmt_runs.specs.Waiting.{Written}
 use Rattle.rmt_drive.proofs.AnswerLaws.{given_more}
 use Rattle.rmt_drive.proofs.ChipTextLaws.{added, lines_more, starts}
 use Rattle.rmt_drive.proofs.FlightLaws.{enters, flight_more, left_few}
 use Rattle.rmt_runs.proofs.WaitingLaws.{written_more, written_none, written_on}
+use mir.Val.{bool_byte}
 
 line_left : (n : ℕ) (o : Option Outcome) (left : Option Verdict) (bytes : List ℕ) → AnswersIf o left bytes → line_if n left bytes ≡ answer_lines n (option_to_list o)
 line_left n None None bytes h = refl
@@ -48,17 +51,22 @@ pub record Clocked (c : Config) (made : List Input) (x : Input) (old new : Run) 
   pub answered : new.answered ≡ old.answered + cond (is_some left) 1 0
   pub flies : new.flight ≡ max old.flight (entered_of chip - old.answered)
 
-pub clocked_so : (c : Config) (made : List Input) (x : Input) (old new : Run) (chip : Chip) (left : Option Verdict) (bytes : List ℕ) (n m : ℕ)
+byte_of : (b : Bool) → bool_byte b ≡ cond b 1 0
+byte_of true = refl
+byte_of false = refl
+
+-- by the numbers that a run counts in a cycle
+pub clocked_so : (c : Config) (made : List Input) (x : Input) (old new : Run) (chip : Chip) (left : Option Verdict) (bytes : List ℕ) (some : Bool) (n entered behind m : ℕ)
     → Stands c (made ++ x ∷ []) chip → AnswersIf (answer_in c (made ++ x ∷ []) (length made)) left bytes
-    → new.watch ≡ old.watch → new.cycles ≡ old.cycles + 1 → new.answered ≡ old.answered + n → n ≡ cond (is_some left) 1 0
-    → new.flight ≡ m → m ≡ max old.flight (entered_of chip - old.answered) → Clocked c made x old new chip left bytes
-clocked_so c made x old new chip left bytes n m stands answers watches cycles answered one flight most = record {
+    → new.watch ≡ old.watch → new.cycles ≡ old.cycles + 1 → new.answered ≡ old.answered + n → new.flight ≡ m
+    → some ≡ is_some left → n ≡ bool_byte some → entered ≡ entered_of chip → behind ≡ entered - old.answered → m ≡ max old.flight behind → Clocked c made x old new chip left bytes
+clocked_so c made x old new chip left bytes some n entered behind m stands answers watches cycles answered flight is one all less most = record {
   stands = stands;
   answers = answers;
   watches = watches;
   cycles = cycles;
-  answered = answered ∙ ap (λ k. old.answered + k) one;
-  flies = flight ∙ most;
+  answered = answered ∙ ap (λ k. old.answered + k) (one ∙ ap bool_byte is ∙ byte_of (is_some left));
+  flies = flight ∙ most ∙ ap (max old.flight) (less ∙ ap (λ k. k - old.answered) all);
 }
 
 -- one cycle, with the lines that it adds
@@ -171,3 +179,7 @@ goes_chip g new stands = record {
   flies = g.flies;
   written = g.written;
 }
+
+pub came_chip : {w : Watch} {c : Config} {events : List Event} {made : List Input} {r : RunState} {run : Run} {old : Chip} {before now : SinkState} → Came w c events made r run old before now → (new : Chip)
+    → Stands c made new → Came w c events made r run new before now
+came_chip h new stands = record { comes = h.comes; goes = goes_chip h.goes new stands }

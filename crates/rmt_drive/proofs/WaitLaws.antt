@@ -13,10 +13,10 @@ use Rattle.rmt_config.specs.Commits.{RunState, waits}
 use Rattle.rmt_config.specs.RunInputs.{Idle, Input, Turns, Writes}
 use Rattle.rmt_chip.specs.declared.chip.Chip.{Chip}
 use Rattle.rmt_chip.specs.Inputs.{packets_of}
-use Rattle.rmt_chip.specs.Stands.{Stands, oldest_in_flight, version_of}
+use Rattle.rmt_chip.specs.Stands.{Stands, entered_of, oldest_in_flight, version_of}
 use Rattle.rmt_drive.specs.ChipEvents.{Comes, commit_cycles, is_waiting, lists_in, names_in}
 use Rattle.rmt_drive.proofs.FlightLaws.{enters}
-use Rattle.rmt_drive.proofs.FlyingLaws.{all_within, at_idles, is_there, no_versions, none_written, versions-append, versions_in, waiting_is}
+use Rattle.rmt_drive.proofs.FlyingLaws.{all_within, at_idles, is_there, no_versions, none_written, version_is, versions-append, versions_in, waiting_is}
 
 -- ---- inputs one behind another
 
@@ -118,19 +118,26 @@ write_more made xs n w at =
     append_assoc made (map Writes (take n xs)) (Writes w ∷ [])
     ∙ ap (λ (l : List Input). made ++ l) (sym (map-append Writes (take n xs) (w ∷ [])) ∙ ap (map Writes) (sym (take-slice_get xs n w at)))
 
--- no packet enters, and no version is made, until it turns
+-- nothing is counted until it turns, where empty cycles and changed cells count for nothing
+counts_waited : (count : List Input → ℕ) → ((xs ys : List Input) → count (xs ++ ys) ≡ count xs + count ys) → (made idles cells : List Input) → count idles ≡ 0 → count cells ≡ 0
+    → count ((made ++ idles) ++ cells) ≡ count made
+counts_waited count append made idles cells none unwritten = omega (arith, append (made ++ idles) cells, append made idles, none, unwritten)
+
 pub packets_waited : (made : List Input) (n : ℕ) (ws : List CellWrite) → packets_of ((made ++ replicate n Idle) ++ map Writes ws) ≡ packets_of made
-packets_waited made n ws =
-    let a = packets-append (made ++ replicate n Idle) (map Writes ws) in
-    let b = packets-append made (replicate n Idle) in
-    let i = no_packets n in
-    let w = none_in_writes ws in
-    omega (arith, a, b, i, w)
+packets_waited made n ws = counts_waited packets_of packets-append made (replicate n Idle) (map Writes ws) (no_packets n) (none_in_writes ws)
 
 pub versions_waited : (made : List Input) (n : ℕ) (ws : List CellWrite) → versions_in ((made ++ replicate n Idle) ++ map Writes ws) ≡ versions_in made
-versions_waited made n ws =
-    let a = versions-append (made ++ replicate n Idle) (map Writes ws) in
-    let b = versions-append made (replicate n Idle) in
-    let i = no_versions n in
-    let w = none_written ws in
-    omega (arith, a, b, i, w)
+versions_waited made n ws = counts_waited versions_in versions-append made (replicate n Idle) (map Writes ws) (no_versions n) (none_written ws)
+
+-- what a chip counts stays the same in empty cycles, and where cells are changed behind them
+pub entered_still : (c : Config) (made : List Input) (n : ℕ) (first chip : Chip) → Stands c made first → Stands c (made ++ replicate n Idle) chip → entered_of chip ≡ entered_of first
+entered_still c made n first chip was is =
+    let same : packets_of (made ++ replicate n Idle) ≡ packets_of made = omega (arith, packets-append made (replicate n Idle), no_packets n) in
+    is.entered_is ∙ same ∙ sym was.entered_is
+
+pub counts_still : (c : Config) (made : List Input) (n : ℕ) (ws : List CellWrite) (first chip : Chip) → Stands c made first → Stands c ((made ++ replicate n Idle) ++ map Writes ws) chip
+    → (entered_of chip ≡ entered_of first) × (version_of chip ≡ version_of first)
+counts_still c made n ws first chip was is = (
+  is.entered_is ∙ packets_waited made n ws ∙ sym was.entered_is,
+  is.version_is ∙ version_is c ((made ++ replicate n Idle) ++ map Writes ws) ∙ versions_waited made n ws ∙ sym (was.version_is ∙ version_is c made),
+)

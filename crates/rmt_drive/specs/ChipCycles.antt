@@ -18,6 +18,8 @@ use Rattle.rmt_drive.specs.declared.running.turn.Cycle.TheVariants as cycle
 use Rattle.rmt_drive.specs.declared.watch.Watch.{Watch}
 use Rattle.rmt_drive.specs.ChipEvents.{Comes, lists_in, names_in}
 use Rattle.rmt_drive.specs.ChipText.{lines_of}
+use Rattle.rmt_runs.specs.declared.fault.RunFault.{RunFault}
+use Rattle.rmt_runs.specs.Cuts.{Cut}
 use Rattle.rmt_runs.specs.Waiting.{Written}
 
 -- a run with its chip stands for the inputs so far: of the lines of their cycles some were written, and the rest waits
@@ -59,3 +61,18 @@ line_if n (Some verdict) bytes = answer_line n (record { verdict = verdict; byte
 pub record Came (watch : Watch) (c : Config) (events : List Event) (made : List Input) (r : RunState) (run : Run) (chip : Chip) (before now : SinkState) : Type 0 where
   pub comes : Comes c (names_in c) (lists_in c) events made r
   pub goes : Goes watch c made run chip before now
+
+-- what holds for each that a run with its chip stands for
+abbrev pub EachCame : Run → Chip → SinkState → (Watch → Config → List Input → RunState → SinkState → Type 0) → Type 0
+EachCame run chip now P =
+    (w : Watch) (c : Config) (events : List Event) (made : List Input) (r : RunState) (before : SinkState) → Came w c events made r run chip before now → P w c made r before
+
+-- a run that has come so far, and has room for the cycles in which a commit waits
+pub record MayWait (run : Run) (chip : Chip) (now : SinkState) : Type 0 where
+  pub came : (w : Watch) × (c : Config) × (events : List Event) × (made : List Input) × (r : RunState) × (before : SinkState) × Came w c events made r run chip before now
+  pub entered : entered_of chip < 2 ^ 63
+  pub cycles : run.cycles < 2 ^ 126
+
+-- a run broke off in these cycles: a front of their lines was printed
+abbrev pub CutOff : Watch → Config → List Input → SinkState → SinkState → RunFault → Type 0
+CutOff watch c made before now f = Cut (lines_of watch c made) before now f

@@ -95,6 +95,14 @@ Answered before after gives BadPackets = EndsWith before after gives BadPackets
 Answered before after gives TooLong = EndsWith before after gives TooLong
 Answered before after gives NoMemory = Stops before after gives NoMemory
 
+-- What befalls outside in a run that reads and prints: a fault comes only where a count rose, none of reading over a steady shelf; and all else outside stays.
+pub record Befalls (before after : Outside) (status : Status) : Type 0 where
+  pub read_fault : status ≡ ReadFault → ReadingFailed before.shelf after.shelf
+  pub never_fails : status ≡ ReadFault → IsTrue before.shelf.steady → ⊥
+  pub write_fault : status ≡ WriteFault → PrintingFailed before.sink after.sink
+  pub only_read : OnlyRead before.shelf after.shelf
+  pub only_printed : OnlyPrinted before.sink after.sink
+
 -- A call of a command that writes no file: over a shelf that tells its files it ends as the command gives it; a fault of the outside comes only where a count
 -- rose; and all else outside stays.
 pub record ReadsAndPrints (before after : Outside) (gives : Files → Given → Type 0) (status : Status) : Type 0 where

@@ -20,3 +20,4 @@ pub mod CommitsOf
 pub mod Running
 pub mod PlainText
 pub mod PlainRunning
+pub mod Parts

@@ -76,6 +76,10 @@ pub record Follows (watch : Watch) (c : Config) (said : EventReading) (run : Run
   pub come : HasCome c said made state commits
   pub goes : Goes watch c made run chip before now
 
+-- a run with its chip stands for something that was read
+abbrev pub IsRunning : Run → Chip → Option Commits → SinkState → Type 0
+IsRunning run chip commits now = (w : Watch) × (c : Config) × (said : EventReading) × (before : SinkState) × Follows w c said run chip commits before now
+
 -- a line more that no commit of the text refuses
 abbrev pub with_text : Config → ℕ → List ℕ → EventReading → EventReading
 with_text c number text said = with_chip_line (is_some c.names) None number text (kind_of text) said

@@ -5,8 +5,8 @@ ghost use Rattle.rmt_ast.specs.declared.program.Program.{Program};
 ghost use Rattle.rmt_ast.specs.declared.entry.Entry.{Entry};
 ghost use Rattle.rmt_ast.specs.Events.{Event};
 ghost use Rattle.rmt_plain.specs.Stands.{HasTaken};
-ghost use Rattle.rmt_io.specs.Outside.{SinkState, ReadingFailed, OnlyRead, Gained, PrintingFailed, OnlyPrinted};
-ghost use Rattle.rmt_drive.specs.Ends.{IsRunStatus, Answered, outside};
+ghost use Rattle.rmt_io.specs.Outside.{SinkState, Gained, PrintingFailed, OnlyPrinted};
+ghost use Rattle.rmt_drive.specs.Ends.{IsRunStatus, Answered, Befalls, outside};
 ghost use Rattle.rmt_drive.specs.EventText.{EventReading, unread, with_changes};
 ghost use Rattle.rmt_drive.specs.PlainRunning.{Goes, ended_at};
 ghost use Rattle.rmt_drive.specs.PlainText.{plain_end, plain_text};
@@ -99,13 +99,8 @@ pub fn run_plain<F: Shelf, O: Sink>(
         Answered before after
         (RunsBy (with_changes p lists) before.shelf.files (plain_text p lists) limit before.shelf.rest)
         result }
-    ensures read_fault { result ≡ Status.ReadFault →
-        ReadingFailed (F.state shelf.old) (F.state shelf.new) }
-    ensures never_fails { result ≡ Status.ReadFault → IsTrue (F.state shelf.old).steady → ⊥ }
-    ensures write_fault { result ≡ Status.WriteFault →
-        PrintingFailed (O.state out.old) (O.state out.new) }
-    ensures only_read { OnlyRead (F.state shelf.old) (F.state shelf.new) }
-    ensures only_printed { OnlyPrinted (O.state out.old) (O.state out.new) }
+    ensures befalls { Befalls (outside (F.state shelf.old) (O.state out.old))
+        (outside (F.state shelf.new) (O.state out.new)) result }
 {
     match take_all(alloc, shelf, limit, run, out) {
         Ok(bad) => finish(alloc, run, bad, out),

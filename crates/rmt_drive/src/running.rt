@@ -4,7 +4,7 @@ ghost use Rattle.std.specs.Prelude.{◌≡◌, ◌≤◌, [], IsTrue};
 ghost use Rattle.rmt_config.specs.declared.config.Config.{Config};
 ghost use Rattle.rmt_chip.specs.Stands.{Stands};
 ghost use Rattle.rmt_io.specs.Outside.{ReadingFailed, OnlyRead, PrintingFailed, OnlyPrinted};
-ghost use Rattle.rmt_drive.specs.Ends.{IsRunStatus, Answered, outside};
+ghost use Rattle.rmt_drive.specs.Ends.{IsRunStatus, Answered, Befalls, outside};
 ghost use Rattle.rmt_drive.specs.ChipRuns.{RanWhole, RunsChip};
 ghost use Rattle.rmt_drive.specs.CommitsOf.{AreCommitsOf};
 
@@ -92,13 +92,8 @@ pub fn run_watched<F: Shelf, O: Sink>(
         let before = outside (F.state shelf.old) (O.state out.old) in
         let after = outside (F.state shelf.new) (O.state out.new) in
         Answered before after (RunsChip watch before.shelf.files c limit before.shelf.rest) result }
-    ensures read_fault { result ≡ Status.ReadFault →
-        ReadingFailed (F.state shelf.old) (F.state shelf.new) }
-    ensures never_fails { result ≡ Status.ReadFault → IsTrue (F.state shelf.old).steady → ⊥ }
-    ensures write_fault { result ≡ Status.WriteFault →
-        PrintingFailed (O.state out.old) (O.state out.new) }
-    ensures only_read { OnlyRead (F.state shelf.old) (F.state shelf.new) }
-    ensures only_printed { OnlyPrinted (O.state out.old) (O.state out.new) }
+    ensures befalls { Befalls (outside (F.state shelf.old) (O.state out.old))
+        (outside (F.state shelf.new) (O.state out.new)) result }
 {
     let Ok(mut run) = start(alloc, watch) else {
         return Status::NoMemory;

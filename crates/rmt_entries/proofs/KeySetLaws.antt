@@ -140,6 +140,14 @@ home_room slots key some =
     let within : home slots key < length slots - near * apart = mod-lt _ places in
     omega (arith, within, some)
 
+-- the free place of a list is there
+pub free_home : (slots held key : List ℕ) (place : ℕ) → spot_of slots held near (home slots key) key ≡ Free place → near * apart < length slots
+    → (get_or slots place 0 ≡ 0) × (place < length slots)
+free_home slots held key place e some =
+    let free = free_place slots held near (home slots key) key place e in
+    let room = home_room slots key some in
+    (free.0, omega (arith, free.1, room))
+
 -- where a list belongs, as a call sees it
 pub spot_seen : (slots held key : List ℕ) (crowded : BTreeSet (Vec ℕ Global)) (set : KeySet) (seen : List ℕ) (spot : Spot) → (slots, (held, crowded)) ≡ set → seen ≡ key → spot ≡ spot_in set seen
     → spot_of slots held near (home slots key) key ≡ spot
@@ -364,6 +372,14 @@ module _ (slots held : List ℕ) (crowded : BTreeSet (Vec ℕ Global)) (s : Stan
             rw (same_home q.items) (there_kept slots held s.whole key.items place free within (contains by_numbers crowded q) near (home slots q.items) q.items (s.found q before))
       ];
     }
+
+  -- what is put there stands, where the end of the lists and the lists then are as a call has them
+  pub put_whole : (place begin : ℕ) (after : List ℕ) → own ≡ Free place → begin ≡ length held → after ≡ with_list held key.items
+      → Stands (slice_set slots place (begin + 1)) after crowded
+      × ((q : Vec ℕ Global) → holds (slice_set slots place (begin + 1)) after crowded q ≡ cond (bytes_eq key.items q.items) true (holds slots held crowded q))
+  put_whole place begin after e at more =
+      let free = free_home slots held key.items place e s.some in
+      rw (at, more) (put_stands place e free.0 free.1, put_holds place e free.0 free.1)
 
   -- ---- a list whose places are taken
   module _ (more : BTreeSet (Vec ℕ Global)) (up : Updates by_numbers crowded more key true) where

@@ -21,7 +21,7 @@ use Rattle.rmt_entries.specs.Entries.{Read, of_table, read_line, read_words}
 use Rattle.rmt_entries.specs.Fault.{Gives}
 use Rattle.rmt_entries.specs.Lines.{is_printable, words}
 use Rattle.rmt_entries.specs.LinesSoFar.{IsFault, IsReadable}
-use Rattle.rmt_entries.specs.NamedLines.{IsNamedEntry, action_word, alone, entry_read, key_of_table, key_words, named_entry, named_table, named_tables}
+use Rattle.rmt_entries.specs.NamedLines.{IsNamedEntry, action_word, alone, entry_read, key_of_table, key_words, named_entry, named_table, named_tables, table_in}
 use Rattle.rmt_entries.specs.Tables.{AppliedTable, table_named}
 use Rattle.rmt_entries.specs.Taken.{AreNarrow}
 use Rattle.rmt_entries.proofs.LawKeys.{HasParams, ReadOf}
@@ -69,7 +69,7 @@ formed_names names h =
     record { rising = (and_parts (nodes_rise names) (table_names_differ names) parts.0).0; each = All-from_test Formed table_is_formed formed_of names.tables parts.1 }
 
 -- the table of a name, as a line sees it
-pub found_table : (names : Names) (name : List ℕ) → table_named (named_tables names) name ≡ option_map named_table (find (λ (t : TableName). bytes_eq name t.name) names.tables)
+pub found_table : (names : Names) (name : List ℕ) → table_named (named_tables names) name ≡ option_map named_table (table_in names name)
 found_table names name = by names.tables
   where
     step : (b : Bool) (t : TableName) (x : Option AppliedTable) (y : Option TableName) → x ≡ option_map named_table y → cond b (Some (named_table t)) x ≡ option_map named_table (cond b (Some t) y)
@@ -80,13 +80,13 @@ found_table names name = by names.tables
     by [] = refl
     by (t ∷ ts) = step (bytes_eq name t.name) t (table_named (map named_table ts) name) (find (λ (x : TableName). bytes_eq name x.name) ts) (by ts)
 
-found_formed : (names : Names) (name : List ℕ) (t : TableName) → names_are_formed names ≡ true → find (λ (x : TableName). bytes_eq name x.name) names.tables ≡ Some t → Formed t
+found_formed : (names : Names) (name : List ℕ) (t : TableName) → names_are_formed names ≡ true → table_in names name ≡ Some t → Formed t
 found_formed names name t h at = All-find Formed (λ (x : TableName). bytes_eq name x.name) names.tables t (formed_names names h).each at
 
-pub found_narrow : (names : Names) (name : List ℕ) (t : TableName) → names_are_formed names ≡ true → find (λ (x : TableName). bytes_eq name x.name) names.tables ≡ Some t → AreNarrow t.keys
+pub found_narrow : (names : Names) (name : List ℕ) (t : TableName) → names_are_formed names ≡ true → table_in names name ≡ Some t → AreNarrow t.keys
 found_narrow names name t h at = narrow t.keys (found_formed names name t h at).widths
 
-pub found_readable : (names : Names) (name : List ℕ) (t : TableName) → names_are_formed names ≡ true → find (λ (x : TableName). bytes_eq name x.name) names.tables ≡ Some t → length t.actions < 4294967296
+pub found_readable : (names : Names) (name : List ℕ) (t : TableName) → names_are_formed names ≡ true → table_in names name ≡ Some t → length t.actions < 4294967296
     → IsReadable (named_table t)
 found_readable names name t h at few =
     readable_table t (found_formed names name t h at) few

@@ -1,11 +1,11 @@
 -- Texts, read line by line.
-use Rattle.std.proofs.Common.{◌≡◌, ℕ, ◌+◌, true, false, List, [], ◌∷◌, ◌++◌, Result, Ok, Err, length, refl, sym, ap, subst, ◌∙◌, length-append, arith}
+use Rattle.std.proofs.Common.{◌≡◌, ℕ, ◌+◌, true, false, List, [], ◌∷◌, ◌++◌, Option, All, Result, Ok, Err, length, refl, sym, ap, subst, ◌∙◌, length-append, arith}
 use Rattle.std.specs.List.{before_first, after_first}
 use Rattle.std.specs.Result.{IsErrAnd}
 use Rattle.std.proofs.lemmas.List.{length-map}
 use Rattle.rmt_ast.specs.declared.program.Program.{Program}
 use Rattle.rmt_ast.specs.declared.program.Node.{Node}
-use Rattle.rmt_ast.specs.EntryLists.{terms_at}
+use Rattle.rmt_ast.specs.EntryLists.{Terms, terms_at}
 use Rattle.rmt_ast.specs.declared.entry.Entry.{Entry}
 use Rattle.rmt_entries.specs.declared.fault.EntryFault.{EntryFault}
 use Rattle.rmt_entries.specs.declared.fault.EntryFault.TheVariants.{At, NoMemory}
@@ -14,9 +14,10 @@ use Rattle.rmt_entries.specs.Entries.{by_node, entries_of, entry_of, reading}
 use Rattle.rmt_entries.specs.Fault.{Gives}
 use Rattle.rmt_bits.specs.Lines.{is_passed_over, numbered_lines}
 use Rattle.rmt_entries.specs.Reads.{Reads, node_terms}
-use Rattle.rmt_entries.specs.LinesSoFar.{Addition, Gathers, IsFault}
-use Rattle.rmt_entries.specs.Tables.{applied_tables}
+use Rattle.rmt_entries.specs.LinesSoFar.{Addition, Gathers, IsAppliedBy, IsFault}
+use Rattle.rmt_entries.specs.Tables.{AppliedTable, applied_tables}
 use Rattle.rmt_entries.proofs.GatherLaws.{length-by_node}
+use Rattle.rmt_entries.proofs.ProgramLaws.{are_applied}
 use Rattle.rmt_bits.proofs.LineLaws.{is_feed, numbered_lines-first}
 
 -- nothing is read yet
@@ -39,20 +40,30 @@ module _ (p : Program) (text rest : List ℕ) (n : ℕ) (g : Gathered) (r : Read
   here : is_passed_over line ≡ false → numbered_lines n rest ≡ (n, line) ∷ numbered_lines (n + 1) behind
   here h = numbered_lines-first n rest ∙ rw (← front, ← back, h) refl
 
-  -- a line said its entry
-  pub reads_added : (next : Gathered) → is_passed_over line ≡ false → Addition (applied_tables p) (node_terms p) r.entries line next → Reads p text behind (n + 1) next
-  reads_added next h addition = record {
-    entries = r.entries ++ addition.entry ∷ [];
-    gathered = addition.gathered;
-    same = r.same ∙ ap (reading (applied_tables p) r.entries) (here h) ∙ rw addition.said refl;
-    few = omega (arith, r.few, length-append r.entries (addition.entry ∷ []));
-  }
+  -- the tables that were found are those that the nodes apply
+  module _ (ts : List AppliedTable) (found : ts ≡ applied_tables p) where
+    applied : All (IsAppliedBy (node_terms p)) ts
+    applied = subst (λ (xs : List AppliedTable). All (IsAppliedBy (node_terms p)) xs) (sym found) (are_applied p)
 
-  -- a line is bad
-  pub reads_bad : (code : ℕ) → is_passed_over line ≡ false → entry_of (applied_tables p) r.entries line ≡ Err code → entries_of p text ≡ Err (At code n)
-  reads_bad code h bad =
-      let read : reading (applied_tables p) [] (numbered_lines 1 text) ≡ Err (At code n) = r.same ∙ ap (reading (applied_tables p) r.entries) (here h) ∙ rw bad refl in
-      rw read refl
+    -- a line said its entry
+    pub reads_added : (next : Gathered) → is_passed_over line ≡ false
+        → ((terms : List (Option Terms)) (es : List Entry) → Gathers terms es g → All (IsAppliedBy terms) ts → Addition ts terms es line next) → Reads p text behind (n + 1) next
+    reads_added next h adds =
+        let addition = subst (λ (xs : List AppliedTable). Addition xs (node_terms p) r.entries line next) found (adds (node_terms p) r.entries r.gathered applied) in
+        record {
+          entries = r.entries ++ addition.entry ∷ [];
+          gathered = addition.gathered;
+          same = r.same ∙ ap (reading (applied_tables p) r.entries) (here h) ∙ rw addition.said refl;
+          few = omega (arith, r.few, length-append r.entries (addition.entry ∷ []));
+        }
+
+    -- a line is bad
+    pub reads_bad : (code : ℕ) → is_passed_over line ≡ false
+        → ((terms : List (Option Terms)) (es : List Entry) → Gathers terms es g → All (IsAppliedBy terms) ts → entry_of ts es line ≡ Err code) → entries_of p text ≡ Err (At code n)
+    reads_bad code h faults =
+        let bad = subst (λ (xs : List AppliedTable). entry_of xs r.entries line ≡ Err code) found (faults (node_terms p) r.entries r.gathered applied) in
+        let read : reading (applied_tables p) [] (numbered_lines 1 text) ≡ Err (At code n) = r.same ∙ ap (reading (applied_tables p) r.entries) (here h) ∙ rw bad refl in
+        rw read refl
 
 -- no line is left
 pub reads_end : (p : Program) (text : List ℕ) (n : ℕ) (g : Gathered) → Reads p text [] n g → entries_of p text ≡ Ok g.lists.items

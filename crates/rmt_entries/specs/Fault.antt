@@ -8,3 +8,7 @@ abbrev pub Gives : {X : Type 0} → Result X EntryFault → Result X EntryFault 
 Gives (Ok x) wanted = wanted ≡ Ok x
 Gives (Err NoMemory) wanted = Unit {0}
 Gives (Err (At code line)) wanted = wanted ≡ Err (At code line)
+
+-- what want of memory is told as
+abbrev pub IsNoMemory : {E : Type 0} → E → EntryFault → Type 0
+IsNoMemory error fault = fault ≡ NoMemory

@@ -1,5 +1,6 @@
 -- What a line says by the names of tables, without their program.
-use Rattle.std.specs.Prelude.{ℕ, List, [], ◌∷◌, ◌==◌, if◌then◌else◌, Option, Some, None, Result, Ok, Err, IsSomeAnd, length, map}
+use Rattle.std.specs.Prelude.{ℕ, List, [], ◌∷◌, ◌==◌, if◌then◌else◌, Option, Some, None, Result, Ok, Err, IsSomeAnd, find, length, map}
+use Rattle.std.specs.Str.{bytes_eq}
 use Rattle.rmt_ast.specs.declared.entry.Entry.{Entry}
 use Rattle.rmt_ast.specs.declared.names.Names.{Names}
 use Rattle.rmt_ast.specs.declared.names.TableName.{TableName}
@@ -25,6 +26,10 @@ named_table t = record { node = t.node; name = t.name; terms = terms_of_name t; 
 
 abbrev pub named_tables : Names → List AppliedTable
 named_tables names = map named_table names.tables
+
+-- the first of them of a name
+abbrev pub table_in : Names → List ℕ → Option TableName
+table_in names name = find (λ (t : TableName). bytes_eq name t.name) names.tables
 
 -- the fault of a line that stands alone
 abbrev pub alone : {X : Type 0} → Result X ℕ → Result X EntryFault

@@ -1,9 +1,8 @@
 //! Why an entry text is refused.
 
-ghost use Rattle.std.specs.Prelude.{◌≡◌};
-ghost use Rattle.rmt_entries.specs.declared.fault.EntryFault.TheVariants.{NoMemory};
+ghost use Rattle.rmt_entries.specs.Fault.{IsNoMemory};
 
-use std::alloc::{AllocError, AllocFailed};
+use std::alloc::AllocError;
 use thiserror::Error;
 
 /// Why an entry text is refused.
@@ -24,17 +23,9 @@ pub enum EntryFault {
 }
 
 impl From<AllocError> for EntryFault {
-    ghost from_gives = { λ _ e. e ≡ NoMemory };
+    ghost from_gives = { IsNoMemory };
 
     fn from(_error: AllocError) -> EntryFault {
-        EntryFault::NoMemory
-    }
-}
-
-impl<T: Drop> From<AllocFailed<T>> for EntryFault {
-    ghost from_gives = { λ _ e. e ≡ NoMemory };
-
-    fn from(_error: AllocFailed<T>) -> EntryFault {
         EntryFault::NoMemory
     }
 }

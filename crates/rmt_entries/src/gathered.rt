@@ -105,12 +105,7 @@ fn see_key(
 fn has_keys_once(kind: Kind) -> bool
     ensures { result ≡ has_keys_once kind }
 {
-    match kind {
-        Kind::Keyless => false,
-        Kind::Exact => true,
-        Kind::Prefix => true,
-        Kind::Ternary => false,
-    }
+    matches!(kind, Kind::Exact | Kind::Prefix)
 }
 
 /// Puts what no two entries of an exact or a prefix table share in place of what a vector has. The only fault is want of

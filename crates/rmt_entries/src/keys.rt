@@ -1,8 +1,9 @@
 //! The keys that the words of a line say.
 
-ghost use Rattle.std.specs.Prelude.{◌≡◌, ◌≤◌, ◌==◌, option_map, IfOk};
+ghost use Rattle.std.specs.Prelude.{◌≡◌, ◌≤◌, ◌==◌, ℕ, List, Option, option_map, IfOk};
+ghost use Rattle.rmt_ast.specs.declared.program.Test.{Test as TestValue};
 ghost use Rattle.std.specs.List.{after_first, before_first};
-ghost use Rattle.rmt_entries.specs.Keys.{both, exact_test, masked, pattern_test, prefix_mask, prefix_of, prefix_key, prefix_words, ternary_words, key_of, ranked, read_each};
+ghost use Rattle.rmt_entries.specs.Keys.{both, exact_test, masked, pattern_test, prefix_mask, prefix_of, prefix_key, prefix_words, key_of, ranked, read_each};
 ghost use Rattle.rmt_entries.specs.Numbers.{number_of_width};
 ghost use Rattle.rmt_entries.specs.Taken.{AreNarrow, IsTaken, test_of};
 
@@ -117,14 +118,14 @@ fn tests_of(
     Ok(Some(tests))
 }
 
-/// The key of an exact table.
-fn exact_key(alloc: Global, widths: &[u8], words: &mut Words<'_>) -> Result<Option<Key>, AllocError>
-    requires { AreNarrow widths.now }
-    ensures { IfOk result (λ key. IsTaken key words.new (option_map (ranked 0) (read_each exact_test widths.now words.old))) }
+/// Tests with their rank.
+fn with_rank(rank: u32, tests: Option<Sequence<Test>>) -> Option<Key>
+    ensures { (left : List (List ℕ)) (wanted : Option (List TestValue × List (List ℕ))) →
+        IsTaken tests left wanted → IsTaken result left (option_map (ranked rank) wanted) }
 {
-    match tests_of(alloc, Form::Value, widths, words)? {
-        Some(tests) => Ok(Some(Key { tests, rank: 0 })),
-        None => Ok(None),
+    match tests {
+        Some(tests) => Some(Key { tests, rank }),
+        None => None,
     }
 }
 
@@ -186,27 +187,6 @@ fn prefix_words(
     }
 }
 
-/// The key of a ternary table.
-fn ternary_words(
-    alloc: Global,
-    widths: &[u8],
-    words: &mut Words<'_>,
-) -> Result<Option<Key>, AllocError>
-    requires { AreNarrow widths.now }
-    ensures { IfOk result (λ key. IsTaken key words.new (ternary_words widths.now words.old)) }
-{
-    let Some(word) = words.take() else {
-        return Ok(None);
-    };
-    let Some(rank) = priority(word) else {
-        return Ok(None);
-    };
-    match tests_of(alloc, Form::Pattern, widths, words)? {
-        Some(tests) => Ok(Some(Key { tests, rank })),
-        None => Ok(None),
-    }
-}
-
 /// Takes the key of a table of a kind, by the widths of its fields; None where the words are too few, one isn't of
 /// the form or has a number that doesn't fit, or the table has no key. The only fault is want of memory.
 pub fn key_of(
@@ -220,8 +200,16 @@ pub fn key_of(
 {
     match kind {
         Kind::Keyless => Ok(None),
-        Kind::Exact => exact_key(alloc, widths, words),
+        Kind::Exact => Ok(with_rank(0, tests_of(alloc, Form::Value, widths, words)?)),
         Kind::Prefix => prefix_words(alloc, widths, words),
-        Kind::Ternary => ternary_words(alloc, widths, words),
+        Kind::Ternary => {
+            let Some(word) = words.take() else {
+                return Ok(None);
+            };
+            let Some(rank) = priority(word) else {
+                return Ok(None);
+            };
+            Ok(with_rank(rank, tests_of(alloc, Form::Pattern, widths, words)?))
+        }
     }
 }

@@ -98,7 +98,8 @@ pub fn read_entry<T: LineTable>(
     ensures fault { IfErr result (λ fault. IsFault fault line (λ code.
         of_table number words.old (Some (T.applied table.now)) ≡ Err code)) }
 {
-    let Some(key) = key_of(alloc, table.kind(), table.widths(), words)? else {
+    let (node, kind, widths) = table.heading();
+    let Some(key) = key_of(alloc, kind, widths, words)? else {
         return Err(EntryFault::At { code: 3, line });
     };
     let Some(action) = take_action(table, words) else {
@@ -108,7 +109,7 @@ pub fn read_entry<T: LineTable>(
         return Err(EntryFault::At { code: 5, line });
     };
     Ok(Entry {
-        table: table.node(),
+        table: node,
         number,
         tests: key.tests,
         rank: key.rank,

@@ -17,17 +17,11 @@ pub trait LineTable {
     /// Which it is.
     ghost applied: { Self → AppliedTable };
 
-    /// The number of the node that applies it.
-    fn node(&self) -> u32
-        ensures { result ≡ (applied self.now).node };
-
-    /// How its entries match.
-    fn kind(&self) -> Kind
-        ensures { result ≡ (applied self.now).terms.kind };
-
-    /// The widths of its key's fields.
-    fn widths(&self) -> &[u8]
-        ensures { result.now ≡ (applied self.now).terms.widths };
+    /// The number of the node that applies it, how its entries match, and the widths of its key's fields.
+    fn heading(&self) -> (u32, Kind, &[u8])
+        ensures node { result.0 ≡ (applied self.now).node }
+        ensures kind { result.1 ≡ (applied self.now).terms.kind }
+        ensures widths { result.2.now ≡ (applied self.now).terms.widths };
 
     /// The place of the action of a name in its list.
     fn action(&self, name: &[u8]) -> Option<usize>
@@ -43,16 +37,8 @@ pub trait LineTable {
 impl<'a> LineTable for NamedTable<'a> {
     ghost applied = { seen_table };
 
-    fn node(&self) -> u32 {
-        self.node
-    }
-
-    fn kind(&self) -> Kind {
-        self.kind
-    }
-
-    fn widths(&self) -> &[u8] {
-        self.widths.as_slice()
+    fn heading(&self) -> (u32, Kind, &[u8]) {
+        (self.node, self.kind, self.widths.as_slice())
     }
 
     fn action(&self, name: &[u8]) -> Option<usize> {
@@ -71,16 +57,8 @@ impl<'a> LineTable for NamedTable<'a> {
 impl LineTable for TableName {
     ghost applied = { named_table };
 
-    fn node(&self) -> u32 {
-        self.node
-    }
-
-    fn kind(&self) -> Kind {
-        self.kind
-    }
-
-    fn widths(&self) -> &[u8] {
-        self.keys.as_slice()
+    fn heading(&self) -> (u32, Kind, &[u8]) {
+        (self.node, self.kind, self.keys.as_slice())
     }
 
     fn action(&self, name: &[u8]) -> Option<usize> {

@@ -1,13 +1,11 @@
 //! Lines that are read by the names of tables, without their program.
 
-ghost use Rattle.std.specs.Prelude.{◌≡◌, ◌<◌, Ok, Err, IsTrue, Some, find, length, option_copied, IfErr, IfOk};
-ghost use Rattle.std.specs.Str.{bytes_eq};
-ghost use Rattle.rmt_ast.specs.declared.names.TableName.{TableName};
+ghost use Rattle.std.specs.Prelude.{◌≡◌, ◌<◌, Ok, Err, IsTrue, Some, length, option_copied, IfErr, IfOk};
 ghost use Rattle.rmt_ast.specs.NameRules.{names_are_formed};
 ghost use Rattle.rmt_entries.specs.Entries.{of_table, read_words};
 ghost use Rattle.rmt_entries.specs.Fault.{Gives};
 ghost use Rattle.rmt_entries.specs.LinesSoFar.{IsFault, IsReadable};
-ghost use Rattle.rmt_entries.specs.NamedLines.{IsNamedEntry, alone, key_of_table, key_words, named_entry, named_key, named_table, named_tables};
+ghost use Rattle.rmt_entries.specs.NamedLines.{IsNamedEntry, alone, key_of_table, key_words, named_entry, named_key, named_table, named_tables, table_in};
 ghost use Rattle.rmt_entries.specs.Taken.{AreNarrow};
 
 use crate::fault::EntryFault;
@@ -119,7 +117,7 @@ fn take_named<'a>(names: &'a Names, words: &mut Words<'_>) -> Result<&'a TableNa
 
 /// The table of a name.
 fn table_named<'a>(names: &'a Names, name: &[u8]) -> Option<&'a TableName>
-    ensures { option_copied result ≡ find (λ (t : TableName). bytes_eq name.now t.name) names.now.tables }
+    ensures { option_copied result ≡ table_in names.now name.now }
 {
     names
         .tables

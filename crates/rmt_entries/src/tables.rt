@@ -86,23 +86,14 @@ fn width_of(program: &Program, field: u32) -> u8
     }
 }
 
-/// The widths of an action's parameters.
-fn params_of(program: &Program, action: u32) -> &[u8]
-    ensures { result.now ≡ params_of program.now action }
+/// The name of an action, and the widths of its parameters.
+fn listed_action(program: &Program, action: u32) -> (&[u8], &[u8])
+    ensures name { result.0.now ≡ action_name program.now action }
+    ensures params { result.1.now ≡ params_of program.now action }
 {
     match program.actions.get(action as usize) {
-        Some(action) => action.params.as_slice(),
-        None => b"".as_slice(),
-    }
-}
-
-/// The name of an action.
-fn action_name(program: &Program, action: u32) -> &[u8]
-    ensures { result.now ≡ action_name program.now action }
-{
-    match program.actions.get(action as usize) {
-        Some(action) => action.name.as_slice(),
-        None => b"".as_slice(),
+        Some(action) => (action.name.as_slice(), action.params.as_slice()),
+        None => (b"".as_slice(), b"".as_slice()),
     }
 }
 
@@ -117,34 +108,32 @@ fn widths_of(alloc: Global, program: &Program, fields: &[u32]) -> Result<Vec<u8>
     Ok(widths)
 }
 
-/// The widths of the parameters of actions.
-fn all_params<'a>(
-    alloc: Global,
-    program: &'a Program,
-    actions: &[u32],
-) -> Result<Vec<&'a [u8]>, AllocError>
-    ensures { IfOk result (λ params. seen params.items ≡ map (params_of program.now) actions.now) }
-{
-    let mut params = Vec::new(alloc);
-    for action in actions {
-        params.push(params_of(program, *action))?;
-    }
-    Ok(params)
+/// The actions of a table's list.
+#[derive(Drop)]
+struct ListedActions<'a> {
+    /// Their names.
+    names: Vec<&'a [u8]>,
+    /// The widths of the parameters of each of them.
+    params: Vec<&'a [u8]>,
 }
 
-/// The names of actions.
-fn action_names<'a>(
+/// The actions of a list.
+fn listed_actions<'a>(
     alloc: Global,
     program: &'a Program,
     actions: &[u32],
-) -> Result<Vec<&'a [u8]>, AllocError>
-    ensures { IfOk result (λ names. seen names.items ≡ map (action_name program.now) actions.now) }
+) -> Result<ListedActions<'a>, AllocError>
+    ensures names { IfOk result (λ listed. seen listed.names.items ≡ map (action_name program.now) actions.now) }
+    ensures params { IfOk result (λ listed. seen listed.params.items ≡ map (params_of program.now) actions.now) }
 {
     let mut names = Vec::new(alloc);
+    let mut params = Vec::new(alloc);
     for action in actions {
-        names.push(action_name(program, *action))?;
+        let (name, widths) = listed_action(program, *action);
+        names.push(name)?;
+        params.push(widths)?;
     }
-    Ok(names)
+    Ok(ListedActions { names, params })
 }
 
 /// A table that a node applies.
@@ -156,15 +145,15 @@ fn named_table<'a>(
 ) -> Result<NamedTable<'a>, AllocError>
     ensures { IfOk result (λ named. seen_table named ≡ applied_table program.now node table.now) }
 {
-    let names = action_names(alloc, program, table.actions.as_slice())?;
+    let listed = listed_actions(alloc, program, table.actions.as_slice())?;
     Ok(NamedTable {
         node,
         name: table.name.as_slice(),
         kind: table.kind,
         size: table.size,
         widths: widths_of(alloc, program, table.key.as_slice())?,
-        actions: NameList::of(alloc, names)?,
-        params: all_params(alloc, program, table.actions.as_slice())?,
+        actions: NameList::of(alloc, listed.names)?,
+        params: listed.params,
     })
 }
 

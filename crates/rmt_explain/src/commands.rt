@@ -31,8 +31,8 @@ pub struct Form {
     pub name: &'static str,
     /// The words behind it, as the help names them.
     pub operands: &'static [&'static str],
-    /// What each of them is.
-    pub roles: &'static [Role],
+    /// Whether the image and the map that they name are written, and not read.
+    pub writes: bool,
     /// What the command does.
     pub purpose: &'static str,
 }
@@ -42,72 +42,61 @@ pub const FORMS: [Form; 10] = [
     Form {
         name: "compile",
         operands: &["PROGRAM", "ENTRIES", "IMAGE"],
-        roles: &[Role::Program, Role::Entries, Role::Written],
+        writes: true,
         purpose: "write the image of a program with its entries",
     },
     Form {
         name: "compile",
         operands: &["PROGRAM", "ENTRIES", "IMAGE", "MAP"],
-        roles: &[
-            Role::Program,
-            Role::Entries,
-            Role::Written,
-            Role::WrittenMap,
-        ],
+        writes: true,
         purpose: "write its map too, which tells where all stands",
     },
     Form {
         name: "improve",
         operands: &["PROGRAM", "ENTRIES", "IMAGE", "BUDGET"],
-        roles: &[Role::Program, Role::Entries, Role::Written, Role::Number],
+        writes: true,
         purpose: "write the image with the best of BUDGET tries at placing the tables",
     },
     Form {
         name: "sim",
         operands: &["IMAGE", "PACKETS"],
-        roles: &[Role::Image, Role::Packets],
+        writes: false,
         purpose: "run packets through the chip of an image",
     },
     Form {
         name: "probe",
         operands: &["IMAGE", "PACKETS", "CYCLE"],
-        roles: &[Role::Image, Role::Packets, Role::Number],
+        writes: false,
         purpose: "show the header vectors in the chip at a cycle",
     },
     Form {
         name: "plain",
         operands: &["PROGRAM", "ENTRIES", "PACKETS"],
-        roles: &[Role::Program, Role::Entries, Role::Packets],
+        writes: false,
         purpose: "run packets through the program itself",
     },
     Form {
         name: "report",
         operands: &["IMAGE"],
-        roles: &[Role::Image],
+        writes: false,
         purpose: "tell as JSON what an image uses of the chip",
     },
     Form {
         name: "sample",
         operands: &["N"],
-        roles: &[Role::Number],
+        writes: false,
         purpose: "make a large program with N entries a table, and run it",
     },
     Form {
         name: "switch",
         operands: &["IMAGE", "GROUPS", "CAPTURE", "OUT", "EVERY"],
-        roles: &[
-            Role::Image,
-            Role::Groups,
-            Role::Capture,
-            Role::Prefix,
-            Role::Number,
-        ],
+        writes: false,
         purpose: "send the frames of a capture to ports, and write OUT.P.pcap of each port P",
     },
     Form {
         name: "verify",
         operands: &["PROGRAM", "ENTRIES", "IMAGE", "MAP"],
-        roles: &[Role::Program, Role::Entries, Role::Image, Role::Map],
+        writes: false,
         purpose: "tell whether an image and its map belong to a program with its entries",
     },
 ];
@@ -127,7 +116,25 @@ pub fn form_of(words: &[String]) -> Option<&'static Form> {
 /// What the word of a number is, the words counted from 0 with the command's name.
 pub fn role_of(words: &[String], at: usize) -> Option<Role> {
     let form = form_of(words)?;
-    form.roles.get(at.checked_sub(1)?).copied()
+    let operand = form.operands.get(at.checked_sub(1)?)?;
+    Some(role_of_operand(operand, form.writes))
+}
+
+/// What a word is that the help names so, in a command that writes its image or not.
+fn role_of_operand(operand: &str, writes: bool) -> Role {
+    match operand {
+        "PROGRAM" => Role::Program,
+        "ENTRIES" => Role::Entries,
+        "IMAGE" if writes => Role::Written,
+        "IMAGE" => Role::Image,
+        "MAP" if writes => Role::WrittenMap,
+        "MAP" => Role::Map,
+        "PACKETS" => Role::Packets,
+        "GROUPS" => Role::Groups,
+        "CAPTURE" => Role::Capture,
+        "OUT" => Role::Prefix,
+        _ => Role::Number,
+    }
 }
 
 /// The number of the word that names the file of a role.

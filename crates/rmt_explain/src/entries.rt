@@ -8,7 +8,7 @@ use crate::keys::{BadWord, Key, key_of};
 use crate::last_line::number_at;
 use crate::message::{Message, is_seen};
 use crate::places::{
-    line_from, line_start, quote_line, say_head, say_named_byte, say_second_place,
+    line_from, line_of, line_start, quote_line, say_head, say_named_byte, say_second_place,
 };
 use crate::tables::{Declared, Kind, key_words, table_of};
 use crate::words::{Word, missing_word, word_of_line};
@@ -68,17 +68,6 @@ fn bad_line<'e, 'p>(alloc: Global, ending: &Ending, texts: &Texts<'p, 'e, '_>) -
         table,
         key: key_of(alloc, text, name, kind),
         parameters: parameters_of(alloc, text, word_or_none(line, keys.saturating_add(1))),
-    }
-}
-
-/// The bad line; nothing where the text is not there.
-fn line_of<'e>(texts: &Texts<'_, 'e, '_>, number: u64) -> &'e [u8] {
-    match texts.entries {
-        Some(text) => match line_start(text, number) {
-            Some(start) => line_from(text, start),
-            None => b"".as_slice(),
-        },
-        None => b"".as_slice(),
     }
 }
 

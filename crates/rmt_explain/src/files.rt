@@ -1,7 +1,7 @@
 //! Files and the output that can't be read or written.
 
 use crate::commands::{Role, limit_of, role_name, role_of, word_of};
-use crate::ending::Ending;
+use crate::ending::{Ending, FileFault};
 use crate::message::Message;
 use std::io::ErrorKind;
 
@@ -10,9 +10,7 @@ pub fn explain_read(ending: &Ending, message: &mut Message) {
     message.say("rmt: ");
     match &ending.fault {
         Some(fault) => {
-            message.name(fault.name);
-            message.say(" can't be read: ");
-            message.say(reason(fault.kind));
+            say_fault(fault, " can't be read: ", message);
         }
         None => message.say("a file can't be read"),
     }
@@ -24,9 +22,7 @@ pub fn explain_write(ending: &Ending, message: &mut Message) {
     message.say("rmt: ");
     match &ending.fault {
         Some(fault) => {
-            message.name(fault.name);
-            message.say(" can't be written: ");
-            message.say(reason(fault.kind));
+            say_fault(fault, " can't be written: ", message);
             message.say("; what it holds now is not known");
             if word_of(ending.words, Role::Prefix).is_some() {
                 message.say(", and the captures of lower ports stand whole");
@@ -38,6 +34,13 @@ pub fn explain_write(ending: &Ending, message: &mut Message) {
         None => explain_output(ending, message),
     }
     message.say("\n");
+}
+
+/// The file at fault, what can't be done with it, and why.
+fn say_fault(fault: &FileFault, refusal: &str, message: &mut Message) {
+    message.name(fault.name);
+    message.say(refusal);
+    message.say(reason(fault.kind));
 }
 
 /// Whether the word of a role is this name.

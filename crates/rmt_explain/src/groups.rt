@@ -3,7 +3,7 @@
 use crate::commands::Role;
 use crate::ending::{Ending, Texts};
 use crate::message::Message;
-use crate::places::{line_from, line_start, quote_line, say_head};
+use crate::places::{line_of, quote_line, say_head};
 use crate::words::{Word, Words, missing_word, word_of_line};
 use rmt_bits::digits::{are_digits, number_up_to};
 
@@ -41,17 +41,6 @@ pub fn explain_groups(ending: &Ending, texts: &Texts, message: &mut Message) {
     message.say("\n");
     if texts.entries.is_some() {
         quote_line(number, line, word.column, word.bytes.len(), message);
-    }
-}
-
-/// The bad line; nothing where the text is not there.
-fn line_of<'e>(texts: &Texts<'_, 'e, '_>, number: u64) -> &'e [u8] {
-    match texts.entries {
-        Some(text) => match line_start(text, number) {
-            Some(start) => line_from(text, start),
-            None => b"".as_slice(),
-        },
-        None => b"".as_slice(),
     }
 }
 

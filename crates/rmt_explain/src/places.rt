@@ -1,5 +1,6 @@
 //! Places in a text, and lines that are quoted with a caret under the place.
 
+use crate::ending::Texts;
 use crate::message::{Message, is_seen};
 use memchr::memchr;
 
@@ -59,6 +60,17 @@ pub fn line_from(text: &[u8], start: usize) -> &[u8] {
     match memchr(b'\n', rest) {
         Some(end) => part(rest, 0, end),
         None => rest,
+    }
+}
+
+/// A line of the entries' text or the group text; nothing where the text is not there.
+pub fn line_of<'e>(texts: &Texts<'_, 'e, '_>, number: u64) -> &'e [u8] {
+    match texts.entries {
+        Some(text) => match line_start(text, number) {
+            Some(start) => line_from(text, start),
+            None => b"".as_slice(),
+        },
+        None => b"".as_slice(),
     }
 }
 

@@ -21,7 +21,7 @@ use Rattle.rmt_pack.proofs.FormatLaws.{divided_up-covers}
 use Rattle.rmt_pack.proofs.TcamLaws.{masks-fit, side_by_side-lt, values-fit}
 use Rattle.rmt_config.specs.Rooms.{args_as_one, tests_as_one}
 use Rattle.rmt_filling.specs.Holding.{head_for}
-use Rattle.rmt_filling.specs.Rooms.{AreOf}
+use Rattle.rmt_filling.specs.Rooms.{AreOf, CanBeWritten}
 use Rattle.rmt_pack.proofs.BesideLaws.{args-lt}
 use Rattle.rmt_bits.proofs.MostLaws.{items-le}
 
@@ -121,3 +121,25 @@ module _ (p : Program) (t : Table) (n : ℕ) where
       inside f [] i y e = absurd (none-some y e)
       inside f (x ∷ xs) zero y e = omega arith
       inside f (x ∷ xs) (suc i) y e = let lt = inside f xs i y e in omega (arith, lt)
+
+-- ---- an entry of a part
+
+-- what is known of an entry of a part that can be written
+pub record IsThere (p : Program) (t : Table) (first : ℕ) (e : Entry) : Type 0 where
+  pub node : ℕ
+  pub is_entry : IsEntry node (terms_of p t) e
+  pub code : first + e.action < 32
+  pub args : AllZip Fits (params_of p (slice_index t.actions e.action)) e.args
+  pub within : sum (params_of p (slice_index t.actions e.action)) ≤ data_bits p t
+
+pub entry-there : (p : Program) (t : Table) (es : List Entry) (first : ℕ) → CanBeWritten p t es first → (i : ℕ) (e : Entry) → slice_get es i ≡ Some e → IsThere p t first e
+entry-there p t es first part i e at =
+    let is = entry-of p t es part.entries i e at in
+    let action = entry-action p t part.entries.0 e is in
+    record {
+      node = part.entries.0;
+      is_entry = is;
+      code = let few = part.few in omega (arith, action, few);
+      args = entry-fits p t part.entries.0 e is;
+      within = data-fits p t e.action action;
+    }

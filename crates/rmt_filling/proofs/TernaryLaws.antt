@@ -1,7 +1,6 @@
 -- Entries that are written into the rows of a ternary part, one after another.
-use Rattle.std.proofs.Common.{◌≡◌, ◌≢◌, ℕ, ◌+◌, ◌*◌, ◌/◌, ◌%◌, ◌^◌, ◌<◌, List, [], ◌∷◌, ◌++◌, Some, get_or, refl, sym, ap, ◌∙◌, subst, inl, inr}
+use Rattle.std.proofs.Common.{◌≡◌, ◌≢◌, ℕ, ◌+◌, ◌*◌, ◌/◌, ◌%◌, ◌^◌, ◌<◌, List, [], ◌∷◌, ◌++◌, Some, get_or, refl, sym, ap, ◌∙◌, subst}
 use Rattle.std.specs.Prelude.{All, AllPairs, Contains, slice_get}
-use Rattle.std.proofs.lemmas.Bool.{cases_eq}
 use Rattle.std.proofs.lemmas.List.{get_or_default}
 use Rattle.std.proofs.lemmas.List.Elements.{All-nil, All-push, All-contains, Contains-push}
 use Rattle.std.proofs.lemmas.Nat.{div-add-mod', same_from_place}
@@ -14,7 +13,7 @@ use Rattle.rmt_config.specs.BlockCounts.{divided_up}
 use Rattle.rmt_pack.specs.declared.shape.Shape.{Shape}
 use Rattle.rmt_pack.specs.Cells.{PutsRecord, record_of, thousands_in}
 use Rattle.rmt_pack.specs.Shape.{IsShape, cells_in}
-use Rattle.rmt_pack.proofs.BlockLaws.{ends-zero, part-item, place-same, unit_row-zero}
+use Rattle.rmt_pack.proofs.BlockLaws.{ends-kept, ends-zero, part-item, place-same, unit_row-zero}
 use Rattle.rmt_pack.proofs.CellLaws.{records-stay}
 use Rattle.rmt_pack.proofs.RecordLaws.{record-entry, record-others, record-zero, records_end-zero}
 use Rattle.rmt_pack.proofs.RunLaws.{unit_row-same}
@@ -50,22 +49,12 @@ key-other old new keys bits n x m apart puts ne =
 -- no bit stands past the key
 pub key-ends : (old new : Blocks) (keys : List ℕ) (bits n x : ℕ) → AllPairs ◌≢◌ keys → x < 2 ^ bits → PutsRow old new (n % 2048) (blocks_at keys (divided_up bits 40) (n / 2048)) x
     → EndsAt 40 old keys (divided_up bits 40) bits → EndsAt 40 new keys (divided_up bits 40) bits
-key-ends old new keys bits n x apart small puts ends u' row' =
-    elim (cases_eq u' (n / 2048)) as (λ _. unit_row 40 new row' (blocks_at keys each u') < 2 ^ bits) [
-      | inr ne ↦ elsewhere (λ eu er. ne eu)
-      | inl eu ↦ elim (cases_eq row' (n % 2048)) as (λ _. unit_row 40 new row' (blocks_at keys each u') < 2 ^ bits) [
-        | inr ne ↦ elsewhere (λ _ er. ne er)
-        | inl er ↦
-            subst (λ (k : ℕ). unit_row 40 new k (blocks_at keys each u') < 2 ^ bits) (sym er)
-            (subst (λ (k : ℕ). unit_row 40 new (n % 2048) (blocks_at keys each k) < 2 ^ bits) (sym eu) (subst (λ (k : ℕ). k < 2 ^ bits) (sym puts.here) small))
-      ]
-    ]
+key-ends old new keys bits n x apart small puts =
+    ends-kept 40 old new keys each (n / 2048) (n % 2048) bits (subst (λ (k : ℕ). k < 2 ^ bits) (sym puts.here) small)
+    (λ u' row'. unit-other 40 old new keys each (n / 2048) (n % 2048) u' row' apart puts.elsewhere)
   where
     each : ℕ
     each = divided_up bits 40
-
-    elsewhere : (u' ≡ n / 2048 → row' ≡ n % 2048 → ⊥) → unit_row 40 new row' (blocks_at keys each u') < 2 ^ bits
-    elsewhere not_here = subst (λ (k : ℕ). k < 2 ^ bits) (sym (unit-other 40 old new keys each (n / 2048) (n % 2048) u' row' apart puts.elsewhere not_here)) (ends u' row')
 
 module _ (p : Program) (t : Table) (es : List Entry) (first : ℕ) where
   -- none, in rows that are all 0

@@ -13,6 +13,7 @@ use rmt_ast::program::{Program, Test};
 use rmt_bits::answer::Bytes;
 use rmt_bits::bits::bytes_of_bits;
 use rmt_pack::format::divide_up;
+use rmt_pack::need::sum_of;
 use std::alloc::{AllocError, Global};
 
 /// The widths of some fields.
@@ -25,18 +26,6 @@ pub fn widths_of(alloc: Global, program: &Program, fields: &[u32]) -> Result<Byt
         widths.push(program.fields.as_slice()[*field as usize].width)?;
     }
     Ok(widths)
-}
-
-/// The sum of some widths.
-pub fn sum_of(widths: &[u8]) -> u32
-    requires { sum widths.now < 2 ^ 32 }
-    ensures { result ≡ sum widths.now }
-{
-    let mut sum = 0;
-    for width in widths {
-        sum += *width as u32;
-    }
-    sum
 }
 
 /// As many bytes, all 0, as hold so many bits.

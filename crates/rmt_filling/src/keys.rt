@@ -1,13 +1,11 @@
 //! The keys of exact tables, loaded under a seed.
 
-ghost use Rattle.std.specs.Prelude.{◌≡◌, ◌<◌, ◌≤◌, ◌^◌, All, IfOk, length, map};
+ghost use Rattle.std.specs.Prelude.{◌≡◌, All, IfOk, map};
 ghost use Rattle.std.specs.List.{AllZip};
 ghost use Rattle.rmt_ast.specs.declared.entry.Entry.{Entry};
 ghost use Rattle.rmt_ast.specs.State.{width_of};
 ghost use Rattle.rmt_ast.specs.WellFormed.{IsKeyed, IsProgram, IsTest};
-ghost use Rattle.rmt_cuckoo.specs.declared.layout.Ways.{Ways};
-ghost use Rattle.rmt_cuckoo.specs.Loading.{cells_of};
-ghost use Rattle.rmt_filling.specs.Keys.{IsTried, keys_of as keys_as_bytes};
+ghost use Rattle.rmt_filling.specs.Keys.{CanBeLoaded, IsTried, keys_of as keys_as_bytes};
 
 use crate::data::{key_bytes, widths_of};
 use crate::stands::{Stands, as_loaded};
@@ -61,10 +59,7 @@ pub fn load_exact(
     keys: &Keys,
     seed: u8,
 ) -> Result<TableTried, AllocError>
-    requires parts { length layout.now ≤ 64 }
-    requires rows { All (λ (part : Ways). 1 ≤ part.rows) layout.now }
-    requires few_cells { cells_of layout.now < 2 ^ 32 }
-    requires few_keys { length keys.now < 2 ^ 32 }
+    requires { CanBeLoaded layout.now keys.now }
     ensures { IfOk result (IsTried layout.now seed keys.now) }
 {
     match load(alloc, layout, keys, seed) {

@@ -1,5 +1,6 @@
 -- The marks of nodes tell which may be taken next.
-use Rattle.std.proofs.Common.{◌≡◌, ℕ, ◌<◌, List, [], ◌∷◌, ◌++◌, length, get_or, set, filter, Bool, true, false, not, eqb, ◌&&◌, ◌||◌, inl, inr, sym, refl, subst, ap, ◌∙◌, arith}
+use Rattle.std.proofs.Math.Bool.{or-false, or-true}
+use Rattle.std.proofs.Common.{◌≡◌, ℕ, ◌<◌, List, [], ◌∷◌, ◌++◌, length, get_or, set, filter, Bool, true, false, not, eqb, ◌&&◌, ◌||◌, inl, inr, sym, subst, ap, ◌∙◌, arith}
 use Rattle.std.specs.List.{All, range_with_len}
 use Rattle.std.proofs.lemmas.Bool.{cases_eq, eq-eqb, ne_eqb}
 use Rattle.std.proofs.lemmas.List.{get_or-set_other, get_or-set_same, length-set}
@@ -39,16 +40,8 @@ taken_more taken marks m are lt n inside =
     elim (cases_eq m n) [
       | inl same ↦
           ap (λ k. get_or (set marks m true) k false) (sym same) ∙ get_or-set_same marks m true false lt
-          ∙ sym (split ∙ (ap (λ b. is_in taken n || (b || false)) (eq-eqb m n same) ∙ or_true (is_in taken n)))
+          ∙ sym (split ∙ (ap (λ b. is_in taken n || (b || false)) (eq-eqb m n same) ∙ or-true (is_in taken n)))
       | inr other ↦
           get_or-set_other marks m n true false (λ e. other (sym e)) ∙ are n (omega arith)
-          ∙ sym (split ∙ (ap (λ b. is_in taken n || (b || false)) (ne_eqb m n other) ∙ or_false (is_in taken n)))
+          ∙ sym (split ∙ (ap (λ b. is_in taken n || (b || false)) (ne_eqb m n other) ∙ or-false (is_in taken n)))
     ]
-  where
-    or_true : (b : Bool) → (b || true) ≡ true
-    or_true true = refl
-    or_true false = refl
-
-    or_false : (b : Bool) → (b || false) ≡ b
-    or_false true = refl
-    or_false false = refl

@@ -1,3 +1,4 @@
 pub mod Orders
 pub mod Steps
 pub mod Tries
+pub mod Words

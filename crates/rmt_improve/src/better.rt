@@ -1,16 +1,7 @@
 //! A better placement of a program than the rule's.
 
 ghost use Rattle.std.specs.Prelude.{◌≡◌, ◌≤◌, ◌<◌, ◌^◌, ℕ, All, AllPairs, Ok, IfErr, IfOk, MatchResult, length, true};
-ghost use Rattle.rmt_ast.specs.WellFormed.{IsProgram};
-ghost use Rattle.rmt_deps.specs.Edges.{GoForward};
-ghost use Rattle.rmt_deps.specs.Levels.{all_edges};
-ghost use Rattle.rmt_pack.specs.Placements.{IsLegal, Keeps, quanta_of};
-ghost use Rattle.rmt_pack.specs.declared.placement.Part.{Part};
-ghost use Rattle.rmt_place.specs.Needs.{demand_at, demands_of, keeps_limits};
-ghost use Rattle.rmt_place.specs.Placing.{AreTwo, IsPart, IsStuck, TellsWhy, placement, standing_in};
-ghost use Rattle.rmt_place.specs.Starting.{stages_in};
-ghost use Rattle.rmt_improve.specs.Steps.{as_try};
-ghost use Rattle.rmt_improve.specs.Tries.{best_try, better_placement};
+ghost use Rattle.rmt_improve.specs.Words.{AreTwo, GoForward, IsLegal, IsPart, IsProgram, IsStuck, Keeps, Part, TellsWhy, all_edges, demand_at, demands_of, keeps_limits, placement, quanta_of, stages_in, standing_in, as_try, best_try, better_placement};
 
 use crate::order::order_of_try;
 use crate::tries::{Tried, answer, better_of, try_order};

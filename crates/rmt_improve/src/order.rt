@@ -2,11 +2,8 @@
 
 ghost use Rattle.std.specs.Prelude.{◌≡◌, ℕ, ◌+◌, ◌<◌, ◌≤◌, ◌^◌, ◌||◌, ◌++◌, ◌∷◌, [], List, false, All, IfOk, IfSome, OnOk, filter, length, slice_index_or};
 ghost use Rattle.std.specs.List.{range_with_len};
-ghost use Rattle.rmt_deps.specs.Edges.{GoForward, GoesForward};
-ghost use Rattle.rmt_deps.specs.Levels.{all_edges};
+ghost use Rattle.rmt_improve.specs.Words.{GoForward, GoesForward, all_edges, AreTaken, is_free as is_free_by, is_held, listed, order_of_try as order_of_number};
 ghost use Rattle.rmt_improve.specs.Orders.{by_weight as order_by_weight, exchanged as exchanged_at, heaviest as heaviest_of, joins as edges_join};
-ghost use Rattle.rmt_improve.specs.Steps.{AreTaken, is_free as is_free_by, is_held, listed};
-ghost use Rattle.rmt_improve.specs.Tries.{order_of_try as order_of_number};
 
 use crate::weight::{blocks, heights};
 use rmt_ast::deps::{Deps, Edge};

@@ -2,11 +2,7 @@
 
 ghost use Rattle.std.specs.Prelude.{◌≡◌, ◌<◌, All, IfOk, List};
 ghost use Rattle.rmt_config.specs.Resources.{greatest_by};
-ghost use Rattle.rmt_deps.specs.Levels.{all_edges};
-ghost use Rattle.rmt_ast.specs.declared.deps.Edge.{Edge};
-ghost use Rattle.rmt_pack.specs.declared.placement.Part.{Part};
-ghost use Rattle.rmt_improve.specs.Steps.{IsRank};
-ghost use Rattle.rmt_improve.specs.Tries.{is_placed_better};
+ghost use Rattle.rmt_improve.specs.Words.{Edge, Part, all_edges, IsRank, is_placed_better};
 
 use rmt_ast::deps::Deps;
 use rmt_bits::fault::OutOfMemory;

@@ -1,11 +1,7 @@
 //! Tries at placing the nodes of a program.
 
 ghost use Rattle.std.specs.Prelude.{◌≡◌, ◌<◌, All, IfOk, List, Ok, MatchResult, if◌then◌else◌, length};
-ghost use Rattle.rmt_ast.specs.declared.deps.Edge.{Edge};
-ghost use Rattle.rmt_deps.specs.Levels.{all_edges};
-ghost use Rattle.rmt_place.specs.Placing.{IsStuck};
-ghost use Rattle.rmt_improve.specs.Steps.{IsRanked, as_try, placed_by};
-ghost use Rattle.rmt_improve.specs.Tries.{is_better as is_better_try, try_in};
+ghost use Rattle.rmt_improve.specs.Words.{Edge, IsStuck, all_edges, IsRanked, as_try, placed_by, is_better as is_better_try, try_in};
 
 use crate::rank::{Rank, is_better as is_better_rank, rank_of};
 use rmt_ast::deps::Deps;

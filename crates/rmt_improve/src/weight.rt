@@ -1,7 +1,7 @@
 //! How heavy the nodes of a program are.
 
 ghost use Rattle.std.specs.Prelude.{◌≡◌, All, IfOk, length, map, reverse};
-ghost use Rattle.rmt_deps.specs.Edges.{GoForward, GoesForward};
+ghost use Rattle.rmt_place.specs.Words.{GoForward, GoesForward};
 ghost use Rattle.rmt_improve.specs.Orders.{blocks_of, heights_of, turned as turned_edge};
 
 use rmt_ast::deps::{Deps, Edge};

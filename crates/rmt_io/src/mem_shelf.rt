@@ -116,17 +116,6 @@ impl MemShelf {
         ShelfFault::Failed
     }
 
-    /// Counts a fault of writing.
-    fn writing_fault(&mut self) -> ShelfFault
-        ensures value { result ≡ ShelfFault.Failed }
-        ensures counted { self.new ≡ record self.old { writing = raised self.old.writing } }
-        ensures rises { self.old.writing ≤ self.new.writing }
-        ensures rose { Rose self.old.writing self.new.writing }
-    {
-        self.writing = raise(self.writing);
-        ShelfFault::Failed
-    }
-
     /// Counts a call, and answers whether it is to fail.
     fn call(&mut self) -> bool
         ensures failing { result ≡ fails_next self.old.fails self.old.calls }
@@ -288,7 +277,8 @@ impl Shelf for MemShelf {
     {
         self.close();
         if self.call() {
-            return Err(self.writing_fault());
+            self.writing = raise(self.writing);
+            return Err(ShelfFault::Failed);
         }
         self.put_file(name, bytes)
     }

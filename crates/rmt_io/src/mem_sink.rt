@@ -1,7 +1,7 @@
 //! Output in memory.
 
 ghost use Rattle.std.specs.Prelude.{◌≡◌, [], ◌+◌, ◌-◌, ◌<◌, ◌≤◌, ◌++◌, length, min, take, IsTrue, IfOk, IsErr, OnErr};
-ghost use Rattle.rmt_io.specs.Calls.{fails_next, raised};
+ghost use Rattle.rmt_io.specs.Calls.{fails_next};
 ghost use Rattle.rmt_io.specs.Faults.{Rose};
 ghost use Rattle.rmt_io.specs.Outside.{OnlyPrinted};
 ghost use Rattle.rmt_io.specs.Taken.{MemoryBytes, sink_called, sink_state};
@@ -59,16 +59,6 @@ impl MemSink {
         &self.taken
     }
 
-    /// Counts a fault.
-    fn fault(&mut self) -> SinkFault
-        ensures counted { self.new ≡ record self.old { faults = raised self.old.faults } }
-        ensures rises { self.old.faults ≤ self.new.faults }
-        ensures rose { Rose self.old.faults self.new.faults }
-    {
-        self.faults = raise(self.faults);
-        SinkFault::Failed
-    }
-
     /// Counts a call, and answers whether it is to fail.
     fn call(&mut self) -> bool
         ensures failing { result ≡ fails_next self.old.fails self.old.calls }
@@ -111,12 +101,12 @@ impl Sink for MemSink {
         ensures failed { OnErr result (Rose self.old.faults self.new.faults) }
         ensures only_printed { OnlyPrinted (sink_state self.old) (sink_state self.new) }
     {
-        if self.call() {
-            return Err(self.fault());
+        if !self.call() {
+            if let Ok(count) = self.keep(piece) {
+                return Ok(count);
+            }
         }
-        match self.keep(piece) {
-            Ok(count) => Ok(count),
-            Err(_) => Err(self.fault()),
-        }
+        self.faults = raise(self.faults);
+        Err(SinkFault::Failed)
     }
 }

@@ -3,10 +3,9 @@
 ghost use Rattle.std.specs.Prelude.{◌≡◌, ◌≢◌, ◌↔◌, ℕ, Bool, false, List, Option, None, [], ◌+◌, ◌-◌, ◌^◌, ◌<◌, ◌≤◌, length, IfSome, IsSome, OnOk, OnErr, IsErrOf, option_copied, string_bytes};
 ghost use Rattle.std.specs.Io.{ReadsAtMost};
 ghost use Rattle.std.specs.Io.KnownBytes.{Appends, ReadConsumes};
-ghost use Rattle.rmt_io.specs.Calls.{raised};
 ghost use Rattle.rmt_io.specs.Faults.{Rose};
 ghost use Rattle.rmt_io.specs.Transfer.{left_in};
-ghost use Rattle.rmt_io.specs.Machine.{IsFaultNamed, IsFaultOf, name_kept};
+ghost use Rattle.rmt_io.specs.Machine.{IsFaultOf, WasTold, name_kept};
 
 use crate::calls::raise;
 use crate::shelf::{Shelf, ShelfFault};
@@ -159,8 +158,7 @@ impl<'a, R: Files> TrueShelf<'a, R> {
             IsFaultOf (string_bytes name.now) ErrorKind.FileTooLarge self.new.last }
 
         // A fault is counted, and its name is kept.
-        ensures counted { IsErrOf result ShelfFault.Failed → Rose self.old.reading self.new.reading }
-        ensures kept { IsErrOf result ShelfFault.Failed → IsFaultNamed (string_bytes name.now) self.new.last }
+        ensures told { IsErrOf result ShelfFault.Failed → WasTold (string_bytes name.now) self.old.reading self.new.reading self.new.last }
         ensures reading { self.old.reading ≤ self.new.reading }
         ensures writing { self.new.writing ≡ self.old.writing }
         ensures closed { self.new.opened ≡ None }
@@ -183,8 +181,7 @@ impl<'a, R: Files> TrueShelf<'a, R> {
         ensures never_too_long { IsErrOf result ShelfFault.TooLong → ⊥ }
 
         // A fault is counted, and its name is kept.
-        ensures counted { IsErrOf result ShelfFault.Failed → Rose self.old.writing self.new.writing }
-        ensures kept { IsErrOf result ShelfFault.Failed → IsFaultNamed (string_bytes name.now) self.new.last }
+        ensures told { IsErrOf result ShelfFault.Failed → WasTold (string_bytes name.now) self.old.writing self.new.writing self.new.last }
         ensures writing { self.old.writing ≤ self.new.writing }
         ensures reading { self.new.reading ≡ self.old.reading }
         ensures closed { self.new.opened ≡ None }
@@ -210,8 +207,7 @@ impl<'a, R: Files> TrueShelf<'a, R> {
         ensures never_too_long { IsErrOf result ShelfFault.TooLong → ⊥ }
 
         // A fault is counted, and its name is kept.
-        ensures counted { IsErrOf result ShelfFault.Failed → Rose self.old.reading self.new.reading }
-        ensures kept { IsErrOf result ShelfFault.Failed → IsFaultNamed (string_bytes name.now) self.new.last }
+        ensures told { IsErrOf result ShelfFault.Failed → WasTold (string_bytes name.now) self.old.reading self.new.reading self.new.last }
         ensures reading { self.old.reading ≤ self.new.reading }
         ensures writing { self.new.writing ≡ self.old.writing }
     {

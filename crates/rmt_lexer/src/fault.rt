@@ -1,9 +1,8 @@
 //! Faults of a program's text.
 
-ghost use Rattle.std.specs.Prelude.{◌≡◌};
-ghost use Rattle.rmt_lexer.specs.declared.fault.ProgramFault.TheVariants.{NoMemory};
+ghost use Rattle.rmt_lexer.specs.Fault.{IsNoMemory};
 
-use std::alloc::{AllocError, AllocFailed};
+use std::alloc::AllocError;
 use thiserror::Error;
 
 /// Why a program's text is refused.
@@ -25,17 +24,9 @@ pub enum ProgramFault {
 }
 
 impl From<AllocError> for ProgramFault {
-    ghost from_gives = { λ _ e. e ≡ NoMemory };
+    ghost from_gives = { IsNoMemory };
 
     fn from(_error: AllocError) -> ProgramFault {
-        ProgramFault::NoMemory
-    }
-}
-
-impl<T: Drop> From<AllocFailed<T>> for ProgramFault {
-    ghost from_gives = { λ _ e. e ≡ NoMemory };
-
-    fn from(_error: AllocFailed<T>) -> ProgramFault {
         ProgramFault::NoMemory
     }
 }

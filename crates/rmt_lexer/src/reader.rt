@@ -1,6 +1,6 @@
 //! All tokens of a text.
 
-ghost use Rattle.std.specs.Prelude.{◌≡◌, ◌<◌, length, IfOk};
+ghost use Rattle.std.specs.Prelude.{◌≡◌, ◌<◌, ◌++◌, ◌∷◌, [], length, IfOk, OnOk};
 ghost use Rattle.rmt_lexer.specs.Text.{EndsOnce, Gives, token_at, tokens_of};
 ghost use Rattle.rmt_lexer.specs.declared.fault.ProgramFault.TheVariants.{At};
 
@@ -8,7 +8,7 @@ use crate::fault::ProgramFault;
 use crate::item::{Item, item_of};
 use crate::position::{Position, moved};
 use crate::token::{Token, TokenKind};
-use std::alloc::Global;
+use std::alloc::{AllocError, Global};
 
 /// The tokens of a program's text, the last of them the end of the text. It takes time and memory in proportion to
 /// the text. Refused for want of memory, and at the earliest of: a byte outside comments that begins no token (code 1),
@@ -29,7 +29,7 @@ pub fn tokens(alloc: Global, text: &[u8]) -> Result<Vec<Token>, ProgramFault>
                 rest = behind;
             }
             Item::Token(what, len) => {
-                tokens.push(token_at(place, what))?;
+                put(&mut tokens, token_at(place, what))?;
                 let (taken, behind) = rest.split_at(len);
                 place = moved(place, taken);
                 rest = behind;
@@ -37,8 +37,16 @@ pub fn tokens(alloc: Global, text: &[u8]) -> Result<Vec<Token>, ProgramFault>
             Item::Fault(code) => return Err(fault_at(place, code)),
         }
     }
-    tokens.push(token_at(place, TokenKind::End))?;
+    put(&mut tokens, token_at(place, TokenKind::End))?;
     Ok(tokens)
+}
+
+/// Adds a token behind others.
+fn put(tokens: &mut Vec<Token>, token: Token) -> Result<(), AllocError>
+    ensures items { OnOk result (tokens.new.items ≡ tokens.old.items ++ token ∷ []) }
+{
+    tokens.push(token)?;
+    Ok(())
 }
 
 fn token_at(place: Position, what: TokenKind) -> Token

@@ -52,27 +52,12 @@ there_seen slots keys key ks slot same at found = ap (λ (k : List ℕ). is_at k
 pub first_seen : (firsts : List (Option ℕ)) (place : ℕ) (first : Option ℕ) → first ≡ get_or firsts place first → place < length firsts → first_at firsts place ≡ first
 first_seen firsts place first is within = sym (is ∙ get_or_default firsts place first None within)
 
--- the number that was looked up is that of the key's place
-pub own_placed : (slots : List ℕ) (firsts : List (Option ℕ)) (keys key ks ns : List ℕ) (slot place : ℕ) (first own : Option ℕ) → ks ≡ keys → ns ≡ key → slot ≡ slot_of slots key → place ≡ place_of (length slots) key
-    → place < length firsts → first ≡ get_or firsts place first → listed own ≡ cond (is_at ks slot ns) (listed first) [] → listed own ≡ placed slots firsts keys key
-own_placed slots firsts keys key ks ns slot place first own same_keys same_key at own_place within is result =
-    let here : first ≡ first_at firsts (place_of (length slots) key) = sym (first_seen firsts place first is within) ∙ ap (first_at firsts) own_place in
-    result ∙ ap (λ (k : List ℕ). cond (is_at k slot ns) (listed first) []) same_keys ∙ ap (λ (k : List ℕ). cond (is_at keys slot k) (listed first) []) same_key
-    ∙ ap (λ (n : ℕ). cond (is_at keys n key) (listed first) []) at ∙ ap (λ (f : Option ℕ). cond (is_at keys (slot_of slots key) key) (listed f) []) here
-
 module _ (slots : List ℕ) (firsts : List (Option ℕ)) (keys : List ℕ) (crowded : List (List ℕ × List ℕ)) (s : Stand slots firsts keys crowded) where
   placed_free : (key : List ℕ) → slot_of slots key ≡ 0 → placed slots firsts keys key ≡ []
   placed_free key free = rw free refl
 
   pub absent : (q : Vec ℕ Global) → slot_of slots q.items ≡ 0 → all_at slots firsts keys crowded q.items ≡ []
   absent q free = rw (placed_free q.items free, s.taken q free) refl
-
-  -- ---- the first number at a key
-  pub first_placed : (key : List ℕ) (n : ℕ) → listed (Some n) ≡ placed slots firsts keys key → slice_get (all_at slots firsts keys crowded key) 0 ≡ Some n
-  first_placed key n own = rw (← own) refl
-
-  pub first_crowded : (key : List ℕ) → listed None ≡ placed slots firsts keys key → slice_get (all_at slots firsts keys crowded key) 0 ≡ slice_get (paired crowded key) 0
-  first_crowded key own = rw (← own) refl
 
   -- ---- a key in a free place
   module _ (key : List ℕ) (number : ℕ) (free : slot_of slots key ≡ 0) (within : place_of (length slots) key < length slots) where

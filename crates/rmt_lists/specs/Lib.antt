@@ -1,3 +1,4 @@
+pub mod Entries
 pub mod Holding
 pub mod KeyNumbers
 pub mod Running

@@ -52,6 +52,12 @@ pub record AreHeld (tables : List Held) (lists : List (List Entry)) : Type 0 whe
   pub count : length tables ≡ length lists
   pub each : (node : ℕ) (h : Held) → slice_get tables node ≡ Some h → Holds h (list_of lists node)
 
+-- a run had no more additions than it may have, and a number is left for each that may still come
+pub record HasRoom (next taken most : ℕ) : Type 0 where
+  pub few : taken ≤ most
+  pub at_most : most ≤ 1048576
+  pub room : next ≤ 4293918720 + taken
+
 -- lists stand for a run
 pub record Stands (r : Running) (l : Lists) : Type 0 where
   pub names : l.names ≡ r.names
@@ -63,9 +69,7 @@ pub record Stands (r : Running) (l : Lists) : Type 0 where
   pub held : AreHeld l.held.items r.now.lists
   pub taken : l.taken ≡ r.taken
   pub most : l.most ≡ r.most
-  pub few : r.taken ≤ r.most
-  pub at_most : r.most ≤ 1048576
-  pub room : r.now.next ≤ 4293918720 + r.taken
+  pub numbers : HasRoom r.now.next r.taken r.most
 
 -- the lists stand for the run that there is
 abbrev pub StandsFor : Result Running ℕ → Lists → Type 0

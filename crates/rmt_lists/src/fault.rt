@@ -72,11 +72,3 @@ impl From<AllocError> for ChangeFault {
         ChangeFault::NoMemory
     }
 }
-
-impl<T: Drop> From<AllocFailed<T>> for ChangeFault {
-    ghost from_gives = { λ _ e. e ≡ NoMemory };
-
-    fn from(_error: AllocFailed<T>) -> ChangeFault {
-        ChangeFault::NoMemory
-    }
-}

@@ -1,10 +1,8 @@
 //! What a table holds, found by keys.
 
 ghost use Rattle.std.specs.Prelude.{◌≡◌, ◌<◌, ◌&&◌, ◌++◌, ◌∷◌, [], IsTrue, IfNone, IfOk, OnOk, OnErr, List, slice_get};
-ghost use Rattle.rmt_ast.specs.Changes.{EntryKey, without};
-ghost use Rattle.rmt_ast.specs.declared.entry.Entry.{Entry};
+ghost use Rattle.rmt_lists.specs.Entries.{Entry, EntryKey, has_keys_once, without};
 ghost use Rattle.rmt_lists.specs.Holding.{Holds, keyed_numbers, spelled};
-ghost use Rattle.rmt_entries.specs.Entries.{has_keys_once};
 ghost use Rattle.rmt_lists.specs.Running.{holds, key_of_entry, refusal_of};
 
 use crate::key_numbers::KeyNumbers;
@@ -106,12 +104,7 @@ fn is_repeated(held: &Held, kind: Kind, key: &Vec<u128>) -> bool
 fn has_keys_once(kind: Kind) -> bool
     ensures { result ≡ has_keys_once kind }
 {
-    match kind {
-        Kind::Keyless => false,
-        Kind::Exact => true,
-        Kind::Prefix => true,
-        Kind::Ternary => false,
-    }
+    matches!(kind, Kind::Exact | Kind::Prefix)
 }
 
 /// A key as numbers, in which no two keys are alike. The only fault is want of memory.

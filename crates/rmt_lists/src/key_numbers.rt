@@ -3,8 +3,8 @@
 
 ghost use Rattle.std.specs.Prelude.{◌≡◌, ◌≢◌, ◌<◌, ◌≤◌, ◌+◌, ◌-◌, ◌++◌, ◌∷◌, [], None, true, IfOk, OnOk, OnErr, Vec as Words, bytes_eq, drop, if◌then◌else◌, length, slice_get, slice_index_or};
 ghost use Rattle.std.specs.Global.{Global as Memory};
-ghost use Rattle.rmt_entries.specs.KeySets.{is_at};
-ghost use Rattle.rmt_lists.specs.KeyNumbers.{listed, numbers_at, queued};
+ghost use Rattle.rmt_entries.specs.KeySets.{is_at, place_of};
+ghost use Rattle.rmt_lists.specs.KeyNumbers.{listed, numbers_at, placed, queued};
 
 use rmt_entries::key_set::{is_list_at, place_of, put_list};
 use std::alloc::{AllocError, Global};
@@ -54,17 +54,10 @@ impl KeyNumbers {
         ensures { result ≡ slice_get (numbers_at self.now key.now) 0 }
     {
         let place = place_of(self.slots.len(), key.as_slice());
-        let slot = self.slots[place];
-        if slot == 0 {
+        if self.slots[place] == 0 {
             return None;
         }
-        let own = own_number(
-            self.keys.as_slice(),
-            slot,
-            self.firsts[place],
-            key.as_slice(),
-        );
-        match own {
+        match self.own_at(place, key.as_slice()) {
             Some(number) => Some(number),
             None => first_queued(&self.crowded, key),
         }
@@ -103,29 +96,24 @@ impl KeyNumbers {
             (if bytes_eq key.now.items q.items then drop 1 (numbers_at self.old q) else numbers_at self.old q) }
     {
         let place = place_of(self.slots.len(), key.as_slice());
-        let slot = self.slots[place];
-        let own = own_number(
-            self.keys.as_slice(),
-            slot,
-            self.firsts[place],
-            key.as_slice(),
-        );
-        match own {
+        match self.own_at(place, key.as_slice()) {
             Some(_) => self.firsts[place] = None,
             None => pop_queued(&mut self.crowded, key),
         }
     }
-}
 
-/// The first number of a key's place, if the place is that of the key.
-fn own_number(keys: &[u128], slot: u32, first: Option<u32>, key: &[u128]) -> Option<u32>
-    requires { slot ≢ 0 → slot + slice_index_or keys.now (slot - 1) 0 ≤ length keys.now }
-    ensures { listed result ≡ (if is_at keys.now slot key.now then listed first else []) }
-{
-    if slot > 0 && is_list_at(keys, slot as usize - 1, key) {
-        first
-    } else {
-        None
+    /// The first number of a key's place, if the place is that of the key.
+    fn own_at(&self, place: usize, key: &[u128]) -> Option<u32>
+        requires own { place ≡ place_of (length self.now.0) key.now }
+        requires within { place < length self.now.0 }
+        ensures { listed result ≡ placed self.now.0 self.now.1.0 self.now.1.1.0 key.now }
+    {
+        let slot = self.slots[place];
+        if slot > 0 && is_list_at(self.keys.as_slice(), slot as usize - 1, key) {
+            self.firsts[place]
+        } else {
+            None
+        }
     }
 }
 

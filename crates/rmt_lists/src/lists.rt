@@ -3,13 +3,10 @@
 ghost use Rattle.std.specs.Prelude.{◌≡◌, ◌<◌, ◌≤◌, ◌+◌, ◌-◌, All, Err, None, Some, IfErr, IfOk, IsTrue, OnErr, OnOk, length, slice_get, slice_set};
 ghost use Rattle.std.specs.BTreeSet.{insert_key};
 ghost use Rattle.std.specs.Ordering.{nat_cmp};
-ghost use Rattle.std.specs.List.{flat_map};
-ghost use Rattle.rmt_ast.specs.Answers.{entry_numbers};
-ghost use Rattle.rmt_ast.specs.NameRules.{AreEntriesOf, names_are_formed, terms_named};
-ghost use Rattle.rmt_entries.specs.NamedLines.{IsNamedEntry, named_entry, named_key};
+ghost use Rattle.rmt_lists.specs.Entries.{AreEntriesOf, IsNamedEntry, entry_numbers, flat_map, names_are_formed, terms_named};
 ghost use Rattle.rmt_lists.specs.declared.held.Held.{Held as HeldOf};
 ghost use Rattle.rmt_lists.specs.Holding.{spelled};
-ghost use Rattle.rmt_lists.specs.Running.{AreChanges, Running, added_to, commit_of, fresh, is_change, key_of_entry, line_change, removed_from, with_entry, with_one, without_key};
+ghost use Rattle.rmt_lists.specs.Running.{AreChanges, Running, added_to, commit_of, fresh, is_change, key_of_entry, line_change, removed_from, with_one};
 ghost use Rattle.rmt_lists.specs.Stands.{IsRefusal, Stands, StandsFor};
 
 use crate::fault::{ChangeFault, UpdateFault};
@@ -103,22 +100,12 @@ impl Lists {
             return Err(ChangeFault::Refused { code: 5 });
         }
         if begins(b'+', line) {
-            self.add_line(alloc, behind_sign(line))
+            let entry = read_entry(alloc, &self.names, behind_sign(line))?;
+            self.add(alloc, entry)
         } else {
-            self.remove_line(alloc, behind_sign(line))
+            let key = read_key(alloc, &self.names, behind_sign(line))?;
+            self.remove(alloc, key)
         }
-    }
-
-    /// Adds the entry that a line says.
-    fn add_line(&mut self, alloc: Global, line: &[u8]) -> Result<(), ChangeFault>
-        requires stands { (r : Running) × Stands r self.old }
-        ensures changed { OnOk result ((r : Running) → Stands r self.old → StandsFor (with_entry r (named_entry r.names line.now)) self.new) }
-        ensures fault { IfErr result (λ fault. IsRefusal fault (λ code. (r : Running) → Stands r self.old →
-            with_entry r (named_entry r.names line.now) ≡ Err code)) }
-        ensures kept { OnErr result ((r : Running) → Stands r self.old → Stands r self.new) }
-    {
-        let entry = read_entry(alloc, &self.names, line)?;
-        self.add(alloc, entry)
     }
 
     /// Adds an entry that the names allow.
@@ -166,18 +153,6 @@ impl Lists {
         }));
         self.taken += 1;
         Ok(())
-    }
-
-    /// Removes the entry that a line names.
-    fn remove_line(&mut self, alloc: Global, line: &[u8]) -> Result<(), ChangeFault>
-        requires stands { (r : Running) × Stands r self.old }
-        ensures changed { OnOk result ((r : Running) → Stands r self.old → StandsFor (without_key r (named_key r.names line.now)) self.new) }
-        ensures fault { IfErr result (λ fault. IsRefusal fault (λ code. (r : Running) → Stands r self.old →
-            without_key r (named_key r.names line.now) ≡ Err code)) }
-        ensures kept { OnErr result ((r : Running) → Stands r self.old → Stands r self.new) }
-    {
-        let key = read_key(alloc, &self.names, line)?;
-        self.remove(alloc, key)
     }
 
     /// Removes the entry of a key.

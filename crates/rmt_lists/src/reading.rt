@@ -1,9 +1,7 @@
 //! What the lines of changes say.
 
 ghost use Rattle.std.specs.Prelude.{◌≡◌, ◌==◌, drop, find, option_copied, option_map, Err, Ok, IfErr, IfOk, IsErr, IsTrue};
-ghost use Rattle.rmt_ast.specs.declared.names.TableName.{TableName};
-ghost use Rattle.rmt_ast.specs.NameRules.{names_are_formed, terms_named};
-ghost use Rattle.rmt_entries.specs.NamedLines.{IsNamedEntry, named_entry, named_key};
+ghost use Rattle.rmt_lists.specs.Entries.{IsNamedEntry, TableName, named_entry, named_key, names_are_formed, terms_named};
 ghost use Rattle.rmt_lists.specs.Running.{begins, kind_and_size};
 ghost use Rattle.rmt_lists.specs.Stands.{IsRefusal};
 

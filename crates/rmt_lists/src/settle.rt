@@ -1,10 +1,7 @@
 //! The tables as a commit leaves them.
 
 ghost use Rattle.std.specs.Prelude.{◌≡◌, ◌<◌, ◌≤◌, ◌+◌, ℕ, [], All, AllPairs, IfOk, IfSome, IsTrue, OnErr, OnOk, Some, filter, length, not, slice_get, vec_capacity};
-ghost use Rattle.std.specs.List.{flat_map};
-ghost use Rattle.rmt_ast.specs.Answers.{entry_numbers};
-ghost use Rattle.rmt_ast.specs.Changes.{list_of};
-ghost use Rattle.rmt_ast.specs.declared.entry.Entry.{Entry as EntryOf};
+ghost use Rattle.rmt_lists.specs.Entries.{Entry as EntryOf, entry_numbers, flat_map, list_of};
 ghost use Rattle.rmt_lists.specs.declared.held.Held.{Held as HeldOf};
 ghost use Rattle.rmt_lists.specs.Running.{is_among};
 ghost use Rattle.rmt_lists.specs.Settled.{Extends, ExtendsInPart, keeps};

@@ -1,10 +1,7 @@
 //! What a run begins with.
 
 ghost use Rattle.std.specs.Prelude.{◌≡◌, ◌<◌, ◌≤◌, ◌+◌, All, IfOk, fold, length, max};
-ghost use Rattle.std.specs.List.{flat_map};
-ghost use Rattle.rmt_ast.specs.Answers.{entry_numbers};
-ghost use Rattle.rmt_ast.specs.Changes.{next_number};
-ghost use Rattle.rmt_ast.specs.declared.entry.Entry.{Entry};
+ghost use Rattle.rmt_lists.specs.Entries.{Entry, entry_numbers, flat_map, next_number};
 ghost use Rattle.rmt_lists.specs.Holding.{Holds};
 ghost use Rattle.rmt_lists.specs.Stands.{AreHeld};
 

@@ -5,7 +5,7 @@ use Rattle.std.specs.Int.{bit_at}
 use Rattle.std.proofs.lemmas.Bool.{cases_lt, cases_eq, eqb-true, eq-eqb}
 use Rattle.std.proofs.lemmas.Grind.{same_number_lists, get_or_default_zero}
 use Rattle.std.proofs.lemmas.List.{get_or_past, get_or-set_same, get_or-set_other, length-set}
-use Rattle.std.proofs.lemmas.Nat.{and_le_r}
+use Rattle.std.proofs.lemmas.Nat.{and_le_r, mul-le}
 use Rattle.rmt_bits.specs.Bits.{slice}
 use Rattle.rmt_bits.specs.Grouping.{Compared}
 use Rattle.rmt_bits.proofs.BitLaws.{slice-and, slice-lt}
@@ -21,6 +21,25 @@ pub vector-more : (w row first n : ℕ) (value : ℕ → Bool) (old new : List �
     → ((x : ℕ) → x < n → bit_in old w (first + x) row ≡ bit_if (value x)) → (x : ℕ) → x < n + 1 → bit_in new w (first + x) row ≡ bit_if (value x)
 vector-more w row first n value old new inside others here before =
     below_more (λ x. bit_in new w (first + x) row ≡ bit_if (value x)) n (λ x lt. others (first + x) row inside (λ same. absurd (omega (arith, same, lt))) ∙ before x lt) here
+
+-- the bits of one of some vectors behind one another are among those of all
+pub bits-below : (w first count n : ℕ) → n < count → (first + n + 1) * w ≤ (first + count) * w
+bits-below w first count n lt = mul-le (first + n + 1) w (first + count) w (omega (arith, lt)) (omega arith)
+
+-- a row has its bits in the first n of `count` vectors, and all other bits are as they were
+pub record RowBits (w row first count n : ℕ) (value : ℕ → Bool) (was bits : List ℕ) : Type 0 where
+  pub size : length bits ≡ length was
+  pub set : (x : ℕ) → x < n → bit_in bits w (first + x) row ≡ bit_if (value x)
+  pub others : (v r : ℕ) → r < 64 * w → (first ≤ v → v < first + count → r ≢ row) → bit_in bits w v r ≡ bit_in was w v r
+
+pub bits-more : (w row first count n : ℕ) (value : ℕ → Bool) (was old new : List ℕ) → row < 64 * w → n < count → RowBits w row first count n value was old
+    → length new ≡ length old → bit_in new w (first + n) row ≡ bit_if (value n) → ((v r : ℕ) → r < 64 * w → (v ≡ first + n → r ≢ row) → bit_in new w v r ≡ bit_in old w v r)
+    → RowBits w row first count (n + 1) value was new
+bits-more w row first count n value was old new inside within h size here others = record {
+  size = size ∙ h.size;
+  set = vector-more w row first n value old new inside others here h.set;
+  others = λ v r lt differ. others v r lt (λ same. differ (omega (arith, same)) (omega (arith, same, within))) ∙ h.others v r lt differ;
+}
 
 -- ---- masks and values
 

@@ -19,7 +19,7 @@ use crate::marks::{Marks, marks_of};
 use crate::memory::SlotMemory;
 use crate::runs::{Runs, no_runs, run_at, zeros};
 use crate::ternary::sliced_of;
-use rmt_config::config::{CellNumber, SlotUnit, SramRow, Stage};
+use rmt_config::config::{CellNumber, Memory, SlotUnit, SramRow, Stage};
 use rmt_config::form::lane::key_bits;
 use rmt_config::form::parts::{exact_keys, exact_records, ternary_records};
 use rmt_config::part_ways::PartWays;
@@ -136,29 +136,68 @@ fn exact_data(
     runs_of(alloc, &layout, records, rows, numbers, 0, held as u64)
 }
 
+/// How an exact part keeps its keys.
+#[derive(Clone, Copy, Debug)]
+pub struct ExactFormat {
+    /// How many blocks stand side by side for a key.
+    pub width: u8,
+    /// How many keys stand in a row of these blocks.
+    pub per: u16,
+    /// How many quanta of 4 ways the part has.
+    pub quanta: u8,
+    /// The number of its first way.
+    pub first_way: u8,
+}
+
+/// The format of a memory, which is all 0 where the memory is not exact.
+pub fn exact_format(memory: &Memory) -> ExactFormat
+    ensures { (k p d w : ℕ) (ks rs cs : List ℕ) → memory.now ≡ Exact k p d w ks rs cs →
+        result ≡ record { width = k; per = p; quanta = d; first_way = w } }
+{
+    match memory {
+        Memory::Exact {
+            width,
+            per,
+            quanta,
+            first_way,
+            ..
+        } => ExactFormat {
+            width: *width,
+            per: *per,
+            quanta: *quanta,
+            first_way: *first_way,
+        },
+        Memory::Without | Memory::Ternary { .. } => ExactFormat {
+            width: 0,
+            per: 0,
+            quanta: 0,
+            first_way: 0,
+        },
+    }
+}
+
 /// The memory of an exact part.
 pub fn lay_exact(
     alloc: Global,
     stage: &Stage,
     slot: &SlotUnit,
-    width: u8,
-    per: u16,
-    quanta: u8,
-    first_way: u8,
+    format: ExactFormat,
     keys: &[u8],
     records: &[u8],
 ) -> Result<SlotMemory, AllocError>
     requires rows { FormedRows stage.now }
-    requires fits { ExactFits slot.now width per quanta keys.now records.now }
-    requires ways { first_way + 3 < 256 }
-    requires numbers { NumbersFit slot.now (4096 * quanta * per) }
+    requires fits { ExactFits slot.now format.width format.per format.quanta keys.now records.now }
+    requires ways { format.first_way + 3 < 256 }
+    requires numbers { NumbersFit slot.now (4096 * format.quanta * format.per) }
     ensures laid { IfOk result (λ m. (cs : List ℕ) →
-        Laid stage.now (record slot.now { memory = Exact width per quanta first_way keys.now records.now cs }) m) }
+        Laid stage.now (record slot.now { memory = Exact format.width format.per format.quanta format.first_way keys.now records.now cs }) m) }
 {
+    let per = format.per;
+    let quanta = format.quanta;
     let rows = stage.srows.as_slice();
     let numbers = slot.numbers.as_slice();
     let bits = key_bits(slot.keys.as_slice());
-    let layout = exact_keys(width, per, quanta, bits);
+    let layout = exact_keys(format.width, per, quanta, bits);
     let heads = runs_of(alloc, &layout, keys, rows, numbers, 0, 8)?;
     let found = runs_of(alloc, &layout, keys, rows, numbers, 8, bits)?;
     let held = exact_data(alloc, rows, numbers, per, quanta, slot.held, records)?;
@@ -167,7 +206,7 @@ pub fn lay_exact(
     let cells = cells_of(alloc, count, tail, numbers, &heads, &found, &held)?;
     let marks = marks_of(alloc, &cells, found.size)?;
     let ways = PartWays {
-        first: first_way,
+        first: format.first_way,
         rows: 1024 * quanta as u32,
         per,
     };

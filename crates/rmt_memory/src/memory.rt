@@ -9,7 +9,7 @@ use crate::changes::{clear_head, set_run};
 use crate::entry_number::{number_bytes, number_in};
 use crate::exact::place_of;
 use crate::keys::{Keys, hide_key, put_key};
-use crate::lay::{lay_exact, lay_ternary, without};
+use crate::lay::{exact_format, lay_exact, lay_ternary, without};
 use crate::looked::Looked;
 use crate::marks::{Marks, mark, may_have};
 use crate::runs::{Runs, run_at};
@@ -76,27 +76,14 @@ impl SlotMemory {
     {
         match &slot.memory {
             Memory::Without => Ok(without(alloc)),
-            Memory::Exact {
-                width,
-                per,
-                quanta,
-                first_way,
-                keys,
-                records,
-                ..
-            } => {
-                lay_exact(
-                    alloc,
-                    stage,
-                    slot,
-                    *width,
-                    *per,
-                    *quanta,
-                    *first_way,
-                    keys.as_slice(),
-                    records.as_slice(),
-                )
-            }
+            Memory::Exact { keys, records, .. } => lay_exact(
+                alloc,
+                stage,
+                slot,
+                exact_format(&slot.memory),
+                keys.as_slice(),
+                records.as_slice(),
+            ),
             Memory::Ternary {
                 quanta,
                 keys,

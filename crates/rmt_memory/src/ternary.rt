@@ -4,8 +4,7 @@ ghost use Rattle.std.specs.Prelude.{◌≡◌, ℕ, ◌+◌, ◌*◌, ◌/◌, �
 ghost use Rattle.std.specs.List.{range_with_len};
 ghost use Rattle.rmt_bits.specs.Bits.{slice as slice_of, number_of};
 ghost use Rattle.rmt_config.specs.Cells.{tcam_row};
-ghost use Rattle.rmt_config.specs.declared.config.TcamRow.{TcamRow};
-ghost use Rattle.rmt_config.specs.declared.config.CellNumber.{CellNumber};
+ghost use Rattle.rmt_memory.specs.Types.{CellNumber, TcamRow};
 ghost use Rattle.rmt_config.specs.PrefixRow.{PrefixRows};
 ghost use Rattle.rmt_bits.specs.Grouping.{Compared};
 ghost use Rattle.rmt_memory.specs.KeyWords.{words_of, words_of_key};

@@ -140,23 +140,31 @@ entry-stays old new bs each u row at e x u' row' at' apart small p other =
         ∙ ap (λ n. slice (unit_row 112 old n (blocks_at bs each u)) (at' * e) e) (sym er)
         ∙ ap (λ n. slice (unit_row 112 old row' (blocks_at bs each n)) (at' * e) e) (sym eu)
 
--- units with no bit from an end on keep that where bits below it are put
-pub ends-stay : (old new : Blocks) (bs : List ℕ) (each u row low len x end : ℕ) → AllPairs ◌≢◌ bs → low + len ≤ end → x < 2 ^ len
-    → PutsBits old new row (blocks_at bs each u) low len x → EndsAt 112 old bs each end → EndsAt 112 new bs each end
-ends-stay old new bs each u row low len x end apart fits small p ends u' row' =
-    elim (cases_eq u' u) as (λ _. unit_row 112 new row' (blocks_at bs each u') < 2 ^ end) [
+-- units with no bit from an end on keep that where one row of one unit is written that keeps it
+pub ends-kept : (size : ℕ) (old new : Blocks) (bs : List ℕ) (each u row end : ℕ) → unit_row size new row (blocks_at bs each u) < 2 ^ end
+    → ((u' row' : ℕ) → (u' ≡ u → row' ≡ row → ⊥) → unit_row size new row' (blocks_at bs each u') ≡ unit_row size old row' (blocks_at bs each u'))
+    → EndsAt size old bs each end → EndsAt size new bs each end
+ends-kept size old new bs each u row end here others ends u' row' =
+    elim (cases_eq u' u) as (λ _. unit_row size new row' (blocks_at bs each u') < 2 ^ end) [
       | inr ne ↦ elsewhere (λ eu er. ne eu)
-      | inl eu ↦ elim (cases_eq row' row) as (λ _. unit_row 112 new row' (blocks_at bs each u') < 2 ^ end) [
+      | inl eu ↦ elim (cases_eq row' row) as (λ _. unit_row size new row' (blocks_at bs each u') < 2 ^ end) [
         | inr ne ↦ elsewhere (λ _ er. ne er)
         | inl er ↦
-            subst (λ (k : ℕ). unit_row 112 new k (blocks_at bs each u') < 2 ^ end) (sym er)
-            (subst (λ (k : ℕ). unit_row 112 new row (blocks_at bs each k) < 2 ^ end) (sym eu)
-            (subst (λ (k : ℕ). k < 2 ^ end) (sym p.here) (deposit-lt (unit_row 112 old row (blocks_at bs each u)) low len x end fits (ends u row) small)))
+            subst (λ (k : ℕ). unit_row size new k (blocks_at bs each u') < 2 ^ end) (sym er)
+            (subst (λ (k : ℕ). unit_row size new row (blocks_at bs each k) < 2 ^ end) (sym eu) here)
       ]
     ]
   where
-    elsewhere : (u' ≡ u → row' ≡ row → ⊥) → unit_row 112 new row' (blocks_at bs each u') < 2 ^ end
-    elsewhere not_here = subst (λ (k : ℕ). k < 2 ^ end) (sym (row-other old new bs each u row low len x u' row' apart p not_here)) (ends u' row')
+    elsewhere : (u' ≡ u → row' ≡ row → ⊥) → unit_row size new row' (blocks_at bs each u') < 2 ^ end
+    elsewhere not_here = subst (λ (k : ℕ). k < 2 ^ end) (sym (others u' row' not_here)) (ends u' row')
+
+-- so they do where bits below the end are put
+pub ends-stay : (old new : Blocks) (bs : List ℕ) (each u row low len x end : ℕ) → AllPairs ◌≢◌ bs → low + len ≤ end → x < 2 ^ len
+    → PutsBits old new row (blocks_at bs each u) low len x → EndsAt 112 old bs each end → EndsAt 112 new bs each end
+ends-stay old new bs each u row low len x end apart fits small p ends =
+    ends-kept 112 old new bs each u row end
+    (subst (λ (k : ℕ). k < 2 ^ end) (sym p.here) (deposit-lt (unit_row 112 old row (blocks_at bs each u)) low len x end fits (ends u row) small))
+    (λ u' row'. row-other old new bs each u row low len x u' row' apart p) ends
 
 -- ---- rows that are all 0
 

@@ -59,14 +59,9 @@ small_last : entry_of (one 7 1023 (7 * 2 ^ 56)) small 16383 ≡ 7
 small_last = refl
 
 -- seven records a row, two record units a quantum
-small_record : record_of (one 8 0 0xbeef) small 0 ≡ 0xbeef
-small_record = refl
-
-small_record_beside : record_of (one 8 0 (0xbeef * 2 ^ 16)) small 1 ≡ 0xbeef
-small_record_beside = refl
-
-small_record_last : record_of (one 11 146 (0xbeef * 2 ^ 16)) small 16383 ≡ 0xbeef
-small_record_last = refl
+small_records : (record_of (one 8 0 0xbeef) small 0 ≡ 0xbeef) × (record_of (one 8 0 (0xbeef * 2 ^ 16)) small 1 ≡ 0xbeef)
+    × (record_of (one 11 146 (0xbeef * 2 ^ 16)) small 16383 ≡ 0xbeef)
+small_records = (refl, refl, refl)
 
 -- ---- keys of other lengths, each in the last position of the first row
 
@@ -124,11 +119,7 @@ ternary = record { memory = 2; key = 40; width = 0; per = 0; quanta = 2; held = 
 ternary-part : IsShape ternary
 ternary-part = ternary-is ternary 0 2 refl (omega arith) (omega arith) (omega arith) (omega arith) refl refl (omega arith) refl refl refl (omega arith)
 
-ternary-rows : cells_in ternary ≡ 4096
-ternary-rows = refl
-
-ternary_first : record_of (one 0 0 0xabcdef) ternary 0 ≡ 0xabcdef
-ternary_first = refl
-
-ternary_last : record_of (one 1 511 (0xabcdef * 2 ^ 72)) ternary 4095 ≡ 0xabcdef
-ternary_last = refl
+-- how many records, the first, and the last
+ternary_records : (cells_in ternary ≡ 4096) × (record_of (one 0 0 0xabcdef) ternary 0 ≡ 0xabcdef)
+    × (record_of (one 1 511 (0xabcdef * 2 ^ 72)) ternary 4095 ≡ 0xabcdef)
+ternary_records = (refl, refl, refl)

@@ -1,6 +1,6 @@
 -- What the tables of a well-formed program need.
 use Rattle.std.proofs.Common.{◌≡◌, ℕ, ◌*◌, ◌^◌, ◌<◌, ◌≤◌, List, [], ◌∷◌, Option, Some, None, map, length, refl, ap, sym, subst, arith, unwrap_or}
-use Rattle.std.specs.Prelude.{All, sum, slice_get, option_map}
+use Rattle.std.specs.Prelude.{All, IfSome, sum, slice_get, option_map}
 use Rattle.std.proofs.lemmas.List.Elements.{All-nil, All-cons, All-head, All-map, All-weaker}
 use Rattle.std.proofs.lemmas.List.Sums.{sum_by-cons, sum_by-le}
 use Rattle.rmt_bits.proofs.AllLaws.{All-slice_get}
@@ -12,10 +12,13 @@ use Rattle.rmt_ast.specs.declared.program.Action.{Action}
 use Rattle.rmt_ast.specs.declared.program.Table.{Table}
 use Rattle.rmt_ast.specs.declared.program.Kind.{Kind}
 use Rattle.rmt_ast.specs.declared.program.Kind.TheVariants.{Keyless, Exact, Prefix, Ternary}
+use Rattle.rmt_ast.specs.declared.program.What.TheVariants.{Apply}
 use Rattle.rmt_ast.specs.State.{width_of}
 use Rattle.rmt_ast.specs.WellFormed.{IsProgram, IsTable, IsKeyed, HasKey, IsAction, IsWidth, bits_of}
-use Rattle.rmt_pack.specs.Formats.{IsNeed, HasNeed}
-use Rattle.rmt_pack.specs.Placements.{key_bits, data_bits, param_bits, table_need}
+use Rattle.rmt_pack.specs.declared.format.Need.{Need}
+use Rattle.rmt_pack.specs.Formats.{IsFormat, IsNeed, HasNeed, memory_format, no_memory}
+use Rattle.rmt_pack.specs.Placements.{IsNodeFormat, key_bits, data_bits, param_bits, table_need}
+use Rattle.rmt_pack.proofs.FormatLaws.{exact_format-taken}
 
 -- the parameters of an action have at most 2,048 bits
 params-few : (params : List ℕ) → All IsWidth params → length params ≤ 16 → sum params ≤ 2048
@@ -89,3 +92,21 @@ params-small p is t = every (λ a. param_bits p a < 2 ^ 32) (λ a. omega (arith,
 
 pub table_has_need : (p : Program) → IsProgram p → (t : Table) → IsTable p t → HasNeed t.kind (table_need p t)
 table_has_need p is t table = has_need_of_kind p is t t.kind table.key
+
+-- ---- the format of a node
+
+format_is : (kind : Kind) (n : Need) → HasNeed kind n → IsFormat kind n (memory_format kind n)
+format_is Keyless n need = refl
+format_is Exact n need = (exact_format-taken n need).format
+format_is Prefix n need = refl
+format_is Ternary n need = refl
+
+-- the format that the rule gives a table is one of its formats
+pub own_format : (p : Program) → IsProgram p → (t : ℕ)
+    → IsNodeFormat p (Apply t) (unwrap_or (option_map (λ (x : Table). memory_format x.kind (table_need p x)) (slice_get p.tables t)) no_memory)
+own_format p is t = at (slice_get p.tables t) refl
+  where
+    at : (o : Option Table) → slice_get p.tables t ≡ o
+        → IfSome o (λ (x : Table). IsFormat x.kind (table_need p x) (unwrap_or (option_map (λ (y : Table). memory_format y.kind (table_need p y)) o) no_memory))
+    at None found = tt
+    at (Some x) found = format_is x.kind (table_need p x) (has_need p is t x found)

@@ -2,12 +2,18 @@
 use Rattle.std.proofs.Common.{◌≡◌, ℕ, ◌+◌, ◌*◌, ◌^◌, ◌<◌, ◌≤◌, List, length, get_or, set, cond, ltb, sym, ap, ◌∙◌, subst, inl, inr}
 use Rattle.std.specs.Prelude.{All}
 use Rattle.std.proofs.lemmas.Bool.{cases_lt, lt-ltb, le-ltb}
-use Rattle.std.proofs.lemmas.List.{get_or-set_same, get_or-set_other}
+use Rattle.std.proofs.lemmas.List.{get_or_read, get_or-set_same, get_or-set_other}
 use Rattle.std.proofs.Math.ListN.{get_or-eq_default}
 use Rattle.std.proofs.lemmas.Nat.{same_from_place, pow_pos}
 use Rattle.rmt_config.proofs.UnitBits.{Within}
 use Rattle.rmt_pack.specs.declared.rows.Rows.{Rows}
 use Rattle.rmt_pack.specs.Rows.{blocks_of}
+
+-- what is read of a row of a block, where each block has so many rows
+pub row_read : (size : ℕ) (xs : List ℕ) (block row got : ℕ) → row < size → block * size + row < length xs
+    → got ≡ get_or xs (block * size + row) got → got ≡ cond (ltb row size) (get_or xs (block * size + row) 0) 0
+row_read size xs block row got lt there is =
+    get_or_read xs (block * size + row) got there is 0 ∙ sym (ap (λ b. cond b (get_or xs (block * size + row) 0) 0) (lt-ltb row size lt))
 
 abbrev pub row_at : List ℕ → ℕ → ℕ → ℕ
 row_at xs block row = cond (ltb row 1024) (get_or xs (block * 1024 + row) 0) 0

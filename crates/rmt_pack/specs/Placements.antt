@@ -71,13 +71,11 @@ tables_in p parts stage = count_by (λ node. is_table_at p node && nat_lt 0 (qua
 
 -- ---- legal placements
 
--- Whether an edge asks for a later stage. A word edge asks for one too; but a legal placement is asked for field edges alone.
+-- Whether an edge asks for a later stage, as all but two kinds do. A word edge asks for one too; but a legal placement is asked for field edges alone.
 abbrev pub is_strict : EdgeKind → Bool
-is_strict edge.Match = true
-is_strict edge.Action = true
-is_strict edge.Word = true
 is_strict edge.Successor = false
 is_strict edge.Reverse = false
+is_strict _ = true
 
 -- two parts keep an edge: the part of the later node stands behind that of the earlier one, or at least not before it
 abbrev pub Keeps : Edge → Part → Part → Type 0

@@ -9,10 +9,9 @@ use Rattle.rmt_pack.specs.declared.placement.Part.{Part}
 -- and what is written is seen 12 cycles behind the start
 abbrev pub distance : EdgeKind → ℕ
 distance edge.Match = 12
-distance edge.Action = 3
-distance edge.Word = 3
 distance edge.Successor = 1
 distance edge.Reverse = 1
+distance _ = 3
 
 -- the stages in which a node has a part
 abbrev pub stages_of : List Part → ℕ → List ℕ

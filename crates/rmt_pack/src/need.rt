@@ -41,16 +41,12 @@ pub fn param_bits(program: &Program, action: u32) -> u32
     sum_of(action.params.as_slice())
 }
 
-/// The sum of some bytes.
-fn sum_of(bytes: &[u8]) -> u32
+/// The sum of some bytes, which has 32 bits.
+pub fn sum_of(bytes: &[u8]) -> u32
     requires { sum bytes.now < 2 ^ 32 }
     ensures { result ≡ sum bytes.now }
 {
-    let mut all = 0;
-    for byte in bytes {
-        all += *byte as u32;
-    }
-    all
+    bytes.iter().map(|byte| u32::from(*byte)).sum()
 }
 
 /// The bits of data that an entry of a table holds: the parameters of the listed action with most.

@@ -1,7 +1,7 @@
 //! Answer lines.
 
 ghost use Rattle.std.specs.Prelude.{◌≡◌, ◌++◌, [], length, take, codes, decimal, OnOk, OnErr, IsErrOf};
-ghost use Rattle.rmt_packets.specs.AnswerLine.{answer_line, hex_or_dash};
+ghost use Rattle.rmt_packets.specs.AnswerLine.{answer_line, hex_or_dash, verdict_text};
 
 use crate::packet_line::PacketFault;
 use itoa::Buffer;
@@ -31,26 +31,21 @@ pub fn write_line(
     ensures unchanged { OnErr result (into.new.items ≡ into.old.items) }
 {
     let before = into.len();
-    match append_line(number, verdict, bytes, into) {
-        Ok(()) => Ok(()),
-        Err(_) => {
-            into.truncate(before);
-            Err(PacketFault::NoMemory)
-        }
+    if let Err(_) = into.extend_from_slice(Buffer::new().format(number).as_bytes()) {
+        return Err(PacketFault::NoMemory);
     }
+    if let Err(_) = append_verdict(verdict, bytes, into) {
+        into.truncate(before);
+        return Err(PacketFault::NoMemory);
+    }
+    Ok(())
 }
 
-/// Appends the line, or on a refusal maybe its front.
-fn append_line(
-    number: u64,
-    verdict: Verdict,
-    bytes: &[u8],
-    into: &mut Vec<u8>,
-) -> Result<(), AllocError>
-    ensures line { OnOk result (into.new.items ≡ into.old.items ++ answer_line number (record { verdict = verdict; bytes = bytes.now; hits = [] })) }
+/// Appends what a line says behind the number, or on a refusal maybe its front.
+fn append_verdict(verdict: Verdict, bytes: &[u8], into: &mut Vec<u8>) -> Result<(), AllocError>
+    ensures line { OnOk result (into.new.items ≡ into.old.items ++ (codes " " ++ (verdict_text verdict bytes.now ++ codes "\n"))) }
     ensures kept { take (length into.old.items) into.new.items ≡ into.old.items }
 {
-    into.extend_from_slice(Buffer::new().format(number).as_bytes())?;
     match verdict {
         Verdict::Short => into.extend_from_slice(b" drop short\n"),
         Verdict::Reject => into.extend_from_slice(b" drop reject\n"),

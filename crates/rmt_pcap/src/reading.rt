@@ -21,11 +21,8 @@ const RECORD_HEAD: usize = 16;
 /// The most captured bytes of a record that is kept.
 const LONGEST: u32 = 9216;
 
-/// The magic of files whose fractions are microseconds.
-const MICROSECONDS: u32 = 0xa1b2_c3d4;
-
-/// The magic of files whose fractions are nanoseconds.
-const NANOSECONDS: u32 = 0xa1b2_3c4d;
+/// The magics: that of files whose fractions are microseconds, and that of those whose fractions are nanoseconds.
+const MAGICS: [u32; 2] = [0xa1b2_c3d4, 0xa1b2_3c4d];
 
 /// Reads a capture file of at most 4,294,967,294 bytes. It takes memory for the head and for the records that are kept.
 ///
@@ -82,7 +79,7 @@ fn order_of_bytes(bytes: &[u8]) -> Option<bool>
 fn is_magic(number: u32) -> bool
     ensures { result ≡ is_magic number }
 {
-    number == MICROSECONDS || number == NANOSECONDS
+    MAGICS.contains(&number)
 }
 
 /// Whether the version is 2.4.

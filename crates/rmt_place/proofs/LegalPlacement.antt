@@ -1,7 +1,7 @@
 -- The placement of a well-formed program is legal.
 use Rattle.std.proofs.Common.{◌≡◌, ℕ, zero, suc, ◌+◌, ◌<◌, ◌≤◌, List, [], ◌∷◌, ◌++◌, length, get_or, filter, map, Bool, true, false, cond, eqb, ◌||◌, inl, inr, Option, Some, None, Ok, Err, Result, option_map, unwrap_or, sym, refl, subst, ap, ◌∙◌, arith}
 use Rattle.std.specs.List.{All, range_with_len}
-use Rattle.std.specs.Prelude.{slice_get, IfSome}
+use Rattle.std.specs.Prelude.{slice_get}
 use Rattle.std.proofs.lemmas.Bool.{cases_eq, cases_lt, eqb-true, eq-eqb, ne_eqb, false≢true}
 use Rattle.std.proofs.lemmas.List.{get_or_default}
 use Rattle.std.proofs.lemmas.List.Elements.{All-head, All-tail}
@@ -13,10 +13,8 @@ use Rattle.rmt_ast.specs.declared.deps.Edge.{Edge}
 use Rattle.rmt_ast.specs.declared.deps.Deps.{Deps}
 use Rattle.rmt_ast.specs.declared.program.Program.{Program}
 use Rattle.rmt_ast.specs.declared.program.Table.{Table}
-use Rattle.rmt_ast.specs.declared.program.Kind.{Kind}
 use Rattle.rmt_ast.specs.declared.program.Node.{Node}
 use Rattle.rmt_ast.specs.declared.program.What.{What}
-use Rattle.rmt_ast.specs.declared.program.Kind.TheVariants.{Keyless, Exact, Prefix, Ternary}
 use Rattle.rmt_ast.specs.declared.program.What.TheVariants.{Apply, Gate}
 use Rattle.rmt_ast.specs.WellFormed.{IsProgram, IsWhat}
 use Rattle.rmt_config.specs.Resources.{is_in}
@@ -25,12 +23,11 @@ use Rattle.rmt_deps.specs.Edges.{GoForward}
 use Rattle.rmt_deps.specs.Levels.{all_edges, levels_of}
 use Rattle.rmt_deps.proofs.LevelLaws.{IsSmall-levels_of, length-levels_of}
 use Rattle.rmt_pack.specs.declared.format.Format.{Format}
-use Rattle.rmt_pack.specs.declared.format.Need.{Need}
 use Rattle.rmt_pack.specs.declared.placement.Part.{Part}
-use Rattle.rmt_pack.specs.Formats.{HasNeed, IsFormat, memory_format, no_memory}
+use Rattle.rmt_pack.specs.Formats.{memory_format, no_memory}
 use Rattle.rmt_pack.specs.Placements.{is_table, is_table_at, IsLegalWith, IsNodeFormat, Keeps, quanta_of, table_need}
-use Rattle.rmt_pack.proofs.FormatLaws.{exact_format-taken, of_range}
-use Rattle.rmt_pack.proofs.NeedLaws.{has_need}
+use Rattle.rmt_pack.proofs.FormatLaws.{of_range}
+use Rattle.rmt_pack.proofs.NeedLaws.{own_format}
 use Rattle.rmt_place.specs.declared.demand.Demand.{Demand}
 use Rattle.rmt_place.specs.declared.load.TheConstants.{MOST}
 use Rattle.rmt_place.specs.Needs.{Standing, demand_at, demands_of, keeps_limits, nothing, table_demand, what_demands}
@@ -131,19 +128,8 @@ node_quanta p places program n lt =
     ∙ (what_quanta p places item.0.what (program.nodes n item.0 item.1).what
     ∙ sym (ap (λ (d : Demand). d.quanta) (mapped (λ (x : Node). what_demands p places x.what) p.nodes n item.0 nothing item.1)))
 
-format_is : (kind : Kind) (need : Need) → HasNeed kind need → IsFormat kind need (memory_format kind need)
-format_is Keyless need has = refl
-format_is Exact need has = (exact_format-taken need has).format
-format_is Prefix need has = refl
-format_is Ternary need has = refl
-
 what_formats : (p : Program) → IsProgram p → (w : What) → IsNodeFormat p w (what_format p w)
-what_formats p program (Apply t) = by_table (slice_get p.tables t) refl
-  where
-    by_table : (o : Option Table) → slice_get p.tables t ≡ o
-        → IfSome o (λ (table : Table). IsFormat table.kind (table_need p table) (unwrap_or (option_map (λ (x : Table). memory_format x.kind (table_need p x)) o) no_memory))
-    by_table None e = tt
-    by_table (Some table) e = format_is table.kind (table_need p table) (has_need p program t table e)
+what_formats p program (Apply t) = own_format p program t
 what_formats p program (Gate field test) = refl
 
 -- ---- stages past the last

@@ -3,3 +3,4 @@ pub mod Placing
 pub mod Starting
 pub mod Steps
 pub mod StagesSoFar
+pub mod Words

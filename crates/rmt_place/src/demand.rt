@@ -37,6 +37,13 @@ pub struct Demand {
     pub gates: u32,
 }
 
+/// A program, and the places of its fields.
+#[derive(Clone, Copy)]
+struct PlacedFields<'a> {
+    program: &'a Program,
+    places: &'a Places,
+}
+
 /// What each node of a program needs, by its number.
 pub fn demands(alloc: Global, program: &Program, places: &Places) -> Result<Vec<Demand>, AllocError>
     requires { IsProgram program.now }
@@ -59,9 +66,10 @@ fn node_demand(
     requires { IsProgram program.now }
     ensures { IfOk result (λ demand. demand ≡ what_demands program.now places.now node.now.what) }
 {
+    let placed = PlacedFields { program, places };
     match node.what {
         What::Apply(number) => match program.tables.get(number as usize) {
-            Some(table) => table_demand(alloc, program, places, table),
+            Some(table) => table_demand(alloc, &placed, table),
             None => Ok(nothing(alloc)),
         },
         What::Gate { field, .. } => gate_demand(alloc, places, field),
@@ -69,19 +77,14 @@ fn node_demand(
 }
 
 /// What a table needs.
-fn table_demand(
-    alloc: Global,
-    program: &Program,
-    places: &Places,
-    table: &Table,
-) -> Result<Demand, AllocError>
-    requires program { IsProgram program.now }
-    requires table { IsTable program.now table.now }
-    ensures { IfOk result (λ demand. demand ≡ demand_of_table program.now places.now table.now) }
+fn table_demand(alloc: Global, placed: &PlacedFields, table: &Table) -> Result<Demand, AllocError>
+    requires program { IsProgram placed.now.program.now }
+    requires table { IsTable placed.now.program.now table.now }
+    ensures { IfOk result (λ demand. demand ≡ demand_of_table placed.now.program.now placed.now.places.now table.now) }
 {
-    let need = table_need(program, table);
+    let need = table_need(placed.program, table);
     let format = format_of(table, need.key, need.held);
-    let words = words_of(alloc, places, table.key.as_slice())?;
+    let words = words_of(alloc, placed.places, table.key.as_slice())?;
     let (exact_words, ternary_words) = by_crossbar(alloc, table.kind, words);
     Ok(Demand {
         quanta: format.quanta,

@@ -1,16 +1,7 @@
 //! Places the nodes of a program into the stages of the chip.
 
 ghost use Rattle.std.specs.Prelude.{◌≡◌, ◌≤◌, ◌<◌, ◌++◌, ◌==◌, ◌^◌, ℕ, List, All, AllPairs, Ok, Err, [], OnOk, IfErr, IfOk, IfSome, MatchResult, MatchOption, fold, filter, if◌then◌else◌, length, max, slice_index, true};
-ghost use Rattle.rmt_ast.specs.declared.deps.Edge.{Edge};
-ghost use Rattle.rmt_ast.specs.WellFormed.{IsProgram};
-ghost use Rattle.rmt_deps.specs.Edges.{GoForward};
-ghost use Rattle.rmt_deps.specs.Levels.{all_edges};
-ghost use Rattle.rmt_pack.specs.Placements.{IsLegal, Keeps, is_strict as asks_for_later};
-ghost use Rattle.rmt_pack.specs.declared.placement.Part.{Part};
-ghost use Rattle.rmt_place.specs.Placing.{allowed_by, earliest_stage as earliest, placed_node, placement, placement_in, standing_in, AreTwo, IsGoodOrder, IsPart, IsStuck, TellWhy, TellsWhy};
-ghost use Rattle.rmt_place.specs.Needs.{demands_of, keeps_limits};
-ghost use Rattle.rmt_place.specs.Steps.{AreLast};
-ghost use Rattle.rmt_place.specs.StagesSoFar.{AreFilled};
+ghost use Rattle.rmt_place.specs.Words.{AreFilled, AreLast, AreTwo, Edge, GoForward, IsGoodOrder, IsLegal, IsPart, IsProgram, IsStuck, Keeps, Part, TellWhy, TellsWhy, all_edges, allowed_by, demands_of, earliest_stage as earliest, is_strict as asks_for_later, keeps_limits, placed_node, placement, placement_in, standing_in};
 
 use crate::demand::{Demand, demands};
 use crate::fault::StageFull;

@@ -3,7 +3,7 @@ use Rattle.std.proofs.Common.{◌≡◌, ℕ, zero, suc, ◌+◌, ◌<◌, ◌�
 use Rattle.std.specs.Prelude.{All, Contains, slice_set}
 use Rattle.std.specs.List.{flat_map}
 use Rattle.std.proofs.lemmas.List.{map-append}
-use Rattle.std.proofs.lemmas.List.Elements.{All-append, All-cons, All-contains, All-contains_itself, All-map, All-nil, All-set, All-weaker}
+use Rattle.std.proofs.lemmas.List.Elements.{All-append, All-contains, All-contains_itself, All-map, All-nil, All-push, All-set, All-weaker}
 use Rattle.rmt_bits.specs.Packet.{Packet}
 use Rattle.rmt_bits.specs.declared.answer.Answer.{Answer}
 use Rattle.rmt_bits.proofs.AllLaws.{All-flat_map, All-left, All-parts, All-right, All-unmap}
@@ -97,9 +97,8 @@ module _ (P : Entry → Type 0) where
   -- what holds of the entries, and of one of the next number, holds behind a change
   changed_entries : (s : Installed) (change : Change) → All P (entries_in s.lists) → ((e : Entry) → e.number ≡ s.next → P e) → All P (entries_in (changed s change).lists)
   changed_entries s (Adds e) all next =
-      let own : Entry = record e { number = s.next } in
-      set_entries s.lists e.table (list_of s.lists e.table ++ own ∷ []) all
-      (All-append P (list_of s.lists e.table) (own ∷ []) (list_entries s.lists e.table all) (All-cons P own [] (next own refl) (All-nil P)))
+      set_entries s.lists e.table (list_of s.lists e.table ++ record e { number = s.next } ∷ []) all
+      (All-push P (list_of s.lists e.table) (record e { number = s.next }) (list_entries s.lists e.table all) (next (record e { number = s.next }) refl))
   changed_entries s (Removes node key) all next = set_entries s.lists node (without key (list_of s.lists node)) all (all_without P key (list_of s.lists node) (list_entries s.lists node all))
 
 next_committed : (s : Installed) (changes : List Change) → s.next ≤ (committed s changes).next

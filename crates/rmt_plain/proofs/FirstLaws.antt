@@ -1,5 +1,5 @@
 -- A plain run before the first packet.
-use Rattle.std.proofs.Common.{◌≡◌, ℕ, zero, suc, ◌+◌, ◌<◌, ◌≤◌, ◌++◌, min, cond, List, [], ◌∷◌, length, get_or, drop, Option, None, refl, ap, subst, ◌∙◌, append-nil, arith}
+use Rattle.std.proofs.Common.{◌≡◌, ℕ, zero, suc, ◌+◌, ◌<◌, ◌≤◌, ◌++◌, min, cond, List, [], ◌∷◌, length, get_or, drop, Option, None, refl, sym, ap, subst, ◌∙◌, append-nil, append_assoc, arith}
 use Rattle.std.specs.Prelude.{slice_get, unwrap_or, option_map}
 use Rattle.std.proofs.lemmas.List.{drop_more, length-drop}
 use Rattle.std.proofs.lemmas.Option.{slice_get-get_or}
@@ -26,10 +26,18 @@ abbrev pub no_node : Node
 no_node = record { guard = None; what = Apply 0 }
 
 -- the numbers of a node's entries, and those of the later nodes
-pub counted_numbers-drop : (p : Program) (nodes : List Node) (lists : List (List Entry)) (i : ℕ) (d : Node) (e : List Entry) → i < length nodes → i < length lists
+counted_numbers-drop : (p : Program) (nodes : List Node) (lists : List (List Entry)) (i : ℕ) (d : Node) (e : List Entry) → i < length nodes → i < length lists
     → counted_numbers p (drop i nodes) (drop i lists) ≡ cond (is_counted p (get_or nodes i d).what) (entry_numbers (get_or lists i e)) [] ++ counted_numbers p (drop (i + 1) nodes) (drop (i + 1) lists)
 counted_numbers-drop p nodes lists i d e ln ll =
     ap (λ (ns : List Node). counted_numbers p ns (drop i lists)) (drop_more nodes i d ln) ∙ ap (λ (ls : List (List Entry)). counted_numbers p (get_or nodes i d ∷ drop (i + 1) nodes) ls) (drop_more lists i e ll)
+
+-- the numbers so far and those of a node more
+pub counted_numbers-more : (p : Program) (lists : List (List Entry)) (i : ℕ) (e : List Entry) (numbers : List ℕ) → i < length p.nodes → i < length lists
+    → (numbers ++ cond (is_counted p (get_or p.nodes i no_node).what) (entry_numbers (get_or lists i e)) []) ++ counted_numbers p (drop (i + 1) p.nodes) (drop (i + 1) lists)
+    ≡ numbers ++ counted_numbers p (drop i p.nodes) (drop i lists)
+counted_numbers-more p lists i e numbers ln ll =
+    append_assoc numbers _ (counted_numbers p (drop (i + 1) p.nodes) (drop (i + 1) lists))
+    ∙ ap (λ (ns : List ℕ). numbers ++ ns) (sym (counted_numbers-drop p p.nodes lists i no_node e ln ll))
 
 counted_none : (p : Program) (nodes : List Node) (lists : List (List Entry)) → min (length nodes) (length lists) ≡ 0 → counted_numbers p nodes lists ≡ []
 counted_none p [] lists h = refl

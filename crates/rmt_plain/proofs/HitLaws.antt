@@ -15,7 +15,7 @@ use Rattle.rmt_ast.specs.declared.program.What.TheVariants.{Apply, Gate}
 use Rattle.rmt_ast.specs.declared.entry.Entry.{Entry}
 use Rattle.rmt_ast.specs.Answers.{answer_of, answered, entry_numbers, hits_of}
 use Rattle.rmt_ast.specs.Control.{Run, applied_table, done_by, run, run_from, runs}
-use Rattle.rmt_ast.specs.Lookup.{hit_of, hits}
+use Rattle.rmt_ast.specs.Lookup.{hit_of}
 use Rattle.rmt_ast.specs.Walk.{Accept, Reject, Short, Walk, walk}
 use Rattle.rmt_plain.specs.Stands.{numbers_in}
 use Rattle.rmt_ast.proofs.EntryLaws.{hit_among}

@@ -3,7 +3,7 @@
 ghost use Rattle.std.specs.Prelude.{◌≡◌, ◌/◌, ◌%◌, ◌^◌, ◌==◌, IfOk, OnOk, option_copied, slice_get, slice_index, None, Some};
 ghost use Rattle.rmt_ast.specs.Control.{runs as runs_of, act_of, applied_table};
 ghost use Rattle.rmt_plain.specs.Runnable.{IsRunnable};
-ghost use Rattle.rmt_plain.specs.Running.{run_of, first_of, done_with, passed_with, run_with};
+ghost use Rattle.rmt_plain.specs.Running.{run_of, first_of, passed_with, run_with};
 
 use crate::act::act;
 use crate::lookup::Lookup;
@@ -133,32 +133,6 @@ fn apply(
     }
 }
 
-/// What a node that runs does.
-fn do_node(
-    alloc: Global,
-    program: &Program,
-    node: usize,
-    what: What,
-    lookup: Option<&Lookup>,
-    run: &mut Run,
-) -> Result<(), AllocError>
-    requires { IsRunnable program.now }
-    ensures { OnOk result (run_of run.new
-        ≡ done_with program.now (option_copied lookup.entry) node what (run_of run.old)) }
-{
-    match what {
-        What::Apply(table) => match program.tables.get(table as usize) {
-            Some(table) => apply(alloc, program, node, table, lookup, run),
-            None => Ok(()),
-        },
-        What::Gate { field, test } => {
-            let passed = passes(test, number_at(&run.state, field as usize));
-            put_at(&mut run.outcomes, node, if passed { 2 } else { 1 });
-            Ok(())
-        }
-    }
-}
-
 /// A node, where it runs.
 fn pass_node(
     alloc: Global,
@@ -172,10 +146,20 @@ fn pass_node(
     ensures { OnOk result (run_of run.new
         ≡ passed_with program.now (option_copied lookup.entry) number node (run_of run.old)) }
 {
-    if runs(node.guard, &run.outcomes) {
-        return do_node(alloc, program, number, node.what, lookup, run);
+    if !runs(node.guard, &run.outcomes) {
+        return Ok(());
     }
-    Ok(())
+    match node.what {
+        What::Apply(table) => match program.tables.get(table as usize) {
+            Some(table) => apply(alloc, program, number, table, lookup, run),
+            None => Ok(()),
+        },
+        What::Gate { field, test } => {
+            let passed = passes(test, number_at(&run.state, field as usize));
+            put_at(&mut run.outcomes, number, if passed { 2 } else { 1 });
+            Ok(())
+        }
+    }
 }
 
 /// The look-up of a node.

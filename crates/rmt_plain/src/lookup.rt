@@ -48,12 +48,10 @@ pub fn lookup_of(alloc: Global, kind: Kind, entries: Sequence<Entry>) -> Result<
     ensures { IfOk result (λ lookup. IsReady kind entries lookup) }
 {
     let entries = ranked(kind, entries)?;
-    let groups = groups_of(alloc, &entries)?;
-    let marks = marks_of(alloc, &entries)?;
     Ok(Lookup {
+        groups: groups_of(alloc, &entries)?,
+        marks: marks_of(alloc, &entries)?,
         entries,
-        groups,
-        marks,
     })
 }
 

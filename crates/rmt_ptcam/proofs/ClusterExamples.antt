@@ -3,7 +3,8 @@ use Rattle.std.proofs.Common.{◌≡◌, Bool, true, false, ◌++◌, ◌+◌, �
 use Rattle.std.specs.Prelude.{codes, is_some, replicate}
 use Rattle.std.specs.List.{range_with_len}
 use Rattle.rmt_ast.proofs.Programs.{field, two_headers, tail_between}
-use Rattle.rmt_ptcam.specs.Types.{Program, Field, Header, Case, Target, ParserConfig, ParserEntry, Next}
+use Rattle.rmt_ptcam.specs.Types.{Program, Header, Case, Target, ParserConfig, ParserEntry, Next}
+use Rattle.rmt_ast.specs.declared.program.Field.{Field}
 use Rattle.rmt_ast.specs.declared.program.Target.TheVariants as target
 use Rattle.rmt_config.specs.declared.config.Extract.TheVariants.{Bits, One}
 use Rattle.rmt_config.specs.declared.config.Next.TheVariants as next

@@ -11,3 +11,4 @@ pub mod Clustering
 pub mod Joins
 pub mod Grouping
 pub mod Steps
+pub mod Clauses

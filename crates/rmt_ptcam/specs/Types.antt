@@ -1,6 +1,5 @@
 -- The types of a program and of a configuration, passed on by one name.
 pub use Rattle.rmt_ast.specs.declared.program.Program.{Program}
-pub use Rattle.rmt_ast.specs.declared.program.Field.{Field}
 pub use Rattle.rmt_ast.specs.declared.program.Header.{Header}
 pub use Rattle.rmt_ast.specs.declared.program.Tail.{Tail}
 pub use Rattle.rmt_ast.specs.declared.program.Case.{Case}

@@ -2,17 +2,8 @@
 
 ghost use Rattle.std.specs.Prelude.{◌≡◌, ◌≢◌, ◌≤◌, nat_lt, length, Some, Err, IfOk, IsTrue};
 ghost use Rattle.std.specs.List.{list_all};
-ghost use Rattle.rmt_ast.specs.WellFormed.{IsProgram};
-ghost use Rattle.rmt_config.specs.Agreement.{AgreesWith};
-ghost use Rattle.rmt_config.specs.declared.config.TailOf.{TailOf};
-ghost use Rattle.rmt_config.specs.ParserForm.{parser_is_formed};
-ghost use Rattle.rmt_phv.specs.Places.{KeepsApart};
+ghost use Rattle.rmt_ptcam.specs.Clauses.{AgreesWith, IsParser, IsProgram, KeepsApart, MeetsNoMore, TailOf, clustered_or, joins, parser_is_formed, plain, replayed};
 ghost use Rattle.rmt_ptcam.specs.declared.fault.ParserFault.TheVariants.{NoMemory};
-ghost use Rattle.rmt_ptcam.specs.Clustering.{clustered_or};
-ghost use Rattle.rmt_ptcam.specs.Fitting.{IsParser};
-ghost use Rattle.rmt_ptcam.specs.Joins.{joins, replayed};
-ghost use Rattle.rmt_ptcam.specs.Plain.{plain};
-ghost use Rattle.rmt_ptcam.specs.Steps.{MeetsNoMore};
 
 pub(crate) mod clustering;
 pub(crate) mod compaction;

@@ -1,9 +1,7 @@
 //! The joins of the clustered parser, told and made again.
 
 ghost use Rattle.std.specs.Prelude.{◌≡◌, ◌≢◌, ◌≤◌, if◌then◌else◌, Some, None, Err, length, IfOk, IfSome, IsTrue};
-ghost use Rattle.rmt_ast.specs.WellFormed.{IsProgram};
-ghost use Rattle.rmt_config.specs.ParserForm.{parser_is_formed};
-ghost use Rattle.rmt_phv.specs.Places.{KeepsApart};
+ghost use Rattle.rmt_ptcam.specs.Clauses.{IsProgram, KeepsApart, parser_is_formed};
 ghost use Rattle.rmt_ptcam.specs.declared.fault.ParserFault.TheVariants.{NoMemory};
 ghost use Rattle.rmt_ptcam.specs.Clustering.{clustered};
 ghost use Rattle.rmt_ptcam.specs.Grouping.{Stand, parser_in};

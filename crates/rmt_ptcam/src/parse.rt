@@ -2,7 +2,7 @@
 
 ghost use Rattle.std.specs.Prelude.{◌≡◌, ◌≤◌, ℕ, length, slice_get, replicate};
 ghost use Rattle.rmt_config.specs.Parser.{Parse, Reached, parse as parse_of, taken, entry_of, value_at, no_tail};
-ghost use Rattle.rmt_ptcam.specs.Parsing.{standing, StepGives, StaysWithin, RunGives, ParsesTo};
+ghost use Rattle.rmt_ptcam.specs.Parsing.{StandsIn, standing, StepGives, StaysWithin, RunGives, ParsesTo};
 ghost use Rattle.rmt_ptcam.specs.Fitting.{IsParser};
 
 mod extract;
@@ -51,8 +51,7 @@ fn one_state(
     vector: &mut Vector,
     tails: &mut Tails,
 ) -> Step
-    requires near { cursor ≤ length frame.now }
-    requires short { length frame.now ≤ 9216 }
+    requires stands { StandsIn cursor frame.now }
     requires fits { IsParser parser.now }
     ensures step { (goes : ℕ → Reached → Parse) →
         StepGives goes (taken goes parser.now frame.now

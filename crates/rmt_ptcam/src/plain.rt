@@ -2,15 +2,10 @@
 
 ghost use Rattle.std.specs.Prelude.{◌≡◌, ◌≢◌, ◌≤◌, nat_lt, Err, IfOk, IsTrue, length};
 ghost use Rattle.std.specs.List.{list_all};
-ghost use Rattle.rmt_ast.specs.WellFormed.{IsProgram, bits_of};
+ghost use Rattle.rmt_ptcam.specs.Clauses.{AgreesWith, IsParser, IsProgram, KeepsApart, TailOf, bits_of, parser_is_formed};
 ghost use Rattle.rmt_ptcam.specs.declared.fault.ParserFault.TheVariants.{NoMemory};
 ghost use Rattle.rmt_ptcam.specs.Needs.{lookups_of};
 ghost use Rattle.rmt_ptcam.specs.Plain.{planned, state_of as state_of_header};
-ghost use Rattle.rmt_ptcam.specs.Fitting.{IsParser};
-ghost use Rattle.rmt_phv.specs.Places.{KeepsApart};
-ghost use Rattle.rmt_config.specs.Agreement.{AgreesWith};
-ghost use Rattle.rmt_config.specs.declared.config.TailOf.{TailOf};
-ghost use Rattle.rmt_config.specs.ParserForm.{parser_is_formed};
 
 mod cases;
 mod entries;

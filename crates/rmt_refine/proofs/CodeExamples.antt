@@ -10,13 +10,14 @@ use Rattle.rmt_bits.specs.Bits.{deposit, slice}
 use Rattle.rmt_bits.specs.declared.lane.Lane.{Lane}
 use Rattle.rmt_bits.proofs.BitLaws.{slice-deposit_above, slice-deposit_below, slice-deposit_same, slice-lt}
 use Rattle.rmt_refine.specs.Types.{Table, Stage, SlotUnit, Operation, Source}
+use Rattle.rmt_ast.specs.Control.{act_of}
 use Rattle.rmt_ast.specs.Places.{lanes_of}
 use Rattle.rmt_ast.specs.State.{IsState}
 use Rattle.rmt_config.specs.Instructions.{first_code}
 use Rattle.rmt_config.specs.declared.config.Source.TheVariants.{Word, Held, Constant}
 use Rattle.rmt_config.specs.Life.{Words, code_at, lane_of, source_of, written}
 use Rattle.rmt_refine.specs.View.{slot_of}
-use Rattle.rmt_refine.specs.Code.{CodeCarried, DoesAction, DoesDefault, TableCode}
+use Rattle.rmt_refine.specs.Code.{CodeCarried, DoesAction, DoesDefault, TableCode, WritesWordsOf, assigned_lanes}
 use Rattle.rmt_config.specs.Effects.{held_by, Hold, words_after, ChangesOnly}
 use Rattle.rmt_refine.specs.Units.{table_at}
 use Rattle.rmt_refine.proofs.LaneLaws.{fields_apart, lane_stays}
@@ -105,23 +106,28 @@ goes_zero = record {
   words = All-cons (own_words (129 ∷ [])) _ [] (0, omega arith, refl) (All-nil (own_words (129 ∷ [])));
 }
 
+-- a default that copies field g, which is one word, to field f
+copies_field : (action f g to from : ℕ) → f < 6 → lanes_of places f ≡ lane to 0 8 ∷ [] → lanes_of places g ≡ lane from 0 8 ∷ [] → assigned_lanes program places action ≡ lane to 0 8 ∷ []
+    → ((s : List ℕ) → act_of program action [] s ≡ slice_set s f (slice_index s g)) → DoesDefault program places action [] (copy (lane to 0 8) (Word from 0) ∷ [])
+copies_field action f g to from lt at_f at_g assigned acts =
+    let l = lane to 0 8 in
+    let ops : List Operation = copy l (Word from 0) ∷ [] in
+    let fits = λ (words : Words) (held : ℕ). slice-lt (words from) 0 8 in
+    record {
+      acts = λ s words held state hold.
+          subst (Hold places (words_after ops held words)) (sym (acts s))
+          (subst (λ v. Hold places (words_after ops held words) (slice_set s f v))
+          (lane_holds words (lane from 0 8) (slice_index s g) (subst (λ ls. held_by words ls ≡ slice_index s g) at_g (hold g)))
+          (copies l (Word from 0) fits f s words held at_f (within_fields s f state lt) hold));
+      others = subst (λ ls. ChangesOnly ls ops) (sym assigned) (copies_only l (Word from 0) fits);
+      words = subst (λ ls. WritesWordsOf ls ops) (sym assigned) (All-cons (own_words (to ∷ [])) _ [] (0, omega arith, refl) (All-nil (own_words (to ∷ []))));
+    }
+
 notes : DoesDefault program places 1 [] to_x
-notes = record {
-  acts = λ s words held state hold.
-      subst (λ v. Hold places (words_after to_x held words) (slice_set s 5 v)) (lane_holds words (lane 1 0 8) (slice_index s 4) (hold 4))
-      (copies (lane 2 0 8) (Word 1 0) (λ w h. slice-lt (w 1) 0 8) 5 s words held refl (within_fields s 5 state (omega arith)) hold);
-  others = copies_only (lane 2 0 8) (Word 1 0) (λ w h. slice-lt (w 1) 0 8);
-  words = All-cons (own_words (2 ∷ [])) _ [] (0, omega arith, refl) (All-nil (own_words (2 ∷ [])));
-}
+notes = copies_field 1 5 4 2 1 (omega arith) refl refl refl (λ s. refl)
 
 puts_back : DoesDefault program places 2 [] from_x
-puts_back = record {
-  acts = λ s words held state hold.
-      subst (λ v. Hold places (words_after from_x held words) (slice_set s 4 v)) (lane_holds words (lane 2 0 8) (slice_index s 5) (hold 5))
-      (copies (lane 1 0 8) (Word 2 0) (λ w h. slice-lt (w 2) 0 8) 4 s words held refl (within_fields s 4 state (omega arith)) hold);
-  others = copies_only (lane 1 0 8) (Word 2 0) (λ w h. slice-lt (w 2) 0 8);
-  words = All-cons (own_words (1 ∷ [])) _ [] (0, omega arith, refl) (All-nil (own_words (1 ∷ [])));
-}
+puts_back = copies_field 2 4 5 1 2 (omega arith) refl refl refl (λ s. refl)
 
 -- the one action of a list
 one_action : (ops : List Operation) (i a : ℕ) (code : ℕ → List Operation) → code 0 ≡ ops → DoesAction program places 0 ops → slice_get (0 ∷ []) i ≡ Some a

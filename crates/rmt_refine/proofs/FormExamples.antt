@@ -1,51 +1,21 @@
 -- The program on two stages and its entries are well formed.
-use Rattle.std.proofs.Common.{◌≡◌, ◌^◌, ◌<◌, ℕ, zero, suc, [], ◌∷◌, map, refl, arith}
-use Rattle.std.specs.Prelude.{All, bit_and, codes}
-use Rattle.std.proofs.lemmas.List.Elements.{All-cons, All-from_recursion, All-nil}
+use Rattle.std.proofs.Common.{◌≡◌, ◌^◌, ◌<◌, ℕ, [], ◌∷◌, map, refl, arith}
+use Rattle.std.specs.Prelude.{All, bit_and}
+use Rattle.std.proofs.lemmas.List.Elements.{All-cons, All-nil}
 use Rattle.std.proofs.lemmas.List.Kept.{AllPairs-cons}
 use Rattle.rmt_bits.specs.Bits.{number_of}
-use Rattle.rmt_refine.specs.Types.{Field, Header, Action, Table}
+use Rattle.rmt_refine.specs.Types.{Action, Table}
 use Rattle.rmt_ast.specs.declared.entry.Entry.{Entry}
 use Rattle.rmt_ast.specs.EntryLists.{AreEntries, AreTableEntries, IsEntry, terms_of}
-use Rattle.rmt_ast.specs.WellFormed.{AllNumbered, AreAppliedOnce, BeginsWith, HasFields, HasHeaderNames, HasNames, IsAction, IsHeader, IsNode, IsProgram, IsTable, IsTest, IsWidth, name_of}
-use Rattle.rmt_ast.proofs.Programs.{field, keyless}
+use Rattle.rmt_ast.specs.WellFormed.{IsAction, IsProgram, IsTable, IsTest, IsWidth}
+use Rattle.rmt_ast.proofs.Programs.{keyless}
 use Rattle.rmt_bits.proofs.PairLaws.{AllPairs-none}
 use Rattle.rmt_ast.proofs.WellFormedLemmas.{AllNumbered-from_items, AreDistinct-from_apart}
 use Rattle.rmt_refine.proofs.ListedLaws.{three, two}
 use Rattle.rmt_refine.proofs.TwoStages.{back, entries, first_line, go, keep, lists, lowest_last, note, ports, program, restore, second_line, test}
-use Rattle.rmt_ast.proofs.ExampleForm.{keyless_table, one_assign}
+use Rattle.rmt_ast.proofs.ExampleForm.{keyless_table, one_assign, three_tables-is_program}
 
 -- ---- the program
-
-fields : HasFields program
-fields = record {
-  in_port = refl;
-  out_port = refl;
-  drop = refl;
-  in_order = refl;
-  all_there = omega arith;
-  few_metadata = omega arith;
-  widths =
-      All-from_recursion (λ (f : Field). IsWidth f.width) program.fields
-      ((omega arith, omega arith), ((omega arith, omega arith), ((omega arith, omega arith), ((omega arith, omega arith), ((omega arith, omega arith), ((omega arith, omega arith), tt))))));
-}
-
-headers : AllNumbered (IsHeader program) program.headers
-headers = AllNumbered-from_items (IsHeader program) program.headers (
-  record {
-    valid = refl;
-    whole_bytes = refl;
-    is_not_empty = omega arith;
-    is_not_long = omega arith;
-    tail = tt;
-    selects_own = All-nil _;
-    selects_once = AreDistinct-from_apart (λ f. f) [] refl;
-    plain = λ e. refl;
-    cases = All-nil _;
-    other = tt;
-  },
-  tt,
-)
 
 actions : All (IsAction program) program.actions
 actions = three (IsAction program) go keep restore
@@ -71,41 +41,10 @@ ports_table = record {
   default = (omega arith, tt);
 }
 
-nodes : AllNumbered (IsNode program) program.nodes
-nodes = AllNumbered-from_items (IsNode program) program.nodes
-    (record { guard = tt; what = omega arith }, (record { guard = tt; what = omega arith }, (record { guard = tt; what = omega arith }, tt)))
-
-applied : AreAppliedOnce program
-applied zero h = refl
-applied (suc zero) h = refl
-applied (suc (suc zero)) h = refl
-applied (suc (suc (suc t))) h = absurd (omega (arith, h))
-
-names : HasNames program
-names = record {
-  of_in_port = refl;
-  of_out_port = refl;
-  of_drop = refl;
-  of_headers = All-from_recursion (HasHeaderNames program) program.headers
-      (record { valid = refl; fields = All-from_recursion (λ f. BeginsWith (codes "h.") (name_of program f)) (4 ∷ []) (refl, tt) }, tt);
-  of_metadata = All-from_recursion (λ (f : Field). BeginsWith (codes "meta.") f.name) (field (codes "meta.x") 8 ∷ []) (refl, tt);
-  fields_once = AreDistinct-from_apart number_of (map (λ (x : Field). x.name) program.fields) refl;
-  headers_once = AreDistinct-from_apart number_of (map (λ (x : Header). x.name) program.headers) refl;
-  actions_once = AreDistinct-from_apart number_of (map (λ (x : Action). x.name) program.actions) refl;
-  tables_once = AreDistinct-from_apart number_of (map (λ (x : Table). x.name) program.tables) refl;
-}
-
 pub is_program : IsProgram program
-is_program = record {
-  fields = fields;
-  headers = headers;
-  actions = actions;
-  tables = three (IsTable program) note ports back (keyless_table program _ 1 tt) ports_table (keyless_table program _ 2 tt);
-  nodes = nodes;
-  applied = applied;
-  counts = record { a_header = omega arith; headers = omega arith; actions = omega arith; nodes = omega arith };
-  names = names;
-}
+is_program =
+    three_tables-is_program program.actions note ports back actions (three (IsTable program) note ports back (keyless_table program _ 1 tt) ports_table (keyless_table program _ 2 tt)) (omega arith)
+    (AreDistinct-from_apart number_of (map (λ (x : Action). x.name) program.actions) refl) (AreDistinct-from_apart number_of (map (λ (x : Table). x.name) program.tables) refl)
 
 -- ---- its entries
 

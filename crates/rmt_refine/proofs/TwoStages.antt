@@ -10,7 +10,7 @@ use Rattle.rmt_ast.specs.declared.program.Kind.TheVariants.{Ternary}
 use Rattle.rmt_ast.specs.declared.entry.Entry.{Entry}
 use Rattle.rmt_ast.specs.declared.names.Names.{Names}
 use Rattle.rmt_ast.specs.Naming.{names_of}
-use Rattle.rmt_ast.proofs.Programs.{action, apply_table, field, header, keyless, with_fields}
+use Rattle.rmt_ast.proofs.Programs.{action, keyless, three_tables}
 use Rattle.rmt_config.specs.declared.config.OpKind.TheVariants.{Copy}
 use Rattle.rmt_config.specs.declared.config.Source.TheVariants.{Word, Held, Constant}
 use Rattle.rmt_config.specs.declared.config.Extract.TheVariants.{Bits, One as PutOne}
@@ -29,7 +29,7 @@ test value mask = record { value = value; mask = mask }
 
 -- ---- the program
 
--- a ternary table on h.d that gives the port, by default 0
+-- a ternary table on h.f that gives the port, by default 0
 abbrev pub ports : Table
 ports = record { name = codes "ports"; kind = Ternary; key = 4 ∷ []; actions = 0 ∷ []; default = 0; args = 0 ∷ []; size = 8; counted = true }
 
@@ -49,15 +49,9 @@ keep = action (codes "keep") [] (record { dest = 5; expr = One (leaf.Field 4) } 
 abbrev pub restore : Action
 restore = action (codes "restore") [] (record { dest = 4; expr = One (leaf.Field 5) } ∷ [])
 
--- header h { d : 8; } and metadata x : 8; note does meta.x = h.d, ports looks h.d up, and back does h.d = meta.x
+-- header h { f : 8; } and metadata x : 8; note does meta.x = h.f, ports looks h.f up, and back does h.f = meta.x
 abbrev pub program : Program
-program = record {
-  fields = with_fields (field (codes "h.d") 8 ∷ field (codes "meta.x") 8 ∷ []);
-  headers = header (4 ∷ []) 1 ∷ [];
-  actions = go ∷ keep ∷ restore ∷ [];
-  tables = note ∷ ports ∷ back ∷ [];
-  nodes = apply_table 0 ∷ apply_table 1 ∷ apply_table 2 ∷ [];
-}
+program = three_tables (go ∷ keep ∷ restore ∷ []) note ports back
 
 abbrev pub entry : ℕ → ℕ → ℕ → ℕ → ℕ → Entry
 entry number rank value mask port = record { table = 1; number = number; tests = test value mask ∷ []; rank = rank; action = 0; args = port ∷ [] }
@@ -80,7 +74,7 @@ lists = [] ∷ entries ∷ [] ∷ []
 
 -- ---- its map
 
--- in_port, out_port and drop, then h.valid, h.d and meta.x
+-- in_port, out_port and drop, then h.valid, h.f and meta.x
 abbrev pub places : List (List Lane)
 places = (lane 128 0 9 ∷ []) ∷ (lane 129 0 9 ∷ []) ∷ (lane 0 0 1 ∷ []) ∷ (lane 0 1 1 ∷ []) ∷ (lane 1 0 8 ∷ []) ∷ (lane 2 0 8 ∷ []) ∷ []
 
@@ -111,9 +105,7 @@ abbrev pub number_at : ℕ → ℕ → CellNumber
 number_at cell number = record { cell = cell; number = number }
 
 abbrev pub ports_unit : Bool → List CellNumber → SlotUnit
-ports_unit last numbers = record {
-  node = 1;
-  guard = None;
+ports_unit last numbers = record (keyless_unit 1) {
   counted = true;
   actions = 1;
   last = last;
@@ -156,7 +148,7 @@ second_stage = record {
   trows = record { block = 0; row = 0; value = 0x10; mask = 0xf0 } ∷ [];
 }
 
--- a frame of one byte and more is accepted: h.valid is set, and the byte put to h.d
+-- a frame of one byte and more is accepted: h.valid is set, and the byte put to h.f
 abbrev pub its_parser : ParserConfig
 its_parser = record {
   states = record { lookups = [] } ∷ [];

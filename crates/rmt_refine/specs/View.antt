@@ -4,6 +4,7 @@ use Rattle.rmt_refine.specs.Types.{Config, Stage, SlotUnit}
 use Rattle.rmt_config.specs.LaneForm.{bits_of_lanes}
 use Rattle.rmt_config.specs.Cells.{Content, Found, candidates, code_of, content_of, has_key, number_of_cell}
 use Rattle.rmt_config.specs.Life.{Look}
+pub use Rattle.rmt_config.specs.RunCells.{no_content}
 pub use Rattle.rmt_pack.specs.Slots.{as_slot, slot_at, slot_of}
 
 -- a seed, and of each cell, by stage, place of the slot in the stage and number in the slot, what it holds and the number of its entry
@@ -11,10 +12,6 @@ pub record View : Type 0 where
   pub seed : ℕ
   pub content : ℕ → ℕ → ℕ → Content
   pub number : ℕ → ℕ → ℕ → ℕ
-
--- a cell without an entry
-abbrev pub no_content : Content
-no_content = record { head = 0; key = 0; mask = 0; held = 0 }
 
 -- what a cell of a configuration holds
 abbrev pub own_content : Config → ℕ → ℕ → ℕ → Content

@@ -13,7 +13,7 @@ use rmt_bits::lane::Lane;
 use rmt_config::config::{
     Config, Extract, GateTest, Operation, OutHeader, ParserEntry, Source, Stage, Unit, Vliw,
 };
-use rmt_config::limits::marks::no_marks;
+use rmt_config::limits::marks::{bits_of, no_marks};
 
 /// How many words of each size are named, each word counted once.
 #[derive(Clone, Copy, Debug, PartialEq, Eq)]
@@ -163,20 +163,7 @@ fn named_marks(config: &Config) -> [bool; 256]
     marks
 }
 
-/// The bits of a word. A number that is no word's counts as a word of 32 bits.
-fn bits_of(word: usize) -> u8
-    ensures { result ≡ word_size word }
-{
-    if word < 64 {
-        8
-    } else if word < 160 {
-        16
-    } else {
-        32
-    }
-}
-
-fn count_of_size(marks: &[bool; 256], size: u8) -> u32
+fn count_of_size(marks: &[bool; 256], size: u32) -> u32
     ensures { (ns : List ℕ) → Marks ns marks.now → result ≡ count_by (λ word. word_size word == size) (distinct ns) }
 {
     let mut count: u32 = 0;

@@ -1,7 +1,11 @@
 -- What a reader of the lines of a packet text in pieces stands for.
-use Rattle.std.specs.Prelude.{◌≡◌, ◌≤◌, ℕ, ◌+◌, Bool, List, [], ◌∷◌, ◌++◌, length, IsTrue, if◌then◌else◌}
+use Rattle.std.specs.Prelude.{◌≡◌, ◌≤◌, ◌⊎◌, ℕ, ◌+◌, Bool, false, List, [], ◌∷◌, ◌++◌, length, IsTrue, if◌then◌else◌, Result, IfErr, IfOk, IsErrOf}
 use Rattle.rmt_bits.specs.Lines.{numbered_lines}
+use Rattle.rmt_io.specs.Outside.{ShelfState, ReadingFailed, OnlyRead}
 use Rattle.rmt_packets.specs.Pieces.{LineState, Stands, ended_lines, front_of}
+use Rattle.rmt_runs.specs.declared.fault.RunFault.{RunFault}
+use Rattle.rmt_runs.specs.declared.fault.RunFault.TheVariants as fault
+use Rattle.rmt_runs.specs.Pieces.{PassesLimit}
 
 -- what a reader holds: the reader of its lines, the bytes that the shelf gave and that wait to be taken, how many bytes more may be
 -- asked of the shelf, whether the text's end was seen and its last line taken, and how many lines were given
@@ -42,3 +46,21 @@ pub record HasLines (count : ℕ) (is_finished : Bool) (lines : LineState) : Typ
   pub text : List ℕ
   pub stands : Stands text lines
   pub enough : count ≤ length (lines_taken is_finished text)
+
+-- what comes next of a text behind the lines that a reader gave, over a shelf that tells its files: a line, which is then ready, or the end; a text that goes
+-- on behind the limit ends with TooLong
+pub record GivesNext (before after : ShelfState) (old new : ReaderState) (result : Result Bool RunFault) : Type 0 where
+  pub line : IfOk result (λ is_line. IsTrue is_line → IsTrue before.tells → (limit : ℕ) (text : List ℕ) (gave : List (ℕ × List ℕ)) → ReadsLines limit text gave old before.rest
+      → AtLine limit text gave new after.rest)
+  pub end : IfOk result (λ is_line. is_line ≡ false → IsTrue before.tells → (limit : ℕ) (text : List ℕ) (gave : List (ℕ × List ℕ)) → ReadsLines limit text gave old before.rest
+      → (length text ≤ limit) × (numbered_lines 1 text ≡ gave))
+  pub too_long : IsErrOf result fault.TooLong → IsTrue before.tells → (limit : ℕ) (text : List ℕ) (gave : List (ℕ × List ℕ)) → ReadsLines limit text gave old before.rest
+      → PassesLimit limit text gave
+  pub ready : IfOk result (λ is_line. IsTrue is_line → IsTrue new.lines.is_ready)
+
+-- how a shelf that was asked can fail: a fault of it is counted, and a steady one has none
+pub record AsksShelf (before after : ShelfState) (result : Result Bool RunFault) : Type 0 where
+  pub either : IfErr result (λ f. (f ≡ fault.Read) ⊎ (f ≡ fault.TooLong))
+  pub failed : IsErrOf result fault.Read → ReadingFailed before after
+  pub never_fails : IsErrOf result fault.Read → IsTrue before.steady → ⊥
+  pub only_read : OnlyRead before after

@@ -1,10 +1,9 @@
 //! Reading the lines of a packet text in pieces, as a shelf gives them.
 
-ghost use Rattle.std.specs.Prelude.{◌≡◌, ◌⊎◌, ◌+◌, ◌<◌, ◌≤◌, ℕ, false, List, [], length, IfErr, IfOk, IsTrue, IsErrOf};
+ghost use Rattle.std.specs.Prelude.{◌≡◌, ◌+◌, ◌<◌, ◌≤◌, ℕ, false, List, [], length, IfOk, IsTrue, IsErrOf};
 ghost use Rattle.rmt_bits.specs.Lines.{numbered_lines};
-ghost use Rattle.rmt_io.specs.Outside.{ReadingFailed, OnlyRead};
 ghost use Rattle.rmt_runs.specs.Pieces.{PassesLimit};
-ghost use Rattle.rmt_runs.specs.ReadsOn.{AtLine, HasLines, ReadsLines};
+ghost use Rattle.rmt_runs.specs.ReadsOn.{AsksShelf, AtLine, GivesNext, HasLines, ReadsLines};
 
 mod piece;
 
@@ -64,35 +63,14 @@ impl PacketReader {
     /// Goes on to the next line that is not passed over, and answers whether there is one. Behind a refusal what a further
     /// call answers is of no use.
     pub fn next_line<F: Shelf>(&mut self, shelf: &mut F) -> Result<bool, RunFault>
-        // What comes next, over a shelf that tells its files; a text that goes on behind the limit ends with `TooLong`.
-        ensures line { IfOk result
-            (λ is_line. IsTrue is_line → IsTrue (F.state shelf.old).tells →
-            (limit : ℕ) (text : List ℕ) (gave : List (ℕ × List ℕ)) →
-            ReadsLines limit text gave self.old (F.state shelf.old).rest →
-            AtLine limit text gave self.new (F.state shelf.new).rest) }
-        ensures end { IfOk result
-            (λ is_line. is_line ≡ false → IsTrue (F.state shelf.old).tells →
-            (limit : ℕ) (text : List ℕ) (gave : List (ℕ × List ℕ)) →
-            ReadsLines limit text gave self.old (F.state shelf.old).rest →
-            (length text ≤ limit) × (numbered_lines 1 text ≡ gave)) }
-        ensures too_long { IsErrOf result RunFault.TooLong → IsTrue (F.state shelf.old).tells →
-            (limit : ℕ) (text : List ℕ) (gave : List (ℕ × List ℕ)) →
-            ReadsLines limit text gave self.old (F.state shelf.old).rest →
-            PassesLimit limit text gave }
-        ensures ready { IfOk result (λ is_line. IsTrue is_line → IsTrue self.new.lines.is_ready) }
+        // What comes next.
+        ensures next { GivesNext (F.state shelf.old) (F.state shelf.new) self.old self.new result }
         // How many lines may come.
         ensures given { IfOk result
             (λ is_line. IsTrue is_line → self.new.given ≡ self.old.given + 1) }
         ensures few { IfOk result (λ is_line. self.new.given ≤ 1099511627776) }
-        // A fault of the shelf is counted; a steady one has none.
-        ensures either { IfErr result
-            (λ fault. (fault ≡ RunFault.Read) ⊎ (fault ≡ RunFault.TooLong)) }
-        ensures failed { IsErrOf result RunFault.Read →
-            ReadingFailed (F.state shelf.old) (F.state shelf.new) }
-        ensures never_fails { IsErrOf result RunFault.Read → IsTrue (F.state shelf.old).steady →
-            ⊥ }
-        // What stays the same.
-        ensures only_read { OnlyRead (F.state shelf.old) (F.state shelf.new) }
+        // What else may come of asking the shelf.
+        ensures asks { AsksShelf (F.state shelf.old) (F.state shelf.new) result }
     {
         if !self.find(shelf)? {
             return Ok(false);
@@ -131,32 +109,13 @@ impl PacketReader {
 
     /// Goes on to the next packet line, and answers whether there is one.
     fn find<F: Shelf>(&mut self, shelf: &mut F) -> Result<bool, RunFault>
-        ensures line { IfOk result
-            (λ is_line. IsTrue is_line → IsTrue (F.state shelf.old).tells →
-            (limit : ℕ) (text : List ℕ) (gave : List (ℕ × List ℕ)) →
-            ReadsLines limit text gave self.old (F.state shelf.old).rest →
-            AtLine limit text gave self.new (F.state shelf.new).rest) }
-        ensures end { IfOk result
-            (λ is_line. is_line ≡ false → IsTrue (F.state shelf.old).tells →
-            (limit : ℕ) (text : List ℕ) (gave : List (ℕ × List ℕ)) →
-            ReadsLines limit text gave self.old (F.state shelf.old).rest →
-            (length text ≤ limit) × (numbered_lines 1 text ≡ gave)) }
-        ensures too_long { IsErrOf result RunFault.TooLong → IsTrue (F.state shelf.old).tells →
-            (limit : ℕ) (text : List ℕ) (gave : List (ℕ × List ℕ)) →
-            ReadsLines limit text gave self.old (F.state shelf.old).rest → PassesLimit limit text gave }
-        ensures ready { IfOk result (λ is_line. IsTrue is_line → IsTrue self.new.lines.is_ready) }
+        ensures next { GivesNext (F.state shelf.old) (F.state shelf.new) self.old self.new result }
         ensures one_more { IfOk result
             (λ is_line. IsTrue is_line →
             HasLines (self.new.given + 1) self.new.is_finished self.new.lines) }
         ensures given { self.new.given ≡ self.old.given }
         ensures few { self.old.given ≤ 1099511627776 }
-        ensures either { IfErr result
-            (λ fault. (fault ≡ RunFault.Read) ⊎ (fault ≡ RunFault.TooLong)) }
-        ensures failed { IsErrOf result RunFault.Read →
-            ReadingFailed (F.state shelf.old) (F.state shelf.new) }
-        ensures never_fails { IsErrOf result RunFault.Read → IsTrue (F.state shelf.old).steady →
-            ⊥ }
-        ensures only_read { OnlyRead (F.state shelf.old) (F.state shelf.new) }
+        ensures asks { AsksShelf (F.state shelf.old) (F.state shelf.new) result }
     {
         if self.is_finished {
             return Ok(false);
@@ -210,13 +169,7 @@ impl PacketReader {
             ReadsLines limit text gave self.old (F.state shelf.old).rest → PassesLimit limit text gave }
         ensures going_on { self.new.is_finished ≡ false }
         ensures given { self.new.given ≡ self.old.given }
-        ensures either { IfErr result
-            (λ fault. (fault ≡ RunFault.Read) ⊎ (fault ≡ RunFault.TooLong)) }
-        ensures failed { IsErrOf result RunFault.Read →
-            ReadingFailed (F.state shelf.old) (F.state shelf.new) }
-        ensures never_fails { IsErrOf result RunFault.Read → IsTrue (F.state shelf.old).steady →
-            ⊥ }
-        ensures only_read { OnlyRead (F.state shelf.old) (F.state shelf.new) }
+        ensures asks { AsksShelf (F.state shelf.old) (F.state shelf.new) result }
     {
         let most = self.left.min(PIECE as u64).max(1);
         let Ok(count) = self.piece.fill(shelf, most as usize) else {

@@ -1,6 +1,7 @@
 -- The trees of the program of a sample: its text, line by line.
 use Rattle.std.proofs.Common.{◌≡◌, refl, subst, sym, ℕ, zero, suc, ◌+◌, Bool, true, leb, List, [], ◌∷◌, ◌++◌, codes}
 use Rattle.std.specs.Prelude.{◌&&◌, nat_le}
+use Rattle.std.specs.List.{flat_map}
 use Rattle.std.proofs.lemmas.Bool.{and_parts, leb-true}
 use Rattle.rmt_lexer.specs.declared.token.Token.{Token}
 use Rattle.rmt_lexer.specs.declared.token.TokenKind.TheVariants as kind
@@ -46,27 +47,27 @@ select =
     (many rule.Target (one (word 1 83 (codes "accept")) nil)
     (run (sign 1 89 (codes ";") ∷ sign 1 91 (codes "}") ∷ []) nil))))
 
+-- NAME : NUMBER ; at these columns of a line
+abbrev declared : (line column : ℕ) → List ℕ → (colon at width end : ℕ) → List Token
+declared line column name colon at width end = word line column name ∷ sign line colon (codes ":") ∷ number line at width ∷ sign line end (codes ";") ∷ []
+
+-- header NAME { FIELDS } next NEXT
+abbrev header : (line : ℕ) → List ℕ → (brace : ℕ) → List (List Token) → (close next : ℕ) → Forest → Forest
+header line name brace fields close next behind =
+    run (word line 1 (codes "header") ∷ word line 8 name ∷ sign line brace (codes "{") ∷ flat_map (λ (ts : List Token). ts) fields)
+    (run (sign line close (codes "}") ∷ word line next (codes "next") ∷ []) (many rule.Next behind nil))
+
 -- header eth { dst : 48; src : 48; kind : 16; } next (kind) { 0x0800 : ipv4; else : accept; }
 abbrev pub header_eth : Forest
-header_eth =
-    run (word 1 1 (codes "header") ∷ word 1 8 (codes "eth") ∷ sign 1 12 (codes "{") ∷ [])
-    (run (word 1 14 (codes "dst") ∷ sign 1 18 (codes ":") ∷ number 1 20 48 ∷ sign 1 22 (codes ";") ∷ [])
-    (run (word 1 24 (codes "src") ∷ sign 1 28 (codes ":") ∷ number 1 30 48 ∷ sign 1 32 (codes ";") ∷ [])
-    (run (word 1 34 (codes "kind") ∷ sign 1 39 (codes ":") ∷ number 1 41 16 ∷ sign 1 43 (codes ";") ∷ [])
-    (run (sign 1 45 (codes "}") ∷ word 1 47 (codes "next") ∷ []) (many rule.Next select nil)))))
+header_eth = header 1 (codes "eth") 12 (declared 1 14 (codes "dst") 18 20 48 22 ∷ declared 1 24 (codes "src") 28 30 48 32 ∷ declared 1 34 (codes "kind") 39 41 16 43 ∷ []) 45 47 select
 
 -- header ipv4 { head : 64; ttl : 8; proto : 8; sum : 16; src : 32; dst : 32; } next accept;
 abbrev pub header_ipv4 : Forest
 header_ipv4 =
-    run (word 2 1 (codes "header") ∷ word 2 8 (codes "ipv4") ∷ sign 2 13 (codes "{") ∷ [])
-    (run (word 2 15 (codes "head") ∷ sign 2 20 (codes ":") ∷ number 2 22 64 ∷ sign 2 24 (codes ";") ∷ [])
-    (run (word 2 26 (codes "ttl") ∷ sign 2 30 (codes ":") ∷ number 2 32 8 ∷ sign 2 33 (codes ";") ∷ [])
-    (run (word 2 35 (codes "proto") ∷ sign 2 41 (codes ":") ∷ number 2 43 8 ∷ sign 2 44 (codes ";") ∷ [])
-    (run (word 2 46 (codes "sum") ∷ sign 2 50 (codes ":") ∷ number 2 52 16 ∷ sign 2 54 (codes ";") ∷ [])
-    (run (word 2 56 (codes "src") ∷ sign 2 60 (codes ":") ∷ number 2 62 32 ∷ sign 2 64 (codes ";") ∷ [])
-    (run (word 2 66 (codes "dst") ∷ sign 2 70 (codes ":") ∷ number 2 72 32 ∷ sign 2 74 (codes ";") ∷ [])
-    (run (sign 2 76 (codes "}") ∷ word 2 78 (codes "next") ∷ [])
-    (many rule.Next (many rule.Target (one (word 2 83 (codes "accept")) nil) (one (sign 2 89 (codes ";")) nil)) nil))))))))
+    header 2 (codes "ipv4") 13
+    (declared 2 15 (codes "head") 20 22 64 24 ∷ declared 2 26 (codes "ttl") 30 32 8 33 ∷ declared 2 35 (codes "proto") 41 43 8 44 ∷ declared 2 46 (codes "sum") 50 52 16 54
+    ∷ declared 2 56 (codes "src") 60 62 32 64 ∷ declared 2 66 (codes "dst") 70 72 32 74 ∷ [])
+    76 78 (many rule.Target (one (word 2 83 (codes "accept")) nil) (one (sign 2 89 (codes ";")) nil))
 
 -- action forward(port : 9) { out_port = port; }
 abbrev pub action_forward : Forest

@@ -1,5 +1,5 @@
 -- The program of a sample as it is read from its trees.
-use Rattle.std.proofs.Common.{ℕ, List, [], ◌∷◌, codes, true, false, None, Some}
+use Rattle.std.proofs.Common.{ℕ, Bool, List, [], ◌∷◌, codes, true, false, None, Some}
 use Rattle.rmt_ast.specs.declared.program.Kind.TheVariants.{Exact}
 use Rattle.rmt_lexer.specs.declared.position.Position.{Position}
 use Rattle.rmt_check.specs.declared.source.ActionText.{ActionText}
@@ -89,28 +89,18 @@ action_discard = record {
   assigns = assigned (common 4 20 (codes "drop")) (leaf.Number (number 4 27 1)) ∷ [];
 }
 
+-- a table of one exact field, whose line goes on behind its size at the column of its default action
+abbrev table : (line : ℕ) → List ℕ → FieldText → (actions size n : ℕ) → Bool → (default : ℕ) → TableText
+table line name field actions size n counted default =
+    let key : KeyText = record { kind = Exact; fields = field ∷ []; actions = ident line actions (codes "forward") ∷ []; size = number line size n; counted = counted } in
+    record { ident = ident line 7 name; key = Some key; default = ident line default (codes "discard"); args = [] }
+
 -- behind its size the line of a table goes on at this column
 abbrev pub table_macs : (n column : ℕ) → TableText
-table_macs n column =
-    let key : KeyText = record {
-      kind = Exact;
-      fields = field 5 20 (codes "eth") 24 (codes "dst") ∷ [];
-      actions = ident 5 37 (codes "forward") ∷ [];
-      size = number 5 51 n;
-      counted = true;
-    } in
-    record { ident = ident 5 7 (codes "macs"); key = Some key; default = ident 5 (step 19 column) (codes "discard"); args = [] }
+table_macs n column = table 5 (codes "macs") (field 5 20 (codes "eth") 24 (codes "dst")) 37 51 n true (step 19 column)
 
 abbrev pub table_hosts : (n column : ℕ) → TableText
-table_hosts n column =
-    let key : KeyText = record {
-      kind = Exact;
-      fields = field 6 21 (codes "ipv4") 26 (codes "dst") ∷ [];
-      actions = ident 6 39 (codes "forward") ∷ [];
-      size = number 6 53 n;
-      counted = false;
-    } in
-    record { ident = ident 6 7 (codes "hosts"); key = Some key; default = ident 6 (step 10 column) (codes "discard"); args = [] }
+table_hosts n column = table 6 (codes "hosts") (field 6 21 (codes "ipv4") 26 (codes "dst")) 39 53 n false (step 10 column)
 
 -- a table in an arm of the `if`
 abbrev applied : ℕ → ℕ → ℕ → List ℕ → NodeText

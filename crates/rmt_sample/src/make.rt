@@ -1,8 +1,7 @@
 //! The three texts.
 
-ghost use Rattle.std.specs.Prelude.{◌≡◌, ◌≤◌, ◌*◌, ◌++◌, [], IfOk, OnOk, string_bytes};
-ghost use Rattle.std.specs.List.{flat_map, range_with_len};
-ghost use Rattle.rmt_sample.specs.Texts.{program_text, entries_text, packets_text, station_line, host_line, packet_line};
+ghost use Rattle.std.specs.Prelude.{◌≡◌, ◌≤◌, IfOk};
+ghost use Rattle.rmt_sample.specs.Texts.{program_text, entries_text, packets_text};
 
 use crate::sample::{Sample, SampleFault};
 use crate::text::{put_host, put_packet, put_station};
@@ -47,33 +46,18 @@ fn program(alloc: Global, n: u32) -> Result<Vec<u8>, AllocError>
     Ok(text.into_bytes())
 }
 
+#[tactic(auto, using(crate::proofs::Lines::one_more, crate::proofs::Lines::appended))]
 fn entries(alloc: Global, n: u32) -> Result<Vec<u8>, AllocError>
     ensures { IfOk result (λ text. text.items ≡ entries_text n) }
 {
     let mut text = Vec::new(alloc);
-    put_stations(alloc, n, &mut text)?;
-    put_hosts(alloc, n, &mut text)?;
+    for i in 0..n {
+        put_station(alloc, i, &mut text)?;
+    }
+    for i in 0..n {
+        put_host(alloc, i, &mut text)?;
+    }
     Ok(text)
-}
-
-#[tactic(auto, using(crate::proofs::Lines::appended))]
-fn put_stations(alloc: Global, n: u32, text: &mut Vec<u8>) -> Result<(), AllocError>
-    ensures { OnOk result (text.new.items ≡ text.old.items ++ flat_map station_line (range_with_len 0 n)) }
-{
-    for i in 0..n {
-        put_station(alloc, i, text)?;
-    }
-    Ok(())
-}
-
-#[tactic(auto, using(crate::proofs::Lines::appended))]
-fn put_hosts(alloc: Global, n: u32, text: &mut Vec<u8>) -> Result<(), AllocError>
-    ensures { OnOk result (text.new.items ≡ text.old.items ++ flat_map host_line (range_with_len 0 n)) }
-{
-    for i in 0..n {
-        put_host(alloc, i, text)?;
-    }
-    Ok(())
 }
 
 #[tactic(auto, using(crate::proofs::Lines::one_more))]

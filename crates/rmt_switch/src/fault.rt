@@ -1,9 +1,5 @@
 //! Why a group text is refused.
 
-ghost use Rattle.std.specs.Prelude.{◌≡◌};
-ghost use Rattle.rmt_switch.specs.declared.fault.GroupFault.TheVariants.{NoMemory};
-
-use std::alloc::{AllocError, AllocFailed};
 use thiserror::Error;
 
 /// Why a group text is refused.
@@ -20,20 +16,4 @@ pub enum GroupFault {
         /// The number of the line, from 1.
         line: u32,
     },
-}
-
-impl From<AllocError> for GroupFault {
-    ghost from_gives = { λ _ e. e ≡ NoMemory };
-
-    fn from(_error: AllocError) -> GroupFault {
-        GroupFault::NoMemory
-    }
-}
-
-impl<T: Drop> From<AllocFailed<T>> for GroupFault {
-    ghost from_gives = { λ _ e. e ≡ NoMemory };
-
-    fn from(_error: AllocFailed<T>) -> GroupFault {
-        GroupFault::NoMemory
-    }
 }

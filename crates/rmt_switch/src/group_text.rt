@@ -26,7 +26,9 @@ pub fn groups(alloc: Global, text: &[u8]) -> Result<Groups, GroupFault>
     requires short { length text.now < 4294967295 }
     ensures exact { Gives result (groups_of text.now) }
 {
-    let mut groups = Groups::none(alloc)?;
+    let Ok(mut groups) = Groups::none(alloc) else {
+        return Err(GroupFault::NoMemory);
+    };
     let mut rest = text;
     let mut number = 1u32;
     while !rest.is_empty() {
@@ -50,7 +52,10 @@ fn add_line(alloc: Global, groups: &mut Groups, line: &[u8], number: u32) -> Res
         code: 8,
         line: number,
     };
-    let Some(group) = group_of(alloc, line)? else {
+    let Ok(said) = group_of(alloc, line) else {
+        return Err(GroupFault::NoMemory);
+    };
+    let Some(group) = said else {
         return Err(bad);
     };
     if groups.has(group.number) {

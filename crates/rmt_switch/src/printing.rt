@@ -21,18 +21,18 @@ pub fn switch_line(alloc: Global, counts: &SwitchCounts) -> Result<String, Alloc
 fn sent_part(alloc: Global, counts: &SwitchCounts) -> Result<String, AllocError>
     ensures { IfOk result (λ part. string_bytes part ≡ sent_part counts.now) }
 {
-    let packets = counts.packets;
-    let skipped = counts.skipped;
-    let out = counts.out;
-    format!(in alloc; "switch packets {packets} skipped {skipped} out {out}")
+    format!(in alloc;
+        "switch packets {} skipped {} out {}",
+        counts.packets, counts.skipped, counts.out
+    )
 }
 
 /// What was lost, and the end of the line.
 fn lost_part(alloc: Global, counts: &SwitchCounts) -> Result<String, AllocError>
     ensures { IfOk result (λ part. string_bytes part ≡ lost_part counts.now) }
 {
-    let dropped = counts.dropped;
-    let queue = counts.queue;
-    let cells = counts.cells;
-    format!(in alloc; " drop {dropped} queue {queue} cells {cells}\n")
+    format!(in alloc;
+        " drop {} queue {} cells {}\n",
+        counts.dropped, counts.queue, counts.cells
+    )
 }

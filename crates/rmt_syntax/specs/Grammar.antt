@@ -1,5 +1,5 @@
 -- The grammar of program text: what a public clause speaks of, and a reader has to believe. Its words are passed on.
-use Rattle.std.specs.Prelude.{ℕ, List, [], ◌∷◌, Bool, ◌==◌, codes, if◌then◌else◌}
+use Rattle.std.specs.Prelude.{ℕ, List, [], ◌∷◌, Bool, ◌==◌, codes, map, if◌then◌else◌}
 use Rattle.std.specs.Str.{bytes_eq}
 use Rattle.rmt_lexer.specs.declared.token.TokenKind.{TokenKind}
 use Rattle.rmt_lexer.specs.declared.token.TokenKind.TheVariants as token
@@ -85,6 +85,10 @@ terminal_of token.End = terminal.End
 abbrev pub Form : Type 0
 Form = List Part × Phrase
 
+-- forms of one part each, with which the text ends
+abbrev pub one_of : List Part → List Form
+one_of parts = map (λ (p : Part). (p ∷ [], phrase.Done)) parts
+
 -- The grammar. The text of a rule is one of the forms of its phrase `Whole`; a phrase that goes on is one of its forms again.
 -- What each phrase is of, is said at its variant.
 abbrev pub choices : Phrase → List Form
@@ -123,10 +127,7 @@ choices phrase.Mask =
     (One terminal.Ampersand ∷ One terminal.Number ∷ [], phrase.Done) ∷
     ([], phrase.Done) ∷ []
 -- target = NAME | "accept" | "reject"
-choices (Whole rule.Target) =
-    (One terminal.Name ∷ [], phrase.Done) ∷
-    (One terminal.Accept ∷ [], phrase.Done) ∷
-    (One terminal.Reject ∷ [], phrase.Done) ∷ []
+choices (Whole rule.Target) = one_of (One terminal.Name ∷ One terminal.Accept ∷ One terminal.Reject ∷ [])
 -- meta = "meta" "{" { NAME ":" NUMBER ";" } "}"
 choices (Whole rule.Meta) = (One terminal.Meta ∷ One terminal.OpenBrace ∷ [], phrase.MetaFields) ∷ []
 choices phrase.MetaFields =
@@ -152,9 +153,7 @@ choices (Whole rule.Field) =
     (One terminal.InPort ∷ [], phrase.Done) ∷
     (One terminal.OutPort ∷ [], phrase.Done) ∷
     (One terminal.Drop ∷ [], phrase.Done) ∷ []
-choices phrase.FieldEnd =
-    (One terminal.Name ∷ [], phrase.Done) ∷
-    (One terminal.Valid ∷ [], phrase.Done) ∷ []
+choices phrase.FieldEnd = one_of (One terminal.Name ∷ One terminal.Valid ∷ [])
 -- expr = leaf [ ( "+" | "-" | "&" | "|" | "^" ) leaf ]
 choices (Whole rule.Expr) = (Node rule.Leaf ∷ [], phrase.Operation) ∷ []
 choices phrase.Operation =
@@ -165,10 +164,7 @@ choices phrase.Operation =
     (One terminal.Caret ∷ Node rule.Leaf ∷ [], phrase.Done) ∷
     ([], phrase.Done) ∷ []
 -- leaf = field | NAME | NUMBER
-choices (Whole rule.Leaf) =
-    (Node rule.Field ∷ [], phrase.Done) ∷
-    (One terminal.Name ∷ [], phrase.Done) ∷
-    (One terminal.Number ∷ [], phrase.Done) ∷ []
+choices (Whole rule.Leaf) = one_of (Node rule.Field ∷ One terminal.Name ∷ One terminal.Number ∷ [])
 -- table = "table" NAME "{" [ key ] "default" NAME "(" [ NUMBER { "," NUMBER } ] ")" ";" "}"
 choices (Whole rule.Table) = (One terminal.Table ∷ One terminal.Name ∷ One terminal.OpenBrace ∷ [], phrase.TableKey) ∷ []
 choices phrase.TableKey =

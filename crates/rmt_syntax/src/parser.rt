@@ -25,6 +25,9 @@ use std::alloc::Global;
 /// The greatest number of blocks in one another.
 const MOST_BLOCKS: u8 = 32;
 
+/// How a step of the parser ends: with the fault that refuses the text, if there is one.
+type Step = Result<(), ProgramFault>;
+
 /// The fault of a rule at a token.
 fn fault_at(code: u8, token: &Token) -> ProgramFault
     ensures { result ≡ At code token.now.line token.now.column }
@@ -54,12 +57,7 @@ fn is_kind(token: &Token, wanted: Terminal) -> bool
 }
 
 /// Takes a token as the part that comes next, or refuses it.
-fn take_part(
-    reader: &mut Reader,
-    tokens: &[Token],
-    at: usize,
-    wanted: Terminal,
-) -> Result<(), ProgramFault>
+fn take_part(reader: &mut Reader, tokens: &[Token], at: usize, wanted: Terminal) -> Step
     requires inside { at < length tokens.now }
     requires ends { EndsOnce tokens.now }
     requires next { slice_get reader.old.inner.todo.now 0 ≡ Some (One wanted) }
@@ -76,7 +74,7 @@ fn take_part(
 }
 
 /// Refuses a token where a block is to come and none begins, or a 33rd one does.
-fn check_block(reader: &Reader, tokens: &[Token], at: usize, rule: Rule) -> Result<(), ProgramFault>
+fn check_block(reader: &Reader, tokens: &[Token], at: usize, rule: Rule) -> Step
     requires inside { at < length tokens.now }
     requires next { slice_get reader.now.inner.todo.now 0 ≡ Some (Node rule) }
     requires stands { Before tokens.now at reader.now }
@@ -97,12 +95,7 @@ fn check_block(reader: &Reader, tokens: &[Token], at: usize, rule: Rule) -> Resu
 }
 
 /// Begins the node that comes next, or refuses the token.
-fn enter_node(
-    reader: &mut Reader,
-    tokens: &[Token],
-    at: usize,
-    rule: Rule,
-) -> Result<(), ProgramFault>
+fn enter_node(reader: &mut Reader, tokens: &[Token], at: usize, rule: Rule) -> Step
     requires inside { at < length tokens.now }
     requires next { slice_get reader.old.inner.todo.now 0 ≡ Some (Node rule) }
     requires stands { Before tokens.now at reader.old }
@@ -116,7 +109,7 @@ fn enter_node(
 }
 
 /// Ends the node that is read, or refuses the token behind the text.
-fn close_node(reader: &mut Reader, tokens: &[Token], at: usize) -> Result<(), ProgramFault>
+fn close_node(reader: &mut Reader, tokens: &[Token], at: usize) -> Step
     requires inside { at < length tokens.now }
     requires next { reader.old.inner.todo.now ≡ [] }
     requires then { reader.old.inner.then ≡ Done }
@@ -133,7 +126,7 @@ fn close_node(reader: &mut Reader, tokens: &[Token], at: usize) -> Result<(), Pr
 }
 
 /// Goes on with the form of the phrase that begins with the token, or refuses it.
-fn choose_form(reader: &mut Reader, tokens: &[Token], at: usize) -> Result<(), ProgramFault>
+fn choose_form(reader: &mut Reader, tokens: &[Token], at: usize) -> Step
     requires inside { at < length tokens.now }
     requires next { reader.old.inner.todo.now ≡ [] }
     requires then { is_done reader.old.inner.then ≡ false }
@@ -165,7 +158,7 @@ fn is_dot(tokens: &[Token], at: usize) -> bool
 }
 
 /// Takes a name as an operand, or as the first token of one.
-fn take_operand(reader: &mut Reader, tokens: &[Token], at: usize) -> Result<(), ProgramFault>
+fn take_operand(reader: &mut Reader, tokens: &[Token], at: usize) -> Step
     requires inside { at < length tokens.now }
     requires ends { EndsOnce tokens.now }
     requires next { reader.old.inner.todo.now ≡ [] }
@@ -211,7 +204,7 @@ fn pass_phrase(reader: &mut Reader, tokens: &[Token], at: usize) -> Result<bool,
 }
 
 /// Reads one token.
-fn read_token(reader: &mut Reader, tokens: &[Token], at: usize) -> Result<(), ProgramFault>
+fn read_token(reader: &mut Reader, tokens: &[Token], at: usize) -> Step
     requires inside { at < length tokens.now }
     requires ends { EndsOnce tokens.now }
     requires stands { Before tokens.now at reader.old }

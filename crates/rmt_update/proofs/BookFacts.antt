@@ -95,6 +95,16 @@ module _ (c : Config) (names : Names) (cells : RunCells) (lists : List (List Ent
   pub holds-there : (i : ℕ) (t : TableCells) → slice_get tables i ≡ Some t → AllZip (HoldsPart cells) (parts_of c t.name.node) t.parts.items
   holds-there i t at = All-slice_get (HoldsTable c cells) tables i t stands.tables at
 
+  -- what is known of a table of the book
+  pub record TableHeld (t : TableCells) : Type 0 where
+    pub holds : AllZip (HoldsPart cells) (parts_of c t.name.node) t.parts.items
+    pub shapes : AllZip HasShape (parts_of c t.name.node) t.parts.items
+    pub own : Own c names lists t.name.node t
+
+  pub table-held : (i : ℕ) (t : TableCells) → slice_get tables i ≡ Some t → TableHeld t
+  table-held i t at =
+      let holds = holds-there i t at in record { holds = holds; shapes = zip-shapes cells (parts_of c t.name.node) t.parts.items holds; own = own-there i t at }
+
   -- ---- cells
 
   -- what is known of a cell of the book

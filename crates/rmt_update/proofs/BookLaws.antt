@@ -8,7 +8,8 @@ use Rattle.rmt_bits.proofs.FunctionLaws.{funext}
 use Rattle.rmt_ast.specs.declared.entry.Entry.{Entry}
 use Rattle.rmt_ast.specs.declared.names.Names.{Names}
 use Rattle.rmt_ast.specs.declared.names.TableName.{TableName}
-use Rattle.rmt_ast.specs.NameRules.{table_is_formed}
+use Rattle.rmt_ast.specs.NameRules.{has_fields, table_is_formed}
+use Rattle.rmt_ast.specs.Naming.{has_key}
 use Rattle.rmt_config.specs.declared.config.Config.{Config}
 use Rattle.rmt_config.specs.Form.{Formed, names_are_fit, visible_with}
 use Rattle.rmt_config.specs.NamesForm.{by_number, entries_by_cell, entries_of_node, entries_spelled, has_entries, has_key_bits, has_order, has_parts, has_rows, is_filled_so, is_made_so, names_fit, node_count_of, stands_in_candidates}
@@ -31,6 +32,16 @@ use Rattle.rmt_book.proofs.ToldEntryLaws.{PartFacts, all-facts, parts-told}
 use Rattle.rmt_config.proofs.LayoutLaws.{memory_formed}
 
 -- ---- what the rules say of tables
+
+-- of the name of a table alone
+pub record NameFacts (t : TableName) : Type 0 where
+  pub key : has_key t.kind ≡ true
+  pub fields : has_fields t.kind t.keys ≡ true
+
+pub name-facts : (t : TableName) → table_is_formed t ≡ true → NameFacts t
+name-facts t formed =
+    let four = and_parts _ _ (and_parts _ _ (and_parts _ _ (and_parts _ _ formed).0).0).0 in
+    record { key = (and_parts _ _ (and_parts _ _ (and_parts _ _ four.0).0).0).0; fields = four.1 }
 
 pub record TableFacts (c : Config) (t : TableName) : Type 0 where
   pub formed : table_is_formed t ≡ true

@@ -1,14 +1,14 @@
 -- Each cell of a slot is a cell of one table of a book, and of one alone.
-use Rattle.std.proofs.Common.{◌≡◌, ℕ, zero, suc, ◌+◌, ◌<◌, ◌==◌, Bool, true, false, not, ◌||◌, cond, List, [], ◌∷◌, ◌++◌, get_or, map, Option, Some, None, option_map, unwrap_or, refl, sym, ap, ◌∙◌, subst, inl, inr, arith}
+use Rattle.std.proofs.Common.{◌≡◌, ℕ, zero, suc, ◌+◌, ◌<◌, ◌==◌, Bool, true, false, not, ◌||◌, cond, List, [], ◌∷◌, get_or, map, Option, Some, None, option_map, unwrap_or, refl, sym, ap, ◌∙◌, subst, inl, inr, arith}
 use Rattle.std.specs.Prelude.{Contains, IsSomeAnd, find, nat_lt, option_and_then, slice_get}
-use Rattle.std.specs.List.{AllZip, enumerate_from, list_all, list_any}
+use Rattle.std.specs.List.{AllZip, list_all, list_any}
 use Rattle.std.specs.BTreeMap.{get}
 use Rattle.std.specs.Ordering.{nat_cmp}
 use Rattle.std.proofs.lemmas.Bool.{and_parts, cases_lt, eq-eqb, eqb-true, ltb-true, ne_eqb}
 use Rattle.std.proofs.lemmas.List.Elements.{All-contains, Contains-append_left, Contains-append_right}
 use Rattle.std.proofs.lemmas.Option.{get_or_from_slice_get, none-some, same_Some, slice_get-get_or}
 use Rattle.rmt_bits.proofs.AllLaws.{All-from_test, All-slice_get}
-use Rattle.rmt_bits.proofs.MemberLaws.{Contains-first, Contains-flat_map, Contains-item, Contains-later, Contains-map}
+use Rattle.rmt_bits.proofs.MemberLaws.{Contains-item, Contains-map}
 use Rattle.rmt_ast.specs.declared.entry.Entry.{Entry}
 use Rattle.rmt_ast.specs.declared.names.Names.{Names}
 use Rattle.rmt_ast.specs.declared.names.TableName.{TableName}
@@ -19,14 +19,16 @@ use Rattle.rmt_config.specs.declared.config.Memory.TheVariants.{Without, Exact, 
 use Rattle.rmt_config.specs.declared.config.SlotUnit.{SlotUnit}
 use Rattle.rmt_config.specs.declared.config.Stage.{Stage}
 use Rattle.rmt_config.specs.declared.config.Unit.{Unit}
-use Rattle.rmt_config.specs.declared.config.Unit.TheVariants.{Gate, Slot}
+use Rattle.rmt_config.specs.declared.config.Unit.TheVariants.{Slot}
 use Rattle.rmt_config.specs.Cells.{cells_in}
 use Rattle.rmt_config.specs.Commits.{IsCell}
 use Rattle.rmt_config.specs.Life.{has_memory}
 use Rattle.rmt_config.specs.NamesForm.{is_named}
-use Rattle.rmt_config.specs.Rooms.{PartAt, parts_among, parts_of}
-use Rattle.rmt_config.specs.RunCells.{RunCells, as_slot, slot_at}
+use Rattle.rmt_config.specs.Rooms.{PartAt, parts_of}
+use Rattle.rmt_config.specs.RunCells.{RunCells, slot_at}
 use Rattle.rmt_config.specs.TableForm.{Placed, placed_from, placed_units}
+use Rattle.rmt_pack.proofs.PartLaws.{part_of_slot}
+use Rattle.rmt_pack.proofs.RoomLaws.{PartAtPlace, part_at_place}
 use Rattle.rmt_update.specs.declared.book.Book.{Book}
 use Rattle.rmt_book.specs.declared.spot.BookSpot.{BookSpot}
 use Rattle.rmt_book.specs.declared.table.PartCells.{PartCells}
@@ -81,63 +83,8 @@ found-node (x ∷ ts) (suc i) t rises at =
 -- ---- the slots of a configuration
 
 -- the part of a slot
-pub record IsPartThere (k at : ℕ) (s : SlotUnit) (ps : List PartAt) : Type 0 where
-  pub part : PartAt
-  pub there : Contains ps part
-  pub stage : part.stage ≡ k
-  pub place : part.place ≡ at
-  pub slot : part.slot ≡ s
-
-among-there : (k : ℕ) (units : List Unit) (at first i : ℕ) (s : SlotUnit) → slice_get units i ≡ Some (Slot s) → IsPartThere k (at + i) s (parts_among s.node k at first units)
-among-there k [] at first i s is = absurd (none-some (Slot s) is)
-among-there k (Gate g ∷ units) at first zero s is = absurd (none-some s (ap (λ (o : Option Unit). option_and_then as_slot o) is))
-among-there k (Gate g ∷ units) at first (suc i) s is =
-    let h = among-there k units (at + 1) first i s is in
-    record { part = h.part; there = h.there; stage = h.stage; place = h.place ∙ omega arith; slot = h.slot }
-among-there k (Slot x ∷ units) at first zero s is =
-    let same : x ≡ s = same_Some x s (ap (λ (o : Option Unit). option_and_then as_slot o) is) in
-    let p : PartAt = record { stage = k; place = at; first = first; slot = x } in
-    let rest = parts_among s.node k (at + 1) (first + x.actions + 1) units in
-    record {
-      part = p;
-      there = subst (λ b. Contains (cond b (p ∷ []) [] ++ rest) p) (sym (eq-eqb x.node s.node (ap (λ (y : SlotUnit). y.node) same))) (Contains-first p rest);
-      stage = refl;
-      place = omega arith;
-      slot = same;
-    }
-among-there k (Slot x ∷ units) at first (suc i) s is =
-    let h = among-there k units (at + 1) (first + x.actions + 1) i s is in
-    let p : PartAt = record { stage = k; place = at; first = first; slot = x } in
-    record {
-      part = h.part;
-      there = Contains-append_right (cond (x.node == s.node) (p ∷ []) []) (parts_among s.node k (at + 1) (first + x.actions + 1) units) h.part h.there;
-      stage = h.stage;
-      place = h.place ∙ omega arith;
-      slot = h.slot;
-    }
-
-numbered-there : {X : Type 0} (xs : List X) (a i : ℕ) (x : X) → slice_get xs i ≡ Some x → Contains (enumerate_from a xs) (a + i, x)
-numbered-there [] a i x is = absurd (none-some x is)
-numbered-there (y ∷ xs) a zero x is =
-    let none : a ≡ a + 0 = omega arith in
-    subst (λ n. Contains ((a, y) ∷ enumerate_from (a + 1) xs) (n, x)) none (subst (λ z. Contains ((a, y) ∷ enumerate_from (a + 1) xs) (a, z)) (same_Some y x is) (Contains-first (a, y) (enumerate_from (a + 1) xs)))
-numbered-there (y ∷ xs) a (suc i) x is =
-    let one : a + 1 + i ≡ a + suc i = omega arith in
-    subst (λ n. Contains ((a, y) ∷ enumerate_from (a + 1) xs) (n, x)) one (Contains-later (a, y) (enumerate_from (a + 1) xs) (a + 1 + i, x) (numbered-there xs (a + 1) i x is))
-
-pub part-there : (c : Config) (k place : ℕ) (s : SlotUnit) → slot_at c k place ≡ Some s → IsPartThere k place s (parts_of c s.node)
-part-there c k place s at =
-    let st = standing c k place s at in
-    let h = among-there k st.stage.units 0 0 place s st.in_units in
-    let none : 0 + k ≡ k = omega arith in
-    record {
-      part = h.part;
-      there = Contains-flat_map (λ (x : ℕ × Stage). parts_among s.node x.0 0 0 x.1.units) (enumerate_from 0 c.stages) (k, st.stage) h.part
-          (subst (λ n. Contains (enumerate_from 0 c.stages) (n, st.stage)) none (numbered-there c.stages 0 k st.stage st.in_stages)) h.there;
-      stage = h.stage;
-      place = h.place ∙ omega arith;
-      slot = h.slot;
-    }
+pub part-there : (c : Config) (k place : ℕ) (s : SlotUnit) → slot_at c k place ≡ Some s → PartAtPlace k place s (parts_of c s.node)
+part-there c k place s at = let h = part_of_slot c s.node k place s at refl in part_at_place c s.node k place h.0 s h.1
 
 -- a slot is among the units
 pub units-there : (stages : List Stage) (a i : ℕ) (stage : Stage) (u : Unit) → slice_get stages i ≡ Some stage → Contains stage.units u → Contains (placed_from a stages) (record { stage = a + i; unit = u })
@@ -281,12 +228,12 @@ module _ (c : Config) (cells : RunCells) (lists : List (List Entry)) (b : Book) 
           let get_part : slice_get (parts_of c t.name.node) there.0 ≡ Some h.part = slice_get-get_or (parts_of c t.name.node) there.0 h.part there.1 ∙ ap Some there.2 in
           let x = zip-left (HoldsPart cells) (parts_of c t.name.node) t.parts.items there.0 h.part (table-holds i t at) get_part in
           let count = cells-are h.part.slot x.0.shape x.2.shape in
-          let sizes = ap (λ (s : SlotUnit). cells_in s.memory) h.slot in
+          let sizes = ap (λ (s : SlotUnit). cells_in s.memory) h.slot_is in
           let s : BookSpot = record { table = i; at = record { part = there.0; cell = n } } in
           let a : IsBookSpot own_tables s = record { table = t; in_tables = at; part = x.0; in_parts = x.1; within = omega (arith, lt, count, sizes) } in
           let g = spot-part s a in
           let one : g.part ≡ h.part = same_Some g.part h.part (sym g.in_node ∙ get_part) in
-          record { spot = s; at = a; is = g; stage = ap (λ (p : PartAt). p.stage) one ∙ h.stage; place = ap (λ (p : PartAt). p.place) one ∙ h.place; cell = refl }
+          record { spot = s; at = a; is = g; stage = ap (λ (p : PartAt). p.stage) one ∙ h.stage_is; place = ap (λ (p : PartAt). p.place) one ∙ h.place_is; cell = refl }
 
       by : (o : Option SlotUnit) → slot_at c k place ≡ o → IsSomeAnd o (λ slot. n < cells_in slot.memory) → IsFound c cells own_tables k place n
       by None is lt = absurd lt

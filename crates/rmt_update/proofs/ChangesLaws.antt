@@ -1,7 +1,7 @@
 -- Changes one after another: what one more puts to them, and that in order they are what a stable sort leaves of them.
-use Rattle.std.proofs.Common.{◌≡◌, Bool, ◌&&◌, ◌==◌, List, [], ◌∷◌, ◌++◌, refl, sym, ap, ◌∙◌}
+use Rattle.std.proofs.Common.{◌≡◌, Bool, true, false, cond, ◌&&◌, ◌==◌, Some, option_map, List, [], ◌∷◌, ◌++◌, refl, sym, ap, ◌∙◌}
 use Rattle.std.specs.Prelude.{reverse}
-use Rattle.std.specs.BTreeMap.{insert_entry}
+use Rattle.std.specs.BTreeMap.{insert_entry, is_at}
 use Rattle.std.specs.List.{dedup}
 use Rattle.std.specs.List.Sorted.{IsSortedByKey, IsStableByKey, IsStrictlySortedBy}
 use Rattle.std.specs.Map.{keys_of}
@@ -14,7 +14,8 @@ use Rattle.rmt_config.proofs.OrderLaws.{same_number}
 use Rattle.rmt_book.specs.declared.spot.BookSpot.{BookSpot}
 use Rattle.rmt_update.specs.declared.book.changing.CellChange.{CellChange}
 use Rattle.rmt_update.specs.Changing.{ChangeKey, key_cmp}
-use Rattle.rmt_update.specs.Differences.{Changes, changes_in}
+use Rattle.rmt_update.specs.Differences.{Changes, change_at, changes_in, write_at}
+use Rattle.rmt_update.proofs.InsertLaws.{lookup-insert}
 use Rattle.rmt_update.proofs.KeyedLaws.{key-exact, key-total}
 use Rattle.rmt_update.proofs.PutInOrder.{puts-in-order, sorted-puts}
 
@@ -29,6 +30,15 @@ pub change-put : (xs ys : List (ChangeKey × CellChange)) (key : ChangeKey) (s :
     → changes_in ys ≡ insert_entry key_cmp (changes_in xs) key (record { spot = s; write = v })
 change-put xs ys key s w v more is =
     ap changes_in more ∙ changes-pushed xs (key, record { spot = s; write = w }) ∙ ap (λ (x : CellWrite). insert_entry key_cmp (changes_in xs) key (record { spot = s; write = x })) is
+
+-- a changed cell that is put is found, and all others as before
+pub write-put : (m m2 : Changes) (q : ChangeKey) (x : CellChange) → m2 ≡ insert_entry key_cmp m q x → (r : ChangeKey) → write_at m2 r ≡ cond (is_at (key_cmp r) q) (Some x.write) (write_at m r)
+write-put m m2 q x is r =
+    ap (λ es. write_at es r) is ∙ ap (option_map (λ (y : CellChange). y.write)) (lookup-insert key-total key-exact m q r x) ∙ by (is_at (key_cmp r) q)
+  where
+    by : (b : Bool) → option_map (λ (y : CellChange). y.write) (cond b (Some x) (change_at m r)) ≡ cond b (Some x.write) (write_at m r)
+    by true = refl
+    by false = refl
 
 pub changes-ordered : (xs : List (ChangeKey × CellChange)) → IsStrictlySortedBy key_cmp (keys_of (changes_in xs))
 changes-ordered xs = puts-in-order key-total xs

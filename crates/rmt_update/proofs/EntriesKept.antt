@@ -30,6 +30,7 @@ use Rattle.rmt_update.specs.Following.{IsNextAbove}
 use Rattle.rmt_lists.specs.Running.{holds, key_of_entry}
 use Rattle.rmt_lists.proofs.FilterLaws.{numbers_of}
 use Rattle.rmt_lists.proofs.KeyLaws.{keyed_if}
+use Rattle.rmt_update.proofs.BookLaws.{name-facts}
 use Rattle.rmt_update.proofs.RoomNumbers.{slice_get-map_range}
 use Rattle.rmt_update.proofs.TableRules.{entries-at}
 
@@ -154,7 +155,7 @@ keys_pushed kind.Ternary es e once other = tt
 
 -- a prefix table of names has a field
 one_field : (t : TableName) → table_is_formed t ≡ true → t.kind ≡ kind.Prefix → length t.keys ≡ 1
-one_field t formed is = eqb-true (length t.keys) 1 (ap (λ k. has_fields k t.keys) (sym is) ∙ (and_parts _ _ (and_parts _ _ (and_parts _ _ (and_parts _ _ formed).0).0).0).1)
+one_field t formed is = eqb-true (length t.keys) 1 (ap (λ k. has_fields k t.keys) (sym is) ∙ (name-facts t formed).fields)
 
 has_field : (names : Names) → names_are_formed names ≡ true → (n : ℕ) (t : Terms) → terms_named names n ≡ Some t → t.kind ≡ kind.Prefix → 1 ≤ length t.widths
 has_field names formed n t told is = by (find (λ (x : TableName). x.node == n) names.tables) refl told

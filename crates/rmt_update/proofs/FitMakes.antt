@@ -51,6 +51,7 @@ use Rattle.rmt_update.proofs.ComingLaws.{mask-whole, own-args, own-params, some-
 use Rattle.rmt_update.proofs.PartHoldLaws.{part-slot}
 use Rattle.rmt_update.proofs.SpelledLaws.{tests-lt}
 use Rattle.rmt_update.proofs.TableRules.{entries-at}
+use Rattle.rmt_update.proofs.TurnedLaws.{by-bit}
 use Rattle.rmt_book.proofs.ToldEntryLaws.{PartFacts, all-facts}
 
 -- ---- heads with a visible bit more or less: s is a version's parity
@@ -61,35 +62,21 @@ record HasHead (head : ℕ) : Type 0 where
   small : head < 256
 
 more-bits : (s head : ℕ) → s < 2 → head % 2 ≡ 1 → head < 256 → HasHead (cond (eqb (head / 2 ^ (1 + s) % 2) 1) head (head + 2 ^ (1 + s)))
-more-bits zero head lt used small = by (eqb (head / 2 % 2) 1) refl
-  where
-    by : (b : Bool) → eqb (head / 2 % 2) 1 ≡ b → HasHead (cond b head (head + 2))
-    by true e = let two = eqb-true (head / 2 % 2) 1 e in record { occupied = used; seen = λ none. omega (arith, two, none); small = small }
-    by false e =
-        let two = eqb-false (head / 2 % 2) 1 e in
-        record { occupied = omega (arith, used); seen = λ none. omega (arith, two, none); small = omega (arith, small, two) }
-more-bits (suc zero) head lt used small = by (eqb (head / 4 % 2) 1) refl
-  where
-    by : (b : Bool) → eqb (head / 4 % 2) 1 ≡ b → HasHead (cond b head (head + 4))
-    by true e = let four = eqb-true (head / 4 % 2) 1 e in record { occupied = used; seen = λ none. omega (arith, four, none); small = small }
-    by false e =
-        let four = eqb-false (head / 4 % 2) 1 e in
-        record { occupied = omega (arith, used); seen = λ none. omega (arith, four, none); small = omega (arith, small, four) }
+more-bits zero head lt used small =
+    by-bit (head / 2 % 2) head (head + 2) HasHead (λ two. record { occupied = used; seen = λ none. omega (arith, two, none); small = small })
+    (λ two. record { occupied = omega (arith, used); seen = λ none. omega (arith, two, none); small = omega (arith, small, two) })
+more-bits (suc zero) head lt used small =
+    by-bit (head / 4 % 2) head (head + 4) HasHead (λ four. record { occupied = used; seen = λ none. omega (arith, four, none); small = small })
+    (λ four. record { occupied = omega (arith, used); seen = λ none. omega (arith, four, none); small = omega (arith, small, four) })
 more-bits (suc (suc s)) head lt used small = absurd (omega (arith, lt))
 
 less-bits : (s head : ℕ) → s < 2 → head % 2 ≡ 1 → head < 256 → visible_bits (cond (eqb (head / 2 ^ (1 + s) % 2) 1) (head - 2 ^ (1 + s)) head) ≢ 0
     → HasHead (cond (eqb (head / 2 ^ (1 + s) % 2) 1) (head - 2 ^ (1 + s)) head)
-less-bits zero head lt used small some = by (eqb (head / 2 % 2) 1) refl some
-  where
-    by : (b : Bool) → eqb (head / 2 % 2) 1 ≡ b → visible_bits (cond b (head - 2) head) ≢ 0 → HasHead (cond b (head - 2) head)
-    by true e some = let two = eqb-true (head / 2 % 2) 1 e in record { occupied = omega (arith, used, two); seen = some; small = omega (arith, small) }
-    by false e some = record { occupied = used; seen = some; small = small }
-less-bits (suc zero) head lt used small some = by (eqb (head / 4 % 2) 1) refl some
-  where
-    by : (b : Bool) → eqb (head / 4 % 2) 1 ≡ b → visible_bits (cond b (head - 4) head) ≢ 0 → HasHead (cond b (head - 4) head)
-    by true e some = let four = eqb-true (head / 4 % 2) 1 e in record { occupied = omega (arith, used, four); seen = some; small = omega (arith, small) }
-    by false e some = record { occupied = used; seen = some; small = small }
-less-bits (suc (suc s)) head lt used small some = absurd (omega (arith, lt))
+less-bits zero head lt used small =
+    by-bit (head / 2 % 2) (head - 2) head (λ n. visible_bits n ≢ 0 → HasHead n) (λ two some. record { occupied = omega (arith, used, two); seen = some; small = omega (arith, small) }) (λ two some. record { occupied = used; seen = some; small = small })
+less-bits (suc zero) head lt used small =
+    by-bit (head / 4 % 2) (head - 4) head (λ n. visible_bits n ≢ 0 → HasHead n) (λ four some. record { occupied = omega (arith, used, four); seen = some; small = omega (arith, small) }) (λ four some. record { occupied = used; seen = some; small = small })
+less-bits (suc (suc s)) head lt used small = absurd (omega (arith, lt))
 
 -- a cell with an entry, with such a head
 new-head : (slot : SlotUnit) (x : Content) (head : ℕ) → HasEntry slot x → HasHead head → HasEntry slot (record x { head = head })

@@ -141,7 +141,7 @@ module _ (c : Config) (names : Names) (formed : Formed c) (named : c.names ≡ S
       let node : t.0.node ≡ u.slot.node = eqb-true t.0.node u.slot.node (find-passes (λ (x : TableName). x.node == u.slot.node) names.tables t.0 t.1) in
       let part = part-there c k place u.slot slot_is in
       let e = entry_in c t.0 part.part u.item in
-      let listed : Contains part.part.slot.numbers u.item = subst (λ (s : SlotUnit). Contains s.numbers u.item) (sym part.slot) u.listed in
+      let listed : Contains part.part.slot.numbers u.item = subst (λ (s : SlotUnit). Contains s.numbers u.item) (sym part.slot_is) u.listed in
       let in_table : Contains (entries_by_cell c t.0) e =
       Contains-flat_map (λ (p : PartAt). map (entry_in c t.0 p) p.slot.numbers) (parts_of c t.0.node) part.part e
       (subst (λ m. Contains (parts_of c m) part.part) (sym node) part.there) (Contains-map (entry_in c t.0 part.part) part.part.slot.numbers u.item listed) in

@@ -37,7 +37,7 @@ use Rattle.rmt_book.specs.declared.table.TableCells.{TableCells}
 use Rattle.rmt_lists.specs.declared.lists.Changes.{Changes}
 use Rattle.rmt_update.specs.BookStands.{HoldsPart}
 use Rattle.rmt_update.specs.Come.{AreOrdered, IsRunOf, Run, staying}
-use Rattle.rmt_update.specs.Loads.{HasShape, table_of}
+use Rattle.rmt_update.specs.Loads.{table_of}
 use Rattle.rmt_update.specs.Open.{is_kept_seen}
 use Rattle.rmt_update.specs.Placing.{IsBookSpot, StaysAt, room_of}
 use Rattle.rmt_update.specs.Planned.{changed_lists}
@@ -46,7 +46,8 @@ use Rattle.rmt_book.specs.RowOrder.{AreInOrder, entry_key}
 use Rattle.rmt_lists.specs.Running.{is_among}
 use Rattle.rmt_book.specs.Seen.{IsReadable, entries_by_part}
 use Rattle.rmt_book.specs.Told.{told_entry}
-use Rattle.rmt_update.proofs.BookFacts.{found-there, holds-there, kept-facts, own-there, spot-facts, zip-shapes}
+use Rattle.rmt_update.proofs.BookFacts.{found-there, kept-facts, own-there, spot-facts, table-held}
+use Rattle.rmt_update.proofs.BookLaws.{name-facts}
 use Rattle.rmt_update.proofs.FreeLaws.{kept-bit}
 use Rattle.rmt_book.proofs.NamedLaws.{keys-low}
 use Rattle.rmt_update.proofs.PartOrder.{IsPartOf, nodes-apart, same-as}
@@ -58,7 +59,7 @@ use Rattle.rmt_update.proofs.RowRooms.{numbered-row, room-there, rooms-long, row
 use Rattle.rmt_update.proofs.RowsStand.{IsLow, RowsStand, never-less}
 use Rattle.rmt_book.proofs.ShapeLaws.{cells-are}
 use Rattle.rmt_update.proofs.StayLaws.{stay-in_after, stay_placed}
-use Rattle.rmt_update.proofs.TableRules.{Own, entries-at}
+use Rattle.rmt_update.proofs.TableRules.{entries-at}
 use Rattle.rmt_update.proofs.ZipLaws.{zip-left}
 
 -- ---- the ranks of entries
@@ -72,12 +73,7 @@ prefix-low t e formed zip one = by t.keys e.tests (keys-low t formed) zip one
     by (w ∷ ws) (t ∷ ts) low zip one = let le = zip.0.0 in let small = All-head (λ w. w ≤ 128) w ws low in omega (arith, le, small)
 
 pub low-entry : (t : TableName) (e : Entry) → table_is_formed t ≡ true → IsEntry t.node (terms_of_name t) e → IsLow t.kind e
-low-entry t e formed is =
-    let p7 = and_parts _ _ formed in
-    let p6 = and_parts _ _ p7.0 in
-    let p5 = and_parts _ _ p6.0 in
-    let p4 = and_parts _ _ p5.0 in
-    by t.kind is.rank p4.1
+low-entry t e formed is = by t.kind is.rank (name-facts t formed).fields
   where
     by : (k : Kind) → HasRank k t.keys e → has_fields k t.keys ≡ true → IsLow k e
     by kind.Keyless r f = tt
@@ -119,17 +115,7 @@ module _ (w : Run) (b : Book) (ch : Changes) (run : IsRunOf b ch w) (ordered : A
   abbrev parts : List PartAt
   parts = parts_of w.config x.name.node
 
-  abbrev tables : List TableCells
-  tables = b.tables.items
-
-  holds : AllZip (HoldsPart w.cells) parts x.parts.items
-  holds = holds-there w.config w.names w.cells w.lists b run.stands run.named at x at_x
-
-  shapes : AllZip HasShape parts x.parts.items
-  shapes = zip-shapes w.cells parts x.parts.items holds
-
-  own : Own w.config w.names w.lists x.name.node x
-  own = own-there w.config w.names w.cells w.lists b run.stands run.named at x at_x
+  open table-held w.config w.names w.cells w.lists b run.stands run.named at x at_x use {holds, shapes, own}
 
   -- the entries of the table are well formed
   pub entry-formed : (e : Entry) → Contains (all_entries (changed_lists w.lists ch)) e → e.table ≡ node → IsEntry node (terms_of_name x.name) e
@@ -153,11 +139,11 @@ module _ (w : Run) (b : Book) (ch : Changes) (run : IsRunOf b ch w) (ordered : A
   abbrev the_staying : List Placed
   the_staying = staying w ch
 
-  stays-at : (p : Placed) → Contains the_staying p → (s : BookSpot) × StaysAt b.odd ch.gone tables s p.entry × (p.room ≡ room_of w.config tables s)
-  stays-at p there = All-contains (λ (p : Placed). (s : BookSpot) × StaysAt b.odd ch.gone tables s p.entry × (p.room ≡ room_of w.config tables s)) the_staying p (stay_placed w b ch run ordered).each there
+  stays-at : (p : Placed) → Contains the_staying p → (s : BookSpot) × StaysAt b.odd ch.gone b.tables.items s p.entry × (p.room ≡ room_of w.config b.tables.items s)
+  stays-at p there = All-contains (λ (p : Placed). (s : BookSpot) × StaysAt b.odd ch.gone b.tables.items s p.entry × (p.room ≡ room_of w.config b.tables.items s)) the_staying p (stay_placed w b ch run ordered).each there
 
   -- with others that came to other tables
-  module _ (placed : List Placed) (others : All (λ (q : Placed). q.entry.table ≢ node) placed) (there : All (λ (q : Placed). (s : BookSpot) × (z : IsBookSpot tables s) × (q.entry.table ≡ z.table.name.node) × (q.room ≡ room_of w.config tables s)) placed) where
+  module _ (placed : List Placed) (others : All (λ (q : Placed). q.entry.table ≢ node) placed) (there : All (λ (q : Placed). (s : BookSpot) × (z : IsBookSpot b.tables.items s) × (q.entry.table ≡ z.table.name.node) × (q.room ≡ room_of w.config b.tables.items s)) placed) where
     abbrev all_placed : List Placed
     all_placed = the_staying ++ placed
 
@@ -183,7 +169,7 @@ module _ (w : Run) (b : Book) (ch : Changes) (run : IsRunOf b ch w) (ordered : A
             false≢true (sym clear ∙ ap (λ m. has_bit w.cells.version (w.cells.content m p.place n).head) stage ∙ ap (λ m. has_bit w.cells.version (w.cells.content k.facts.part.stage m n).head) place
             ∙ ap (λ m. has_bit w.cells.version (w.cells.content k.facts.part.stage k.facts.part.place m).head) cell ∙ bit)
         by q same (inr came) =
-            let s = All-contains (λ (q : Placed). (s : BookSpot) × (z : IsBookSpot tables s) × (q.entry.table ≡ z.table.name.node) × (q.room ≡ room_of w.config tables s)) placed q there came in
+            let s = All-contains (λ (q : Placed). (s : BookSpot) × (z : IsBookSpot b.tables.items s) × (q.entry.table ≡ z.table.name.node) × (q.room ≡ room_of w.config b.tables.items s)) placed q there came in
             let z = s.1 in
             let f = spot-facts w.config w.names w.cells w.lists b run.stands run.named s.0 z in
             let other = own-there w.config w.names w.cells w.lists b run.stands run.named s.0.table z.table z.in_tables in
@@ -201,7 +187,7 @@ module _ (w : Run) (b : Book) (ch : Changes) (run : IsRunOf b ch w) (ordered : A
       k_of = x.name.kind
 
       -- the spot of a row
-      abbrev row-spot : (j n : ℕ) (p : PartAt) (y : PartCells) → slice_get parts j ≡ Some p → slice_get x.parts.items j ≡ Some y → HoldsPart w.cells p y → n < cells_in p.slot.memory → IsBookSpot tables (record { table = at; at = record { part = j; cell = n } })
+      abbrev row-spot : (j n : ℕ) (p : PartAt) (y : PartCells) → slice_get parts j ≡ Some p → slice_get x.parts.items j ≡ Some y → HoldsPart w.cells p y → n < cells_in p.slot.memory → IsBookSpot b.tables.items (record { table = at; at = record { part = j; cell = n } })
       row-spot j n p y at_p at_y hold lt = record {
         table = x;
         in_tables = at_x;
@@ -228,11 +214,11 @@ module _ (w : Run) (b : Book) (ch : Changes) (run : IsRunOf b ch w) (ordered : A
           let z = row-spot r.at r.n r.p y.0 r.is.there y.1 y.2 r.is.within in
           let f = spot-facts w.config w.names w.cells w.lists b run.stands run.named s z in
           let part : f.part ≡ r.p = same_Some f.part r.p (sym f.there ∙ r.is.there) in
-          let h : StaysAt b.odd ch.gone tables s (told_entry x.name y.0.first k) =
+          let h : StaysAt b.odd ch.gone b.tables.items s (told_entry x.name y.0.first k) =
           record { at = z; kept = k; there = kept; seen = stays.0; stays = stays.1; tells = refl } in
           record {
             first = y.0.first;
-            room = room_of w.config tables s;
+            room = room_of w.config b.tables.items s;
             at_room = room-there parts i r.at r.n r.p r.is ∙ ap (λ (q : PartAt). Some (record { part = q; cell = r.n })) (sym part) ∙ ap Some (sym f.room);
             listed = (stay_placed w b ch run ordered).all s (told_entry x.name y.0.first k) h;
           }
@@ -288,7 +274,7 @@ module _ (w : Run) (b : Book) (ch : Changes) (run : IsRunOf b ch w) (ordered : A
           let f = spot-facts w.config w.names w.cells w.lists b run.stands run.named s.0 z in
           let same_node : z.table.name.node ≡ node = sym (ap (λ (e : Entry). e.table) h.tells) ∙ table in
           let same : z.table ≡ x =
-          same_Some z.table x (sym (found-there w.config w.names w.cells w.lists b run.stands run.named s.0.table z.table z.in_tables) ∙ ap (table_of tables) same_node
+          same_Some z.table x (sym (found-there w.config w.names w.cells w.lists b run.stands run.named s.0.table z.table z.in_tables) ∙ ap (table_of b.tables.items) same_node
           ∙ found-there w.config w.names w.cells w.lists b run.stands run.named at x at_x) in
           let in_parts : slice_get x.parts.items s.0.at.part ≡ Some z.part = ap (λ (t : TableCells). slice_get t.parts.items s.0.at.part) (sym same) ∙ z.in_parts in
           let in_node : slice_get parts s.0.at.part ≡ Some f.part = ap (λ n. slice_get (parts_of w.config n) s.0.at.part) (sym same_node) ∙ f.there in
@@ -310,8 +296,8 @@ module _ (w : Run) (b : Book) (ch : Changes) (run : IsRunOf b ch w) (ordered : A
               | inl gt ↦
                   let one = row-stays i a.0 a.1 a.2 in
                   let two = row-stays j z.0 z.1 z.2 in
-                  let first = rows-rise x.name k_of b.odd x.parts.items (All-slice_get AreOrdered tables at x ordered at_x)
-                  (order-later k_of (entries_by_part b.odd x) rowed (All-slice_get (IsReadable b.odd) tables at x run.stands.readable at_x).order) j i z.0 a.0 gt z.1 a.1 z.2.0 a.2.0 in
+                  let first = rows-rise x.name k_of b.odd x.parts.items (All-slice_get AreOrdered b.tables.items at x ordered at_x)
+                  (order-later k_of (entries_by_part b.odd x) rowed (All-slice_get (IsReadable b.odd) b.tables.items at x run.stands.readable at_x).order) j i z.0 a.0 gt z.1 a.1 z.2.0 a.2.0 in
                   not-both k m less
                   (ap (λ q. pair_cmp q k) z.3 ∙ ap (pair_cmp (kept_key k_of z.0)) a.3
                   ∙ key-less k_of (told_entry x.name 0 z.0) (told_entry x.name 0 a.0) rowed (low-kept two.first z.0 two.room two.listed) (low-kept one.first a.0 one.room one.listed) first)

@@ -6,7 +6,7 @@ use Rattle.std.proofs.lemmas.Bool.{cases_lt}
 use Rattle.std.proofs.lemmas.List.{length-append}
 use Rattle.std.proofs.lemmas.Option.{none-some, same_Some, slice_get_within}
 use Rattle.rmt_bits.proofs.AllLaws.{All-find, All-unmap}
-use Rattle.rmt_bits.proofs.ListLaws.{slice_get-end, slice_get-front, slice_get-item}
+use Rattle.rmt_bits.proofs.ListLaws.{slice_get-item}
 use Rattle.rmt_ast.specs.declared.entry.Entry.{Entry}
 use Rattle.rmt_ast.specs.declared.names.Names.{Names}
 use Rattle.rmt_ast.specs.declared.names.TableName.{TableName}
@@ -33,6 +33,7 @@ use Rattle.rmt_update.specs.FirstFull.{HasNoLoading, IsFirstFull, keys_of, layou
 use Rattle.rmt_update.specs.Loads.{AreStuck, AreTables, HasShape, IsLoaded, IsStuck, IsTriedAt, StandBy, StandUpto, layout_in, table_of, ways_for}
 use Rattle.rmt_book.specs.PartShape.{IsGrid}
 use Rattle.rmt_book.specs.Spots.{placed_from, placed_in}
+use Rattle.rmt_update.proofs.AfterLaws.{last-or-before}
 use Rattle.rmt_update.proofs.LoadLaws.{NodeTried, loading-of, node-tried, table-entries}
 use Rattle.rmt_update.proofs.PlacedLaws.{NodeStands, all-stand}
 use Rattle.rmt_update.proofs.TableRules.{own-table, terms-found}
@@ -65,20 +66,14 @@ none-upto tables lists seed = record { count_is = refl; each = λ n ss at. absur
 
 pub upto-more : (tables : List TableCells) (lists : List (List Entry)) (seed m : ℕ) (spots : List (List Spot)) (own : List Spot) → StandUpto tables lists seed m spots
     → IsTriedAt seed (list_of lists m) (table_of tables m) (table.Stand own) → StandUpto tables lists seed (m + 1) (spots ++ own ∷ [])
-upto-more tables lists seed m spots own upto here = record {
-  count_is = (let many = length-append spots (own ∷ []) in let count = upto.count_is in omega (arith, many, count));
-  each = λ n ss at. elim (cases_lt n (length spots)) [
-    | inl lt ↦ upto.each n ss (sym (slice_get-front spots (own ∷ []) n lt) ∙ at)
-    | inr le ↦
-        let count = upto.count_is in
-        let many = length-append spots (own ∷ []) in
-        let within = slice_get_within (spots ++ own ∷ []) n ss at in
-        let last : n ≡ length spots + 0 = omega (arith, le, within, many) in
-        let same : own ≡ ss = same_Some own ss (sym (slice_get-end spots (own ∷ []) 0) ∙ ap (slice_get (spots ++ own ∷ [])) (sym last) ∙ at) in
-        let number : m ≡ n = omega (arith, last, count) in
-        subst (λ k. IsTriedAt seed (list_of lists k) (table_of tables k) (table.Stand ss)) number (subst (λ s. IsTriedAt seed (list_of lists m) (table_of tables m) (table.Stand s)) same here)
-  ];
-}
+upto-more tables lists seed m spots own upto here =
+    let count = upto.count_is in
+    let stand : ℕ → List Spot → Type 0 = λ n ss. IsTriedAt seed (list_of lists n) (table_of tables n) (table.Stand ss) in
+    let last : m ≡ length spots = omega (arith, count) in
+    record {
+      count_is = (let many = length-append spots (own ∷ []) in omega (arith, many, count));
+      each = λ n ss. last-or-before spots own ss n stand (λ k z lt. upto.each k z) (subst (λ k. stand k own) last here);
+    }
 
 module _ (c : Config) (names : Names) (tables : List TableCells) (lists : List (List Entry)) (are : AreTables c names tables) (formed : AreEntriesOf names lists) where
   -- ---- all stand

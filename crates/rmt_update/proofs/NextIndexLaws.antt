@@ -53,14 +53,13 @@ use Rattle.rmt_update.proofs.CellsFound.{kept-is, one-spot}
 use Rattle.rmt_update.proofs.ComeSeen.{comes-visible, no-come}
 use Rattle.rmt_update.proofs.GoingLaws.{kept-there}
 use Rattle.rmt_update.proofs.LikeLaws.{like-from, like-of, like-seen}
-use Rattle.rmt_update.proofs.NextLists.{come-here}
 use Rattle.rmt_update.proofs.NextNumbers.{NextIs, new, old, next-is, same-cell}
 use Rattle.rmt_update.proofs.NextRowLaws.{unseen-there}
 use Rattle.rmt_update.proofs.NextTables.{beside, left-was, one-comes}
 use Rattle.rmt_update.proofs.RecentLaws.{recent-goes}
 use Rattle.rmt_update.proofs.RowNumbers.{number-spot, number-within, row-cell, same-count, same-spots, spot-number}
 use Rattle.rmt_update.proofs.SettledKept.{next_at}
-use Rattle.rmt_update.proofs.SettledPlaces.{none-come}
+use Rattle.rmt_update.proofs.SettledPlaces.{come-here, none-come}
 use Rattle.rmt_update.proofs.StayLaws.{from-filter_map, seen-in_lists, to-filter_map}
 use Rattle.rmt_update.proofs.ZipLaws.{zip-left, zip-length, zip-made, zip-right}
 

@@ -6,6 +6,7 @@ use Rattle.std.specs.BTreeMap.{BTreeMap, get, is_at}
 use Rattle.std.specs.BTreeSet.{contains}
 use Rattle.std.specs.Ordering.{nat_cmp}
 use Rattle.std.proofs.lemmas.Bool.{eq-eqb, eqb-true, false≢true}
+use Rattle.std.proofs.Math.Bool.{or-false, or-true}
 use Rattle.std.proofs.lemmas.List.{append-nil, length-set, take_all, take_more_set}
 use Rattle.std.proofs.lemmas.List.Elements.{All-contains, all_zip_more, filter_map-append}
 use Rattle.std.proofs.lemmas.List.Folds.{list_any-append}
@@ -96,12 +97,8 @@ freed-here at parts xs s (Rows o) (Rows m) (Rows new) here before freed = (
 )
   where
     joined : (f c a : Bool) → cond f true (c || a) ≡ (c || (a || ((true && f) || false)))
-    joined true true a = refl
-    joined true false true = refl
-    joined true false false = refl
-    joined false true a = refl
-    joined false false true = refl
-    joined false false false = refl
+    joined true c a = sym (ap (λ b. c || b) (or-true a) ∙ or-true c)
+    joined false c a = ap (λ b. c || b) (sym (or-false a))
 
 -- one of another table
 freed-other : (at : ℕ) (parts : List PartCells) (xs : List BookSpot) (s : BookSpot) (o m : TableIndex) → (s.table == at) ≡ false → AreFreed at parts xs o m → AreFreed at parts (xs ++ s ∷ []) o m

@@ -1,6 +1,6 @@
 -- The entries that the next version sees in a book behind a commit that moves no cell are those that the changes leave.
 use Rattle.std.proofs.Common.{◌≡◌, ◌≢◌, ◌⊎◌, ℕ, zero, suc, ◌+◌, ◌<◌, ◌==◌, Bool, true, false, not, cond, List, [], ◌∷◌, ◌++◌, length, get_or, map, Option, Some, None, option_map, unwrap_or, refl, sym, ap, ◌∙◌, subst, inl, inr, arith}
-use Rattle.std.specs.Prelude.{AllPairs, Contains, IsSome, filter, find, slice_get}
+use Rattle.std.specs.Prelude.{Contains, IsSome, filter, find, slice_get}
 use Rattle.std.specs.List.{AllZip, enumerate_from, range_with_len}
 use Rattle.std.specs.BTreeMap.{get, keys}
 use Rattle.std.specs.Ordering.{eq_by_cmp, nat_cmp}
@@ -13,8 +13,8 @@ use Rattle.std.proofs.lemmas.Map.Views.{Contains-keys_from_lookup, tells_apart}
 use Rattle.std.proofs.lemmas.Option.{none-some, same_Some, slice_get-get_or, slice_get_within}
 use Rattle.rmt_bits.proofs.AlikeLaws.{map_alike}
 use Rattle.rmt_bits.proofs.AllLaws.{All-range}
-use Rattle.rmt_bits.proofs.MemberLaws.{Contains-filter, Contains-flat_map, Contains-item, Contains-split, Contains-unfilter, Contains-unmap, any_item, flat_from, from_flat_map}
-use Rattle.rmt_bits.proofs.PairLaws.{AllPairs-head, AllPairs-tail}
+use Rattle.rmt_bits.proofs.ListLaws.{find-passes}
+use Rattle.rmt_bits.proofs.MemberLaws.{Contains-filter, Contains-flat_map, Contains-item, Contains-unfilter, Contains-unmap, any_item, flat_from, from_flat_map}
 use Rattle.rmt_ast.specs.declared.entry.Entry.{Entry}
 use Rattle.rmt_ast.specs.declared.names.Names.{Names}
 use Rattle.rmt_ast.specs.declared.names.TableName.{TableName}
@@ -41,7 +41,7 @@ use Rattle.rmt_update.specs.Planned.{MayChange, changed_list, changed_lists}
 use Rattle.rmt_lists.specs.Running.{is_among}
 use Rattle.rmt_book.specs.Seen.{HaveNumbers, entries_at, entries_by_part, entries_in, entries_seen, is_seen}
 use Rattle.rmt_book.specs.Told.{told_entry}
-use Rattle.rmt_update.specs.Turning.{AreNext, IsSamePart, IsSameTable, come_to, is_spot, left_kept}
+use Rattle.rmt_update.specs.Turning.{AreNext, IsSamePart, IsSameTable, left_kept}
 use Rattle.rmt_update.proofs.ByNumberLaws.{from-by_number, to-by_number}
 use Rattle.rmt_update.proofs.CellsFound.{are-tables, nodes-rise, one-node, one-spot, own_names}
 use Rattle.rmt_update.proofs.ComeSeen.{comes-seen, no-come}
@@ -51,10 +51,10 @@ use Rattle.rmt_update.proofs.NextTables.{IsTwoParts, at-part, at-table, kept-wit
 use Rattle.rmt_update.proofs.PairsTold.{table-pairs, told-from, told-there}
 use Rattle.rmt_update.proofs.RoomNumbers.{slice_get-map_range}
 use Rattle.rmt_update.proofs.SettledKept.{left-stays, next_at, same-names}
-use Rattle.rmt_update.proofs.SettledPlaces.{none-come, spot-itself}
+use Rattle.rmt_update.proofs.SettledPlaces.{come-here, none-come}
 use Rattle.rmt_pack.proofs.SortedLaws.{by_number_is}
 use Rattle.rmt_update.proofs.TableRules.{entries-at, terms-found}
-use Rattle.rmt_update.proofs.ZipLaws.{zip-left}
+use Rattle.rmt_update.proofs.ZipLaws.{FoundBoth, find-both, zip-left}
 
 -- ---- what is seen
 
@@ -77,17 +77,6 @@ stays-seen odd gone j k left seen = by (is_seen odd j) refl (is_among gone j.num
     by true own true is h = absurd (false≢true (sym (ap (is_seen (not odd)) (sym (same_Some _ k h)) ∙ other odd) ∙ seen))
     by true own false is h = (own, is, sym (same_Some _ k h))
 
--- what comes to its own cell
-pub come-here : (xs : List Coming) (x : Coming) (o : Option Kept) → AllPairs (λ (x y : Coming). x.spot ≢ y.spot) xs → Contains xs x → come_to xs x.spot o ≡ Some x.kept
-come-here [] x o apart there = absurd (let lt = there.1 in omega (arith, lt))
-come-here (y ∷ xs) x o apart there = elim (Contains-split y xs x there) [
-  | inl same ↦
-      ap (λ (z : Coming). come_to xs x.spot (cond (is_spot z.spot x.spot) (Some z.kept) o)) same
-      ∙ ap (λ b. come_to xs x.spot (cond b (Some x.kept) o)) (spot-itself x.spot)
-      ∙ none-come xs x.spot (Some x.kept) (λ k d lt e. AllPairs-head (λ (x y : Coming). x.spot ≢ y.spot) y xs apart k d lt (ap (λ (z : Coming). z.spot) same ∙ sym e))
-  | inr later ↦ come-here xs x (cond (is_spot y.spot x.spot) (Some y.kept) o) (AllPairs-tail (λ (x y : Coming). x.spot ≢ y.spot) y xs apart) later
-]
-
 -- ---- lists of nodes
 
 numbered-range : {X Y : Type 0} (f : ℕ × X → Y) (g : ℕ → X) (a n : ℕ) → map f (enumerate_from a (map g (range_with_len a n))) ≡ map (λ m. f (m, g m)) (range_with_len a n)
@@ -96,57 +85,15 @@ numbered-range f g a (suc n) = ap (λ ys. f (a, g a) ∷ ys) (numbered-range f g
 
 -- ---- tables beside the next ones
 
-record AreFound (ts us : List TableCells) (m : ℕ) : Type 0 where
-  i : ℕ
-  t : TableCells
-  u : TableCells
-  at : slice_get ts i ≡ Some t
-  next : slice_get us i ≡ Some u
-  is : find (λ (x : TableCells). x.name.node == m) ts ≡ Some t
-  also : find (λ (x : TableCells). x.name.node == m) us ≡ Some u
-  same : IsSameTable t u
-  node : t.name.node ≡ m
+abbrev AreFound : (ts us : List TableCells) (m : ℕ) → Type 0
+AreFound ts us m = FoundBoth IsSameTable (λ (x : TableCells). x.name.node == m) (λ (x : TableCells). x.name.node == m) ts us
 
 both-found : (m : ℕ) (ts us : List TableCells) → AllZip IsSameTable ts us
     → ((find (λ (x : TableCells). x.name.node == m) ts ≡ None) × (find (λ (x : TableCells). x.name.node == m) us ≡ None)) ⊎ AreFound ts us m
-both-found m [] [] zip = inl (refl, refl)
-both-found m [] (u ∷ us) zip = absurd zip
-both-found m (t ∷ ts) [] zip = absurd zip
-both-found m (t ∷ ts) (u ∷ us) zip = by (t.name.node == m) refl (both-found m ts us zip.1)
-  where
-    test : TableCells → Bool
-    test x = x.name.node == m
+both-found m ts us zip = find-both IsSameTable (λ (x : TableCells). x.name.node == m) (λ (x : TableCells). x.name.node == m) (λ t u same. ap (λ (n : TableName). n.node == m) same.0) ts us zip
 
-    same : test u ≡ test t
-    same = ap (λ (n : TableName). n.node == m) zip.0.0
-
-    by : (b : Bool) → test t ≡ b → ((find test ts ≡ None) × (find test us ≡ None)) ⊎ AreFound ts us m
-        → ((cond (test t) (Some t) (find test ts) ≡ None) × (cond (test u) (Some u) (find test us) ≡ None)) ⊎ AreFound (t ∷ ts) (u ∷ us) m
-    by true e rest =
-        inr (record {
-          i = 0;
-          t = t;
-          u = u;
-          at = refl;
-          next = refl;
-          is = ap (λ b. cond b (Some t) (find test ts)) e;
-          also = ap (λ b. cond b (Some u) (find test us)) (same ∙ e);
-          same = zip.0;
-          node = eqb-true t.name.node m e;
-        })
-    by false e (inl none) = inl (ap (λ b. cond b (Some t) (find test ts)) e ∙ none.0, ap (λ b. cond b (Some u) (find test us)) (same ∙ e) ∙ none.1)
-    by false e (inr h) =
-        inr (record {
-          i = suc h.i;
-          t = h.t;
-          u = h.u;
-          at = h.at;
-          next = h.next;
-          is = ap (λ b. cond b (Some t) (find test ts)) e ∙ h.is;
-          also = ap (λ b. cond b (Some u) (find test us)) (same ∙ e) ∙ h.also;
-          same = h.same;
-          node = h.node;
-        })
+of-node : (m : ℕ) (ts us : List TableCells) (h : AreFound ts us m) → h.x.name.node ≡ m
+of-node m ts us h = eqb-true h.x.name.node m (find-passes (λ (x : TableCells). x.name.node == m) ts h.x h.first)
 
 module _ (c : Config) (names : Names) (cells : RunCells) (lists : List (List Entry)) (ch : Changes) (b : Book) (xs : List Coming) (stands : BookStands c cells lists b) (named : c.names ≡ Some names)
     (may : MayChange c names cells lists ch) (placed : ArePlaced c names cells lists ch b.odd b.tables.items xs) (us : List TableCells) (next : AreNext b.odd ch.gone xs b.tables.items us) where
@@ -169,28 +116,28 @@ module _ (c : Config) (names : Names) (cells : RunCells) (lists : List (List Ent
   seen-cell m e there = elim (both-found m ts us next.same) [
     | inl none ↦ absurd (let lt = (subst (λ (es : List Entry). Contains es e) (ap (λ o. unwrap_or (option_map (λ t. by_number (entries_by_part b.odd t)) o) []) none.0) there).1 in omega (arith, lt))
     | inr h ↦
-        let own : Contains (by_number (entries_by_part b.odd h.t)) e = subst (λ (es : List Entry). Contains es e) (ap (λ o. unwrap_or (option_map (λ t. by_number (entries_by_part b.odd t)) o) []) h.is) there in
-        let f = flat_from (entries_in b.odd h.t.name) h.t.parts.items e (from-by_number (entries_by_part b.odd h.t) e own) in
-        let y = zip-left IsSamePart h.t.parts.items h.u.parts.items f.0 f.1 h.same.1 f.2 in
-        let g = told-from b.odd h.t.name f.1 e y.2.ordered f.3 in
-        let d = two-parts c names cells lists ch b xs stands named placed us next h.i f.0 h.u y.0 h.next y.1 in
-        let tables : h.t ≡ d.t = same_Some h.t d.t (sym h.at ∙ d.in_tables) in
+        let own : Contains (by_number (entries_by_part b.odd h.x)) e = subst (λ (es : List Entry). Contains es e) (ap (λ o. unwrap_or (option_map (λ t. by_number (entries_by_part b.odd t)) o) []) h.first) there in
+        let f = flat_from (entries_in b.odd h.x.name) h.x.parts.items e (from-by_number (entries_by_part b.odd h.x) e own) in
+        let y = zip-left IsSamePart h.x.parts.items h.y.parts.items f.0 f.1 h.beside.1.1 f.2 in
+        let g = told-from b.odd h.x.name f.1 e y.2.ordered f.3 in
+        let d = two-parts c names cells lists ch b xs stands named placed us next h.i f.0 h.y y.0 h.beside.0 y.1 in
+        let tables : h.x ≡ d.t = same_Some h.x d.t (sym h.at ∙ d.in_tables) in
         let parts : f.1 ≡ d.x = same_Some f.1 d.x (sym f.2 ∙ ap (λ (t : TableCells). slice_get t.parts.items f.0) tables ∙ d.in_parts) in
         let got : get nat_cmp d.x.cells g.n ≡ Some g.kept = ap (λ (x : PartCells). get nat_cmp x.cells g.n) (sym parts) ∙ g.there in
         let lt : g.n < cells_in d.p.slot.memory =
         All-contains (λ k. k < cells_in d.p.slot.memory) (keys d.x.cells) g.n d.holds.within
         (Contains-keys_from_lookup {eq = eq_by_cmp nat_cmp} (tells_apart exact_unsigned) g.n d.x.cells.entries (subst IsSome (sym got) refl)) in
-        let at = spot-of c names cells lists ch b xs stands named placed us next h.i f.0 g.n h.u y.0 d lt in
-        let own_table = at-table c names cells lists ch b xs stands named placed us next h.i f.0 g.n h.u y.0 d at in
-        let own_part = at-part c names cells lists ch b xs stands named placed us next h.i f.0 g.n h.u y.0 d at in
+        let at = spot-of c names cells lists ch b xs stands named placed us next h.i f.0 g.n h.y y.0 d lt in
+        let own_table = at-table c names cells lists ch b xs stands named placed us next h.i f.0 g.n h.y y.0 d at in
+        let own_part = at-part c names cells lists ch b xs stands named placed us next h.i f.0 g.n h.y y.0 d at in
         record {
           s = record { table = h.i; at = record { part = f.0; cell = g.n } };
           at = at;
           kept = g.kept;
           there = sym (d.old g.n) ∙ got;
           seen = g.seen;
-          is = ap (λ (t : TableCells). told_entry t.name at.part.first g.kept) (own_table ∙ sym tables) ∙ ap (λ (x : PartCells). told_entry h.t.name x.first g.kept) (own_part ∙ sym parts) ∙ g.is;
-          node = ap (λ (t : TableCells). t.name.node) (own_table ∙ sym tables) ∙ h.node;
+          is = ap (λ (t : TableCells). told_entry t.name at.part.first g.kept) (own_table ∙ sym tables) ∙ ap (λ (x : PartCells). told_entry h.x.name x.first g.kept) (own_part ∙ sym parts) ∙ g.is;
+          node = ap (λ (t : TableCells). t.name.node) (own_table ∙ sym tables) ∙ (of-node m ts us h);
         }
   ]
 
@@ -387,21 +334,21 @@ module _ (c : Config) (names : Names) (cells : RunCells) (lists : List (List Ent
         ∙ ap (option_map (λ (x : TableCells). terms_of_name x.name)) none.0 in
         subst (λ (o : Option Terms). AreEntriesAt m (changed_list ch (m, entries_at b.odd ts m)) o) terms (well-formed m lt)
         ∙ sym (ap (λ o. unwrap_or (option_map (λ t. by_number (entries_by_part (not b.odd) t)) o) []) none.1)
-    | inr h ↦ subst (λ n. n < b.nodes → changed_list ch (n, entries_at b.odd ts n) ≡ entries_at (not b.odd) us n) h.node (at-node h) lt
+    | inr h ↦ subst (λ n. n < b.nodes → changed_list ch (n, entries_at b.odd ts n) ≡ entries_at (not b.odd) us n) (of-node m ts us h) (at-node h) lt
   ]
     where
-      at-node : (h : AreFound ts us m) → h.t.name.node < b.nodes → changed_list ch (h.t.name.node, entries_at b.odd ts h.t.name.node) ≡ entries_at (not b.odd) us h.t.name.node
+      at-node : (h : AreFound ts us m) → h.x.name.node < b.nodes → changed_list ch (h.x.name.node, entries_at b.odd ts h.x.name.node) ≡ entries_at (not b.odd) us h.x.name.node
       at-node h within =
-          let n = h.t.name.node in
-          let is : find (λ (x : TableCells). x.name.node == n) ts ≡ Some h.t = ap (λ k. find (λ (x : TableCells). x.name.node == k) ts) h.node ∙ h.is in
-          let also : find (λ (x : TableCells). x.name.node == n) us ≡ Some h.u = ap (λ k. find (λ (x : TableCells). x.name.node == k) us) h.node ∙ h.also in
-          let terms : terms_named names n ≡ Some (terms_of_name h.t.name) =
+          let n = h.x.name.node in
+          let is : find (λ (x : TableCells). x.name.node == n) ts ≡ Some h.x = ap (λ k. find (λ (x : TableCells). x.name.node == k) ts) (of-node m ts us h) ∙ h.first in
+          let also : find (λ (x : TableCells). x.name.node == n) us ≡ Some h.y = ap (λ k. find (λ (x : TableCells). x.name.node == k) us) (of-node m ts us h) ∙ h.second in
+          let terms : terms_named names n ≡ Some (terms_of_name h.x.name) =
           ap (λ (ns : Names). terms_named ns n) (sym (same-names c names cells lists ch b xs stands named placed)) ∙ terms-found c (own_names c cells lists b stands) ts n (are-tables c cells lists b stands)
           ∙ ap (option_map (λ (x : TableCells). terms_of_name x.name)) is in
           let formed = subst (λ (o : Option Terms). AreEntriesAt n (changed_list ch (n, entries_at b.odd ts n)) o) terms (well-formed n within) in
           sym (ap (λ o. unwrap_or (option_map (λ t. by_number (entries_by_part (not b.odd) t)) o) []) also
-          ∙ by_number_is (entries_by_part (not b.odd) h.u) (changed_list ch (n, entries_at b.odd ts n)) (numbers-here h.i h.t h.u h.at h.next h.same is) formed.rising
-          (next-listed h.i h.t h.u h.at h.next h.same is) (λ e. listed-next h.i h.t h.u h.at h.next h.same is e within))
+          ∙ by_number_is (entries_by_part (not b.odd) h.y) (changed_list ch (n, entries_at b.odd ts n)) (numbers-here h.i h.x h.y h.at h.beside.0 h.beside.1 is) formed.rising
+          (next-listed h.i h.x h.y h.at h.beside.0 h.beside.1 is) (λ e. listed-next h.i h.x h.y h.at h.beside.0 h.beside.1 is e within))
 
   pub lists-next : changed_lists lists ch ≡ entries_seen (not b.odd) us b.nodes
   lists-next = lists-are ∙ map_alike (λ m. changed_list ch (m, entries_at b.odd ts m)) (entries_at (not b.odd) us) (range_with_len 0 b.nodes) (All-range (λ m. changed_list ch (m, entries_at b.odd ts m) ≡ entries_at (not b.odd) us m) 0 b.nodes (λ m lt. node-next m (omega (arith, lt))))

@@ -19,12 +19,11 @@ use Rattle.rmt_bits.proofs.ListLaws.{find-passes, zip_push}
 use Rattle.rmt_bits.proofs.MemberLaws.{Contains-first, Contains-item, Contains-later, Contains-unmap, from_flat_map, list_any-Contains}
 use Rattle.rmt_bits.proofs.PairLaws.{AllPairs-append, AllPairs-none}
 use Rattle.rmt_ast.specs.EntryLists.{IsEntry}
-use Rattle.rmt_ast.specs.NameRules.{table_is_formed, terms_named, terms_of_name}
+use Rattle.rmt_ast.specs.NameRules.{terms_named, terms_of_name}
 use Rattle.rmt_ast.specs.Naming.{has_key}
 use Rattle.rmt_ast.specs.RankPairs.{pair_cmp}
 use Rattle.rmt_ast.specs.RowOrder.{goes_first}
 use Rattle.rmt_ast.specs.declared.entry.Entry.{Entry}
-use Rattle.rmt_ast.specs.declared.names.TableName.{TableName}
 use Rattle.rmt_ast.specs.declared.program.Kind.{Kind}
 use Rattle.rmt_ast.specs.declared.program.Kind.TheVariants as kind
 use Rattle.rmt_config.specs.Cells.{candidates, cells_in}
@@ -52,7 +51,8 @@ use Rattle.rmt_book.specs.RowOrder.{IsFirstFit, entry_key}
 use Rattle.rmt_lists.specs.Running.{is_among}
 use Rattle.rmt_book.specs.Spots.{spot_from}
 use Rattle.rmt_update.specs.Taking.{IsComing, IsRowGiven, MayBeGiven, MayGive, TakesFrom, TakesOpen, TakesRow, candidates_at}
-use Rattle.rmt_update.proofs.BookFacts.{holds-there, own-there, spot-facts, zip-shapes}
+use Rattle.rmt_update.proofs.BookFacts.{spot-facts, table-held}
+use Rattle.rmt_update.proofs.BookLaws.{name-facts}
 use Rattle.rmt_update.proofs.CandidateLaws.{key-low}
 use Rattle.rmt_update.proofs.ComesLaws.{comes, exact-room, none-comes, room_for, rooms-are, taken}
 use Rattle.rmt_update.proofs.FirstLaws.{IsRowKind}
@@ -68,7 +68,7 @@ use Rattle.rmt_update.proofs.RowKeyLaws.{less-pair, prefix-goes-by}
 use Rattle.rmt_update.proofs.RowRooms.{before-rows, numbered-row, room-there, rooms-long, rooms-rows, row_rooms, rows-long}
 use Rattle.rmt_update.proofs.RowsStand.{IsLow, RowsStand, no-row, row-more}
 use Rattle.rmt_book.proofs.ShapeLaws.{cells-are}
-use Rattle.rmt_update.proofs.TableRules.{Own, all-bits, all-rows, row-parts}
+use Rattle.rmt_update.proofs.TableRules.{all-bits, all-rows, row-parts}
 use Rattle.rmt_update.proofs.ZipLaws.{zip-left}
 use Rattle.rmt_config.proofs.LayoutLaws.{memory_formed}
 
@@ -106,17 +106,7 @@ module _ (w : Run) (b : Book) (ch : Changes) (run : IsRunOf b ch w) (ordered : A
   abbrev parts : List PartAt
   parts = parts_of w.config x.name.node
 
-  abbrev tables : List TableCells
-  tables = b.tables.items
-
-  holds : AllZip (HoldsPart w.cells) parts x.parts.items
-  holds = holds-there w.config w.names w.cells w.lists b run.stands run.named at x at_x
-
-  shapes : AllZip HasShape parts x.parts.items
-  shapes = zip-shapes w.cells parts x.parts.items holds
-
-  own : Own w.config w.names w.lists x.name.node x
-  own = own-there w.config w.names w.cells w.lists b run.stands run.named at x at_x
+  open table-held w.config w.names w.cells w.lists b run.stands run.named at x at_x use {holds, shapes, own}
 
   apart : AllPairs (λ (a b : PartAt). a.stage < b.stage) parts
   apart = parts-apart w.config x.name.node (memory_formed w.config run.stands.formed)
@@ -126,7 +116,7 @@ module _ (w : Run) (b : Book) (ch : Changes) (run : IsRunOf b ch w) (ordered : A
 
   -- before entries come to it
   pub index-start : (placed : List Placed) → All (λ (q : Placed). q.entry.table ≢ node) placed
-      → All (λ (q : Placed). (s : BookSpot) × (z : IsBookSpot tables s) × (q.entry.table ≡ z.table.name.node) × (q.room ≡ room_of w.config tables s)) placed
+      → All (λ (q : Placed). (s : BookSpot) × (z : IsBookSpot b.tables.items s) × (q.entry.table ≡ z.table.name.node) × (q.room ≡ room_of w.config b.tables.items s)) placed
       → (index : TableIndex) → IsIndex b.odd (is_among ch.gone) x index → IndexStands w x (staying w ch ++ placed) index
   index-start placed others there (Cells given) h =
       (h.0, none-given w.cells (staying w ch ++ placed) parts given.items (h.1 ∙ parts-long) h.2 (none-unseen w b ch run ordered at x at_x placed others there))
@@ -188,21 +178,11 @@ module _ (w : Run) (b : Book) (ch : Changes) (run : IsRunOf b ch w) (ordered : A
 
     exact-found : has_rows x.name.kind ≡ false → found ≡ find (is_free w.cells ps) exact_rooms
     exact-found unrowed =
-        let exact = exact-kind x.name.kind unrowed (key-of x.name own.facts.formed) in
+        let exact = exact-kind x.name.kind unrowed (name-facts x.name own.facts.formed).key in
         let rooms : rooms_of w.config (terms_of_name x.name) w.cells e ≡ exact_rooms =
         ap (λ n. rooms_for w.config w.cells.seed n key) table ∙ rooms-are w.cells ps b.odd run.stands.version w.cells.seed key parts in
         ap (λ k. find (λ room. is_free w.cells ps room && keeps_order k ps e room) (rooms_of w.config (terms_of_name x.name) w.cells e)) exact
         ∙ exact-room w.cells ps e (rooms_of w.config (terms_of_name x.name) w.cells e) ∙ ap (find (is_free w.cells ps)) rooms
-      where
-        key-of : (t : TableName) → table_is_formed t ≡ true → has_key t.kind ≡ true
-        key-of t formed =
-            let p7 = and_parts _ _ formed in
-            let p6 = and_parts _ _ p7.0 in
-            let p5 = and_parts _ _ p6.0 in
-            let p4 = and_parts _ _ p5.0 in
-            let p3 = and_parts _ _ p4.0 in
-            let p2 = and_parts _ _ p3.0 in
-            (and_parts _ _ p2.0).0
 
     exact-first : (old new : List (BTreeSet ℕ)) (spot : Option Spot) → AllZip (AreGiven w.cells ps) parts old → TakesOpen b.odd b.seed x e old new spot → FirstIs parts 0 spot (find (is_free w.cells ps) exact_rooms)
     exact-first old new spot given takes =
@@ -327,7 +307,7 @@ module _ (w : Run) (b : Book) (ch : Changes) (run : IsRunOf b ch w) (ordered : A
       beside : (y : PartCells) × (slice_get x.parts.items s.part ≡ Some y) × HoldsPart w.cells room.part y
       beside = zip-left (HoldsPart w.cells) parts x.parts.items s.part room.part holds there
 
-      abbrev the_spot : IsBookSpot tables spot
+      abbrev the_spot : IsBookSpot b.tables.items spot
       the_spot = record {
         table = x;
         in_tables = at_x;
@@ -342,7 +322,7 @@ module _ (w : Run) (b : Book) (ch : Changes) (run : IsRunOf b ch w) (ordered : A
           same-shape : HasShape room.part coming.part
           same-shape = subst (HasShape room.part) (same_Some beside.0 coming.part (sym beside.1 ∙ coming.there)) beside.2.shape
 
-      takes-cell : TakesCell w.config w.cells.seed b.odd tables q c
+      takes-cell : TakesCell w.config w.cells.seed b.odd b.tables.items q c
       takes-cell =
           let holds_part : HoldsPart w.cells room.part coming.part = subst (HoldsPart w.cells room.part) (same_Some beside.0 coming.part (sym beside.1 ∙ coming.there)) beside.2 in
           let facts = spot-facts w.config w.names w.cells w.lists b run.stands run.named spot the_spot in
@@ -355,7 +335,7 @@ module _ (w : Run) (b : Book) (ch : Changes) (run : IsRunOf b ch w) (ordered : A
           let low_key : key % 2 ^ bits_of_lanes room.part.slot.keys ≡ key = ap (λ n. key % 2 ^ n) size ∙ key-low x.name.keys e.tests formed.tests in
           let among : Contains (candidates w.cells.seed (bits_of_lanes room.part.slot.keys) room.part.slot.memory (key % 2 ^ bits_of_lanes room.part.slot.keys)) room.cell =
           subst (λ k. Contains (candidates w.cells.seed (bits_of_lanes room.part.slot.keys) room.part.slot.memory k) room.cell) (sym low_key) candidate in
-          let made : TakesCell w.config w.cells.seed b.odd tables q (record { spot = spot; kept = c.kept }) = record {
+          let made : TakesCell w.config w.cells.seed b.odd b.tables.items q (record { spot = spot; kept = c.kept }) = record {
             at = the_spot;
             free = ap (λ n. is_kept_seen b.odd (get nat_cmp coming.part.cells n)) (sym cell) ∙ bit ∙ clear;
             node = table;
@@ -366,17 +346,17 @@ module _ (w : Run) (b : Book) (ch : Changes) (run : IsRunOf b ch w) (ordered : A
             keeps = coming.keeps;
             sizes = coming.sizes;
           } in
-          subst (λ (z : BookSpot). TakesCell w.config w.cells.seed b.odd tables q (record { spot = z; kept = c.kept })) (sym coming.spot) made
+          subst (λ (z : BookSpot). TakesCell w.config w.cells.seed b.odd b.tables.items q (record { spot = z; kept = c.kept })) (sym coming.spot) made
 
       -- no other entry comes to its spot
-      new-spot : (ps : List Placed) (ys : List Coming) → AllZip (TakesCell w.config w.cells.seed b.odd tables) ps ys → ((p : Placed) → Contains ps p → is_same p.room room ≡ false) → All (λ (y : Coming). y.spot ≢ c.spot) ys
+      new-spot : (ps : List Placed) (ys : List Coming) → AllZip (TakesCell w.config w.cells.seed b.odd b.tables.items) ps ys → ((p : Placed) → Contains ps p → is_same p.room room ≡ false) → All (λ (y : Coming). y.spot ≢ c.spot) ys
       new-spot [] [] zip other = All-nil (λ (y : Coming). y.spot ≢ c.spot)
       new-spot [] (y ∷ ys) zip other = absurd zip
       new-spot (p ∷ ps) [] zip other = absurd zip
       new-spot (p ∷ ps) (y ∷ ys) zip other =
           All-cons (λ (y : Coming). y.spot ≢ c.spot) y ys
           (λ same.
-          let rooms : p.room ≡ room = zip.0.room ∙ ap (room_of w.config tables) same ∙ sym takes-cell.room in
+          let rooms : p.room ≡ room = zip.0.room ∙ ap (room_of w.config b.tables.items) same ∙ sym takes-cell.room in
           false≢true (sym (other p (Contains-first p ps)) ∙ ap (λ (r : Room). is_same r room) rooms ∙ same-room room))
           (new-spot ps ys zip.1 (λ r there. other r (Contains-later p ps r there)))
 
@@ -386,7 +366,7 @@ module _ (w : Run) (b : Book) (ch : Changes) (run : IsRunOf b ch w) (ordered : A
           placed = h.placed ++ q ∷ [];
           entries = map-append (λ (p : Placed). p.entry) h.placed (q ∷ []) ∙ ap (λ ys. ys ++ e ∷ []) h.entries;
           after = one-behind ∙ ap (taken w.config w.names w.cells so_far e) is ∙ ap Some (append_assoc (staying w ch) h.placed (q ∷ []));
-          takes = zip_push (TakesCell w.config w.cells.seed b.odd tables) h.placed xs q c h.takes takes-cell;
+          takes = zip_push (TakesCell w.config w.cells.seed b.odd b.tables.items) h.placed xs q c h.takes takes-cell;
           apart =
               AllPairs-append (λ (y z : Coming). y.spot ≢ z.spot) xs (c ∷ []) h.apart (AllPairs-cons (λ (y z : Coming). y.spot ≢ z.spot) c [] (All-nil (λ (z : Coming). c.spot ≢ z.spot)) (AllPairs-none (λ (y z : Coming). y.spot ≢ z.spot)))
               (All-weaker (λ (y : Coming). y.spot ≢ c.spot) (λ (y : Coming). All (λ (z : Coming). y.spot ≢ z.spot) (c ∷ [])) (λ y ne. All-cons (λ (z : Coming). y.spot ≢ z.spot) c [] ne (All-nil (λ (z : Coming). y.spot ≢ z.spot))) xs

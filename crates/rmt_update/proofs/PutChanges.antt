@@ -1,13 +1,13 @@
 -- Steps of putting changed cells together, each by where it stands.
-use Rattle.std.proofs.Common.{◌≡◌, ◌⊎◌, ℕ, zero, suc, ◌+◌, ◌≤◌, Bool, true, false, cond, List, [], ◌∷◌, ◌++◌, Option, Some, None, option_map, get_or, length, map, take, refl, sym, ap, ◌∙◌, subst, inl, inr, arith}
+use Rattle.std.proofs.Common.{◌≡◌, ◌⊎◌, ℕ, zero, suc, ◌+◌, ◌<◌, ◌≤◌, Bool, true, false, cond, List, [], ◌∷◌, ◌++◌, Option, Some, None, option_map, get_or, length, map, take, refl, sym, ap, ◌∙◌, subst, inl, inr, arith}
 use Rattle.std.specs.Prelude.{All, AllPairs, Contains, Vec, find, is_some, slice_get, zip}
 use Rattle.std.specs.Global.{Global}
-use Rattle.std.specs.BTreeMap.{get, insert_entry, is_at, keys}
+use Rattle.std.specs.BTreeMap.{get, is_at, keys}
 use Rattle.std.specs.Cmp.{eq_by_cmp_equiv}
 use Rattle.std.proofs.lemmas.Cmp.{nat_cmp_total}
 use Rattle.std.specs.List.{flat_map}
 use Rattle.std.specs.List.Sorted.{IsStrictlySortedBy}
-use Rattle.std.specs.Map.{keys_of, lookup}
+use Rattle.std.specs.Map.{keys_of}
 use Rattle.std.specs.Ordering.{eq_by_cmp, nat_cmp}
 use Rattle.std.proofs.lemmas.List.Elements.{All-append, All-cons, All-head, All-map, All-nil, All-tail, All-weaker, Contains-get_or}
 use Rattle.std.proofs.lemmas.Grind.{flat_map-append}
@@ -16,7 +16,7 @@ use Rattle.std.proofs.lemmas.Map.Keys.{IsDistinct-from_sorted}
 use Rattle.std.proofs.lemmas.Map.Lookups.{exact_unsigned}
 use Rattle.std.proofs.lemmas.Map.Views.{btree_map_contains_key_iff, lookup-from_Contains}
 use Rattle.std.proofs.lemmas.Option.{none-some, same_Some}
-use Rattle.rmt_bits.proofs.ListLaws.{take-slice_get}
+use Rattle.rmt_bits.proofs.ListLaws.{slice_get-seen, take-slice_get}
 use Rattle.rmt_config.specs.declared.cell_write.CellWrite.{CellWrite}
 use Rattle.rmt_config.specs.Commits.{writes_before}
 use Rattle.rmt_config.specs.RunCells.{is_changed}
@@ -28,25 +28,14 @@ use Rattle.rmt_book.specs.declared.table.TableCells.{TableCells}
 use Rattle.rmt_update.specs.Changing.{ChangeKey, change_key, key_cmp}
 use Rattle.rmt_book.specs.Coming.{kept_write}
 use Rattle.rmt_update.specs.Differences.{AllPut, AreDifferences, AreMore, AreSome, Changes, Goal, IsDone, IsGoal, Puts, change_at, change_by, change_in, is_exact, pairs_of, write_at}
-use Rattle.rmt_update.proofs.InsertLaws.{lookup-insert, own-key, same-key}
+use Rattle.rmt_update.proofs.ChangesLaws.{write-put}
+use Rattle.rmt_update.proofs.InsertLaws.{own-key, same-key}
 use Rattle.rmt_update.proofs.KeyedLaws.{key-exact, key-total, keyed-found, keyed-more, keyed-order}
 
 -- ---- one change
 
 module _ (m m2 : Changes) (q : ChangeKey) (s : BookSpot) (w : Option CellWrite) (goal : Goal) (own : (v : CellWrite) → w ≡ Some v → q ≡ change_key v) (is : goal q ≡ w)
     (some : AreSome m goal) where
-  same-map : m2 ≡ m → (r : ChangeKey) → write_at m2 r ≡ write_at m r
-  same-map e r = ap (λ es. option_map (λ (x : CellChange). x.write) (lookup (is_at (key_cmp r)) es)) e
-
-  put-at : (v : CellWrite) → m2 ≡ insert_entry key_cmp m q (record { spot = s; write = v }) → (r : ChangeKey) → write_at m2 r ≡ cond (is_at (key_cmp r) q) (Some v) (write_at m r)
-  put-at v e r =
-      ap (λ es. option_map (λ (x : CellChange). x.write) (lookup (is_at (key_cmp r)) es)) e
-      ∙ ap (option_map (λ (x : CellChange). x.write)) (lookup-insert key-total key-exact m q r (record { spot = s; write = v })) ∙ by (is_at (key_cmp r) q)
-    where
-      by : (b : Bool) → option_map (λ (x : CellChange). x.write) (cond b (Some (record { spot = s; write = v })) (change_at m r)) ≡ cond b (Some v) (write_at m r)
-      by true = refl
-      by false = refl
-
   -- where the goal is reached, it stays so
   pub puts-more : Puts m m2 q s w → AreMore m m2 goal × (write_at m2 q ≡ goal q)
   puts-more put = by w refl put
@@ -57,19 +46,19 @@ module _ (m m2 : Changes) (q : ChangeKey) (s : BookSpot) (w : Option CellWrite) 
           some = record {
             keyed = subst (All (λ (x : ChangeKey × CellChange). x.0 ≡ change_key x.1.write)) (sym e) some.keyed;
             each = λ r. elim (some.each r) [
-              | inl a ↦ inl (same-map e r ∙ a)
-              | inr a ↦ inr (same-map e r ∙ a)
+              | inl a ↦ inl (ap (λ es. write_at es r) e ∙ a)
+              | inr a ↦ inr (ap (λ es. write_at es r) e ∙ a)
             ];
           };
-          stay = λ r a. same-map e r ∙ a;
+          stay = λ r a. ap (λ es. write_at es r) e ∙ a;
         },
-        same-map e q ∙ (elim (some.each q) [
+        ap (λ es. write_at es q) e ∙ (elim (some.each q) [
           | inl a ↦ a ∙ sym (is ∙ none)
           | inr a ↦ a
         ]),
       )
       by (Some v) put_v e =
-          let here : write_at m2 q ≡ goal q = put-at v e q ∙ ap (λ b. cond b (Some v) (write_at m q)) (own-key key-total key-exact q) ∙ sym (is ∙ put_v) in (
+          let here : write_at m2 q ≡ goal q = write-put m m2 q (record { spot = s; write = v }) e q ∙ ap (λ b. cond b (Some v) (write_at m q)) (own-key key-total key-exact q) ∙ sym (is ∙ put_v) in (
             record {
               some = record {
                 keyed = subst (All (λ (x : ChangeKey × CellChange). x.0 ≡ change_key x.1.write)) (sym e) (keyed-more m q (record { spot = s; write = v }) some.keyed (own v put_v));
@@ -84,13 +73,13 @@ module _ (m m2 : Changes) (q : ChangeKey) (s : BookSpot) (w : Option CellWrite) 
           reached r t = ap goal (same-key key-total key-exact r q t) ∙ is ∙ put_v
 
           at : (r : ChangeKey) (b : Bool) → is_at (key_cmp r) q ≡ b → (write_at m r ≡ None) ⊎ (write_at m r ≡ goal r) → (write_at m2 r ≡ None) ⊎ (write_at m2 r ≡ goal r)
-          at r true t h = inr (put-at v e r ∙ ap (λ b. cond b (Some v) (write_at m r)) t ∙ sym (reached r t))
-          at r false f (inl a) = inl (put-at v e r ∙ ap (λ b. cond b (Some v) (write_at m r)) f ∙ a)
-          at r false f (inr a) = inr (put-at v e r ∙ ap (λ b. cond b (Some v) (write_at m r)) f ∙ a)
+          at r true t h = inr (write-put m m2 q (record { spot = s; write = v }) e r ∙ ap (λ b. cond b (Some v) (write_at m r)) t ∙ sym (reached r t))
+          at r false f (inl a) = inl (write-put m m2 q (record { spot = s; write = v }) e r ∙ ap (λ b. cond b (Some v) (write_at m r)) f ∙ a)
+          at r false f (inr a) = inr (write-put m m2 q (record { spot = s; write = v }) e r ∙ ap (λ b. cond b (Some v) (write_at m r)) f ∙ a)
 
           still : (r : ChangeKey) (b : Bool) → is_at (key_cmp r) q ≡ b → write_at m r ≡ goal r → write_at m2 r ≡ goal r
-          still r true t a = put-at v e r ∙ ap (λ b. cond b (Some v) (write_at m r)) t ∙ sym (reached r t)
-          still r false f a = put-at v e r ∙ ap (λ b. cond b (Some v) (write_at m r)) f ∙ a
+          still r true t a = write-put m m2 q (record { spot = s; write = v }) e r ∙ ap (λ b. cond b (Some v) (write_at m r)) t ∙ sym (reached r t)
+          still r false f a = write-put m m2 q (record { spot = s; write = v }) e r ∙ ap (λ b. cond b (Some v) (write_at m r)) f ∙ a
 
 pub no-more : (m : Changes) (goal : Goal) → AreSome m goal → AreMore m m goal
 no-more m goal some = record { some = some; stay = λ q a. a }
@@ -180,6 +169,9 @@ zip-at (a ∷ xs) [] i x y at_x at_y = absurd (none-some y at_y)
 zip-at (a ∷ xs) (b ∷ ys) zero x y at_x at_y = ap (λ c. Some (c, b)) (same_Some a x at_x) ∙ ap (λ c. Some (x, c)) (same_Some b y at_y)
 zip-at (a ∷ xs) (b ∷ ys) (suc i) x y at_x at_y = zip-at xs ys i x y at_x at_y
 
+pub zip-seen : {X Y : Type 0} (xs : List X) (ys : List Y) (i : ℕ) (x : X) (y : Y) → length ys ≡ length xs → i < length xs → x ≡ get_or xs i x → y ≡ get_or ys i y → slice_get (zip xs ys) i ≡ Some (x, y)
+zip-seen xs ys i x y same lt at_x at_y = zip-at xs ys i x y (slice_get-seen xs xs i x refl lt at_x) (slice_get-seen ys ys i y refl (omega (arith, lt, same)) at_y)
+
 pub pair-put : (ps : List (PartCells × PartCells)) (i : ℕ) (p : PartCells × PartCells) (m m2 m3 : Changes) → slice_get ps i ≡ Some p → AllPut (take i ps) m m2 → AllPut (p ∷ []) m2 m3 → AllPut (take (i + 1) ps) m m3
 pair-put ps i p m m2 m3 at first second = subst (λ qs. AllPut qs m m3) (sym (take-slice_get ps i p at)) (put-both (take i ps) (p ∷ []) m m2 m3 first second)
 
@@ -209,7 +201,7 @@ pub all-differences : (ps : List (PartCells × PartCells)) (m m2 : Changes) (wri
 all-differences ps m m2 writes empty ordered put are goal goals =
     let none : AreSome m goal = record {
       keyed = subst (All (λ (x : ChangeKey × CellChange). x.0 ≡ change_key x.1.write)) (sym empty) (All-nil (λ (x : ChangeKey × CellChange). x.0 ≡ change_key x.1.write));
-      each = λ q. inl (ap (λ es. option_map (λ (x : CellChange). x.write) (lookup (is_at (key_cmp q)) es)) empty);
+      each = λ q. inl (ap (λ es. write_at es q) empty);
     } in
     let all = put goal goals none in
     let found : (k place n : ℕ) → find (λ (w : CellWrite). is_changed w k place n) writes ≡ write_at m2 ((k, place), n) =

@@ -216,19 +216,22 @@ module _ (c : Config) (names : Names) (cells : RunCells) (lists : List (List Ent
   fresh : All (IsFresh b.tables.items) xs
   fresh = are-fresh c names cells lists ch b xs stands named may placed
 
-  pub settled-next : AreNext b.odd ch.gone xs b.tables.items us
+  settled-next : AreNext b.odd ch.gone xs b.tables.items us
   settled-next = turned-next b.odd ch.gone xs b.tables.items slots fresh m ordered changed us have rise
 
   module _ (writes : List CellWrite) (are : writes ≡ map (λ (x : ChangeKey × CellChange). x.1.write) m) where
     differ : (g : Goal) → All (IsGoal g) (all_pairs b.tables.items (map (λ (u : TableCells). u.parts) us)) → AreDifferences (all_pairs b.tables.items (map (λ (u : TableCells). u.parts) us)) writes g
     differ = turned-differ b.odd ch.gone xs b.tables.items slots fresh m ordered changed us have (own-cells c cells lists b stands) writes are
 
-    pub settled-writes : AreWrites c cells (settled c names cells lists (placed.stay ++ placed.coming)) writes
+    settled-writes : AreWrites c cells (settled c names cells lists (placed.stay ++ placed.coming)) writes
     settled-writes =
         writes-are c cells lists b stands (settled c names cells lists (placed.stay ++ placed.coming)) cells.seed (map (λ (u : TableCells). u.parts) us)
         (next-holds c names cells lists ch b xs stands named may placed us settled-next) writes differ
 
-    pub settled-sizes : All (HasLengths c) writes
+    settled-sizes : All (HasLengths c) writes
     settled-sizes =
         writes-sized c cells lists b stands (settled c names cells lists (placed.stay ++ placed.coming)) cells.seed (map (λ (u : TableCells). u.parts) us)
         (next-holds c names cells lists ch b xs stands named may placed us settled-next) writes differ
+
+    pub settled-facts : AreNext b.odd ch.gone xs b.tables.items us × AreWrites c cells (settled c names cells lists (placed.stay ++ placed.coming)) writes × All (HasLengths c) writes
+    settled-facts = (settled-next, settled-writes, settled-sizes)

@@ -1,12 +1,13 @@
 -- Which entry has each cell of a book behind a commit that moves none, and what is kept of the cell then.
-use Rattle.std.proofs.Common.{◌≡◌, ◌≢◌, ◌⊎◌, ℕ, zero, suc, ◌==◌, Bool, true, false, ◌&&◌, cond, List, [], ◌∷◌, ◌++◌, Option, Some, None, refl, sym, ap, ◌∙◌, subst, inl, inr, arith}
-use Rattle.std.specs.Prelude.{All, AllPairs, find, slice_get}
+use Rattle.std.proofs.Common.{◌≡◌, ◌≢◌, ◌⊎◌, ℕ, ◌==◌, Bool, true, false, ◌&&◌, cond, List, [], ◌∷◌, ◌++◌, Option, Some, None, get_or, refl, sym, ap, ◌∙◌, subst, inl, inr, arith}
+use Rattle.std.specs.Prelude.{All, AllPairs, Contains, find, slice_get}
 use Rattle.std.specs.List.{AllZip}
-use Rattle.std.proofs.lemmas.Bool.{and_parts, eq-eqb, eqb-true, false≢true}
-use Rattle.std.proofs.lemmas.List.Elements.{All-contains, All-head, All-tail}
+use Rattle.std.proofs.lemmas.Bool.{and_parts, eq-eqb, eqb-true}
+use Rattle.std.proofs.lemmas.List.Elements.{All-contains, All-head, All-tail, Contains-get_or}
 use Rattle.std.proofs.lemmas.Option.{none-some}
 use Rattle.rmt_bits.proofs.ListLaws.{find-passes}
 use Rattle.rmt_bits.proofs.FindLaws.{find-some}
+use Rattle.rmt_bits.proofs.MemberLaws.{Contains-item, Contains-split}
 use Rattle.rmt_bits.proofs.PairLaws.{AllPairs-head, AllPairs-tail}
 use Rattle.rmt_ast.specs.declared.entry.Entry.{Entry}
 use Rattle.rmt_ast.specs.declared.names.Names.{Names}
@@ -24,6 +25,7 @@ use Rattle.rmt_update.specs.Placing.{AreStaying, IsBookSpot, StaysAt, TakesCell,
 use Rattle.rmt_update.specs.Turning.{come_to, is_spot}
 use Rattle.rmt_update.proofs.CellsFound.{one-spot, own_tables, room-is, spot-part}
 use Rattle.rmt_update.proofs.OncePlaced.{found-in}
+use Rattle.rmt_update.proofs.ZipLaws.{find-both}
 
 pub same-spot : (a b : BookSpot) → is_spot a b ≡ true → a ≡ b
 same-spot a b e =
@@ -62,6 +64,17 @@ none-come (x ∷ xs) s o all = by (is_spot x.spot s) refl (none-come xs s o (All
     by : (b : Bool) → is_spot x.spot s ≡ b → come_to xs s o ≡ o → come_to xs s (cond b (Some x.kept) o) ≡ o
     by true e rest = absurd (All-head (λ (y : Coming). y.spot ≢ s) x xs all (same-spot x.spot s e))
     by false e rest = rest
+
+-- what comes to its own cell
+pub come-here : (xs : List Coming) (x : Coming) (o : Option Kept) → AllPairs (λ (x y : Coming). x.spot ≢ y.spot) xs → Contains xs x → come_to xs x.spot o ≡ Some x.kept
+come-here [] x o apart there = absurd (let lt = there.1 in omega (arith, lt))
+come-here (y ∷ xs) x o apart there = elim (Contains-split y xs x there) [
+  | inl same ↦
+      ap (λ (z : Coming). come_to xs x.spot (cond (is_spot z.spot x.spot) (Some z.kept) o)) same
+      ∙ ap (λ b. come_to xs x.spot (cond b (Some x.kept) o)) (spot-itself x.spot)
+      ∙ none-come xs x.spot (Some x.kept) (λ k d lt e. AllPairs-head (λ (x y : Coming). x.spot ≢ y.spot) y xs apart k d lt (ap (λ (z : Coming). z.spot) same ∙ sym e))
+  | inr later ↦ come-here xs x (cond (is_spot y.spot x.spot) (Some y.kept) o) (AllPairs-tail (λ (x y : Coming). x.spot ≢ y.spot) y xs apart) later
+]
 
 module _ (c : Config) (names : Names) (cells : RunCells) (lists : List (List Entry)) (b : Book) (stands : BookStands c cells lists b) (named : c.names ≡ Some names) where
   abbrev pub tables : List TableCells
@@ -122,63 +135,36 @@ module _ (c : Config) (names : Names) (cells : RunCells) (lists : List (List Ent
   pub come-or-not : (seed : ℕ) (odd : Bool) (s : BookSpot) (at : IsBookSpot tables s) (qs : List Placed) (xs : List Coming) → AllZip (TakesCell c seed odd tables) qs xs → AllPairs (λ (x y : Coming). x.spot ≢ y.spot) xs
       → ComesTo seed odd s qs xs (find (λ (q : Placed). is_at (part s at).stage (part s at).place s.at.cell q.room) qs)
       ⊎ NoneComes s xs (find (λ (q : Placed). is_at (part s at).stage (part s at).place s.at.cell q.room) qs)
-  come-or-not seed odd s at [] [] zip apart = inr (record { none = refl; apart = λ k d lt. absurd (omega (arith, lt)) })
-  come-or-not seed odd s at [] (x ∷ xs) zip apart = absurd zip
-  come-or-not seed odd s at (q ∷ qs) [] zip apart = absurd zip
-  come-or-not seed odd s at (q ∷ qs) (x ∷ xs) zip apart =
-      by (is_spot x.spot s) refl (come-or-not seed odd s at qs xs zip.1 (AllPairs-tail (λ (x y : Coming). x.spot ≢ y.spot) x xs apart))
+  come-or-not seed odd s at qs xs zip apart = elim (find-both (TakesCell c seed odd tables) test (λ (x : Coming). is_spot x.spot s) same qs xs zip) [
+    | inl none ↦
+        inr (record {
+          none = none.0;
+          apart = λ k d lt is.
+              let found = find-some (λ (x : Coming). is_spot x.spot s) xs (get_or xs k d) (Contains-get_or xs k d lt) (ap (λ z. is_spot z s) is ∙ spot-itself s) in none-some found.0 (sym none.1 ∙ found.1);
+        })
+    | inr h ↦
+        let spot = same-spot h.y.spot s (find-passes (λ (x : Coming). is_spot x.spot s) xs h.y h.second) in
+        inl (record {
+          i = h.i;
+          q = h.x;
+          x = h.y;
+          there = h.at;
+          kept = h.beside.0;
+          takes = h.beside.1;
+          spot = spot;
+          is = h.first;
+          comes = λ o. subst (λ z. come_to xs z o ≡ Some h.y.kept) spot (come-here xs h.y o apart (Contains-item xs h.i h.y h.beside.0));
+        })
+  ]
     where
       test : Placed → Bool
       test p = is_at (part s at).stage (part s at).place s.at.cell p.room
 
-      others : x.spot ≡ s → All (λ (y : Coming). y.spot ≢ s) xs
-      others is k d lt e = AllPairs-head (λ (x y : Coming). x.spot ≢ y.spot) x xs apart k d lt (is ∙ sym e)
-
-      other : is_spot x.spot s ≡ false → x.spot ≢ s
-      other e is = false≢true (sym e ∙ ap (is_spot x.spot) (sym is) ∙ spot-itself x.spot)
-
-      off : is_spot x.spot s ≡ false → test q ≡ false
-      off e = not (test q) refl
+      same : (q : Placed) (x : Coming) → TakesCell c seed odd tables q x → is_spot x.spot s ≡ test q
+      same q x takes = by (is_spot x.spot s) refl (test q) refl
         where
-          not : (b : Bool) → test q ≡ b → test q ≡ false
-          not true t = absurd (other e (at-room s x.spot at zip.0.at (sym (ap (is_at (part s at).stage (part s at).place s.at.cell) zip.0.room) ∙ t)))
-          not false t = t
-
-      on : x.spot ≡ s → test q ≡ true
-      on is = ap (is_at (part s at).stage (part s at).place s.at.cell) (zip.0.room ∙ ap (room_of c tables) is) ∙ room-at s at
-
-      by : (b : Bool) → is_spot x.spot s ≡ b → ComesTo seed odd s qs xs (find test qs) ⊎ NoneComes s xs (find test qs) → ComesTo seed odd s (q ∷ qs) (x ∷ xs) (cond (test q) (Some q) (find test qs)) ⊎ NoneComes s (x ∷ xs) (cond (test q) (Some q) (find test qs))
-      by true e rest =
-          let is = same-spot x.spot s e in
-          inl (record {
-            i = 0;
-            q = q;
-            x = x;
-            there = refl;
-            kept = refl;
-            takes = zip.0;
-            spot = is;
-            is = ap (λ b. cond b (Some q) (find test qs)) (on is);
-            comes = λ o. ap (λ b. come_to xs s (cond b (Some x.kept) o)) e ∙ none-come xs s (Some x.kept) (others is);
-          })
-      by false e (inl h) =
-          inl (record {
-            i = suc h.i;
-            q = h.q;
-            x = h.x;
-            there = h.there;
-            kept = h.kept;
-            takes = h.takes;
-            spot = h.spot;
-            is = ap (λ b. cond b (Some q) (find test qs)) (off e) ∙ h.is;
-            comes = λ o. h.comes (cond (is_spot x.spot s) (Some x.kept) o);
-          })
-      by false e (inr h) =
-          inr (record {
-            none = ap (λ b. cond b (Some q) (find test qs)) (off e) ∙ h.none;
-            apart = cons (other e) h.apart;
-          })
-        where
-          cons : x.spot ≢ s → All (λ (y : Coming). y.spot ≢ s) xs → All (λ (y : Coming). y.spot ≢ s) (x ∷ xs)
-          cons here rest zero d lt = here
-          cons here rest (suc k) d lt = rest k d (omega (arith, lt))
+          by : (b : Bool) → is_spot x.spot s ≡ b → (t : Bool) → test q ≡ t → b ≡ t
+          by true e true t = refl
+          by true e false t = sym (sym t ∙ ap (is_at (part s at).stage (part s at).place s.at.cell) (takes.room ∙ ap (room_of c tables) (same-spot x.spot s e)) ∙ room-at s at)
+          by false e true t = sym e ∙ ap (λ z. is_spot z s) (at-room s x.spot at takes.at (sym (ap (is_at (part s at).stage (part s at).place s.at.cell) takes.room) ∙ t)) ∙ spot-itself s
+          by false e false t = refl

@@ -3,7 +3,6 @@ use Rattle.std.proofs.Common.{◌≡◌, ◌⊎◌, ℕ, zero, suc, ◌+◌, ◌
 use Rattle.std.specs.Prelude.{All, Contains, IsSomeAnd, option_and_then, slice_get}
 use Rattle.std.specs.List.{AllZip}
 use Rattle.std.specs.BTreeMap.{BTreeMap, get, insert_entry, is_at}
-use Rattle.std.specs.Map.{lookup}
 use Rattle.std.specs.Ordering.{match_ordering, nat_cmp}
 use Rattle.std.specs.declared.cmp.Ordering.{Ordering}
 use Rattle.std.specs.declared.cmp.Ordering.TheVariants.{Less, Equal, Greater}
@@ -26,7 +25,7 @@ use Rattle.rmt_update.specs.BookIndex.{FindsCells}
 use Rattle.rmt_book.specs.BookSpots.{kept_at}
 use Rattle.rmt_update.specs.Changing.{ChangeKey, key_cmp}
 use Rattle.rmt_book.specs.Coming.{kept_write}
-use Rattle.rmt_update.specs.Differences.{Changes, Puts, change_at, change_by, is_exact, is_same_kept, write_at}
+use Rattle.rmt_update.specs.Differences.{Changes, Puts, change_by, is_exact, is_same_kept, write_at}
 use Rattle.rmt_update.specs.NextKept.{bit_of}
 use Rattle.rmt_update.specs.Recent.{is_recent}
 use Rattle.rmt_lists.specs.Running.{is_among}
@@ -34,7 +33,8 @@ use Rattle.rmt_book.specs.Seen.{is_seen}
 use Rattle.rmt_update.specs.TurnWrites.{AreChanged, AreOnWay, HaveOwnSlots, IsChanged, IsFresh, IsOfTables, MoreChanged, PutsLeft, change_to, key_in, left_write, shown_write}
 use Rattle.rmt_update.specs.Turning.{IsSpotIn, IsStillTable, come_to, is_spot, left_kept, part_of}
 use Rattle.rmt_update.proofs.EnteringLaws.{come-last, still-there}
-use Rattle.rmt_update.proofs.InsertLaws.{lookup-insert, own-key, same-key}
+use Rattle.rmt_update.proofs.ChangesLaws.{write-put}
+use Rattle.rmt_update.proofs.InsertLaws.{own-key, same-key}
 use Rattle.rmt_update.proofs.KeyedLaws.{key-exact, key-total}
 use Rattle.rmt_update.proofs.PutChanges.{take-past}
 use Rattle.rmt_update.proofs.SettledPlaces.{same-spot, spot-itself}
@@ -64,20 +64,6 @@ one-key ts slots s z p q at_s at_z same =
     let one = slots s z p q at_s at_z (ap (λ (k : ChangeKey). k.0.0) same) (ap (λ (k : ChangeKey). k.0.1) same) in
     same-spot s z
     (and_from _ _ (and_from _ _ (eq-eqb s.table z.table one.0) (eq-eqb s.at.part z.at.part one.1)) (eq-eqb s.at.cell z.at.cell (ap (λ (k : ChangeKey). k.1) same)))
-
--- a changed cell that is put is found, and all others as before
-found-put : (m m2 : Changes) (q : ChangeKey) (s : BookSpot) (w : CellWrite) → m2 ≡ insert_entry key_cmp m q (record { spot = s; write = w }) → (r : ChangeKey)
-    → write_at m2 r ≡ cond (is_at (key_cmp r) q) (Some w) (write_at m r)
-found-put m m2 q s w is r =
-    ap (λ es. option_map (λ (x : CellChange). x.write) (lookup (is_at (key_cmp r)) es)) is
-    ∙ ap (option_map (λ (x : CellChange). x.write)) (lookup-insert key-total key-exact m q r (record { spot = s; write = w })) ∙ by (is_at (key_cmp r) q)
-  where
-    by : (b : Bool) → option_map (λ (x : CellChange). x.write) (cond b (Some (record { spot = s; write = w })) (change_at m r)) ≡ cond b (Some w) (write_at m r)
-    by true = refl
-    by false = refl
-
-found-same : (m m2 : Changes) → m2 ≡ m → (r : ChangeKey) → write_at m2 r ≡ write_at m r
-found-same m m2 is r = ap (λ es. option_map (λ (x : CellChange). x.write) (lookup (is_at (key_cmp r)) es)) is
 
 -- what holds of all changed cells, and of one that is put, holds of all then
 all-put : (P : ChangeKey × CellChange → Type 0) (es : List (ChangeKey × CellChange)) (k : ChangeKey) (x : CellChange) → All P es → P (k, x) → All P (insert_entry key_cmp es k x)
@@ -134,11 +120,11 @@ module _ (ts : List TableCells) (next : BookSpot → Option Kept) where
     some = record {
       spots = subst (All (IsOfTables ts)) (sym put) way.spots;
       each = λ z q at_z. elim (way.each z q at_z) [
-        | inl a ↦ inl (found-same m m2 put (key_in q z) ∙ a)
-        | inr a ↦ inr (found-same m m2 put (key_in q z) ∙ a)
+        | inl a ↦ inl (ap (λ es. write_at es (key_in q z)) put ∙ a)
+        | inr a ↦ inr (ap (λ es. write_at es (key_in q z)) put ∙ a)
       ];
     };
-    stay = λ z h q at_z. found-same m m2 put (key_in q z) ∙ h q at_z;
+    stay = λ z h q at_z. ap (λ es. write_at es (key_in q z)) put ∙ h q at_z;
     done = done;
   }
 
@@ -151,7 +137,7 @@ module _ (ts : List TableCells) (next : BookSpot → Option Kept) (slots : HaveO
       here q at_q =
           let one : p ≡ q = same_Some p q (sym at ∙ at_q) in
           let none : change_to q s (next s) ≡ None = ap (λ (x : PartCells). change_to x s (next s)) (sym one) ∙ sym is in
-          found-same m m2 put (key_in q s) ∙ (elim (way.each s q at_q) [
+          ap (λ es. write_at es (key_in q s)) put ∙ (elim (way.each s q at_q) [
             | inl a ↦ a ∙ sym none
             | inr a ↦ a
           ])
@@ -172,16 +158,16 @@ module _ (ts : List TableCells) (next : BookSpot → Option Kept) (slots : HaveO
 
       by : (z : BookSpot) (q : PartCells) → part_of ts z ≡ Some q → (b : Bool) → is_at (key_cmp (key_in q z)) (key_in p s) ≡ b → (write_at m (key_in q z) ≡ None) ⊎ (write_at m (key_in q z) ≡ change_to q z (next z))
           → (write_at m2 (key_in q z) ≡ None) ⊎ (write_at m2 (key_in q z) ≡ change_to q z (next z))
-      by z q at_z true e h = inr (found-put m m2 (key_in p s) s w put (key_in q z) ∙ ap (λ b. cond b (Some w) (write_at m (key_in q z))) e ∙ reached z q at_z e)
-      by z q at_z false e (inl a) = inl (found-put m m2 (key_in p s) s w put (key_in q z) ∙ ap (λ b. cond b (Some w) (write_at m (key_in q z))) e ∙ a)
-      by z q at_z false e (inr a) = inr (found-put m m2 (key_in p s) s w put (key_in q z) ∙ ap (λ b. cond b (Some w) (write_at m (key_in q z))) e ∙ a)
+      by z q at_z true e h = inr (write-put m m2 (key_in p s) (record { spot = s; write = w }) put (key_in q z) ∙ ap (λ b. cond b (Some w) (write_at m (key_in q z))) e ∙ reached z q at_z e)
+      by z q at_z false e (inl a) = inl (write-put m m2 (key_in p s) (record { spot = s; write = w }) put (key_in q z) ∙ ap (λ b. cond b (Some w) (write_at m (key_in q z))) e ∙ a)
+      by z q at_z false e (inr a) = inr (write-put m m2 (key_in p s) (record { spot = s; write = w }) put (key_in q z) ∙ ap (λ b. cond b (Some w) (write_at m (key_in q z))) e ∙ a)
 
       still : (z : BookSpot) (q : PartCells) → part_of ts z ≡ Some q → (b : Bool) → is_at (key_cmp (key_in q z)) (key_in p s) ≡ b → write_at m (key_in q z) ≡ change_to q z (next z) → write_at m2 (key_in q z) ≡ change_to q z (next z)
-      still z q at_z true e h = found-put m m2 (key_in p s) s w put (key_in q z) ∙ ap (λ b. cond b (Some w) (write_at m (key_in q z))) e ∙ reached z q at_z e
-      still z q at_z false e h = found-put m m2 (key_in p s) s w put (key_in q z) ∙ ap (λ b. cond b (Some w) (write_at m (key_in q z))) e ∙ h
+      still z q at_z true e h = write-put m m2 (key_in p s) (record { spot = s; write = w }) put (key_in q z) ∙ ap (λ b. cond b (Some w) (write_at m (key_in q z))) e ∙ reached z q at_z e
+      still z q at_z false e h = write-put m m2 (key_in p s) (record { spot = s; write = w }) put (key_in q z) ∙ ap (λ b. cond b (Some w) (write_at m (key_in q z))) e ∙ h
 
       here : IsChanged ts next m2 s
-      here q at_q = found-put m m2 (key_in p s) s w put (key_in q s) ∙ ap (λ b. cond b (Some w) (write_at m (key_in q s))) own ∙ reached s q at_q own
+      here q at_q = write-put m m2 (key_in p s) (record { spot = s; write = w }) put (key_in q s) ∙ ap (λ b. cond b (Some w) (write_at m (key_in q s))) own ∙ reached s q at_q own
         where
           own : is_at (key_cmp (key_in q s)) (key_in p s) ≡ true
           own = ap (λ (x : PartCells). is_at (key_cmp (key_in x s)) (key_in p s)) (same_Some q p (sym at_q ∙ at)) ∙ own-key key-total key-exact (key_in p s)
@@ -302,7 +288,7 @@ module _ (ts : List TableCells) (odd : Bool) (gone : List ℕ) (slots : HaveOwnS
       none : AreOnWay ts (left_at ts odd gone slots) m
       none = record {
         spots = subst (All (IsOfTables ts)) (sym empty) (All-nil (IsOfTables ts));
-        each = λ s p at. inl (ap (λ es. option_map (λ (x : CellChange). x.write) (lookup (is_at (key_cmp (key_in p s))) es)) empty);
+        each = λ s p at. inl (ap (λ es. write_at es (key_in p s)) empty);
       }
 
       one : MoreChanged ts (left_at ts odd gone slots) m m2 (Contains ix.recent.items)
@@ -359,7 +345,7 @@ module _ (ts : List TableCells) (slots : HaveOwnSlots ts) where
       → AreChanged ts (λ s. come_to xs s (next s)) m → AreChanged ts (λ s. come_to (xs ++ x ∷ []) s (next s)) m2
   come-put next xs x p m m2 at fresh put changed = record {
     spots = subst (All (IsOfTables ts)) (sym put) (all-put (IsOfTables ts) m (key_in p x.spot) (record { spot = x.spot; write = w }) changed.spots (p, at, refl));
-    each = λ z q at_z. found-put m m2 (key_in p x.spot) x.spot w put (key_in q z) ∙ by z q at_z (is_at (key_cmp (key_in q z)) (key_in p x.spot)) refl ∙ ap (change_to q z) (sym (come-last xs x z (next z)));
+    each = λ z q at_z. write-put m m2 (key_in p x.spot) (record { spot = x.spot; write = w }) put (key_in q z) ∙ by z q at_z (is_at (key_cmp (key_in q z)) (key_in p x.spot)) refl ∙ ap (change_to q z) (sym (come-last xs x z (next z)));
   }
     where
       w : CellWrite

@@ -25,68 +25,44 @@ bit-low false = omega arith
 pub head-visible : (a d : ℕ) → a < 4 → (1 + 2 * a + 8 * d) / 2 % 4 ≡ a
 head-visible a d lt = omega (arith, lt)
 
+-- what a test of a bit leaves, by both its answers
+pub by-bit : (n a b : ℕ) (P : ℕ → Type 0) → (n ≡ 1 → P a) → (n ≢ 1 → P b) → P (cond (eqb n 1) a b)
+by-bit n a b P one other = by (eqb n 1) refl
+  where
+    by : (f : Bool) → eqb n 1 ≡ f → P (cond f a b)
+    by true e = one (eqb-true n 1 e)
+    by false e = other (not-one n e)
+
+-- of a head that is used these visible bits are left, and its code
+abbrev Shows : ℕ → ℕ → ℕ → Type 0
+Shows head bits left = (left / 2 % 4 ≡ bits) × (left / 8 ≡ head / 8) × (left % 2 ≡ 1)
+
 -- a head with both visible bits
-with-both : (s head : ℕ) → s < 2 → head / 2 ^ (2 - s) % 2 ≡ 1 → head % 2 ≡ 1
-    → (cond (eqb (head / 2 ^ (1 + s) % 2) 1) head (head + 2 ^ (1 + s)) / 2 % 4 ≡ 3) × (cond (eqb (head / 2 ^ (1 + s) % 2) 1) head (head + 2 ^ (1 + s)) / 8 ≡ head / 8)
-    × (cond (eqb (head / 2 ^ (1 + s) % 2) 1) head (head + 2 ^ (1 + s)) % 2 ≡ 1)
-with-both zero head lt own used = by (eqb (head / 2 % 2) 1) refl
-  where
-    four : head / 4 % 2 ≡ 1
-    four = own
-
-    by : (b : Bool) → eqb (head / 2 % 2) 1 ≡ b → (cond b head (head + 2) / 2 % 4 ≡ 3) × (cond b head (head + 2) / 8 ≡ head / 8) × (cond b head (head + 2) % 2 ≡ 1)
-    by true e = let two = eqb-true (head / 2 % 2) 1 e in (omega (arith, two, four), refl, used)
-    by false e = let two = not-one (head / 2 % 2) e in (omega (arith, two, four), omega (arith, two, four), omega (arith, used))
-with-both (suc zero) head lt own used = by (eqb (head / 4 % 2) 1) refl
-  where
-    two : head / 2 % 2 ≡ 1
-    two = own
-
-    by : (b : Bool) → eqb (head / 4 % 2) 1 ≡ b → (cond b head (head + 4) / 2 % 4 ≡ 3) × (cond b head (head + 4) / 8 ≡ head / 8) × (cond b head (head + 4) % 2 ≡ 1)
-    by true e = let four = eqb-true (head / 4 % 2) 1 e in (omega (arith, two, four), refl, used)
-    by false e = let four = not-one (head / 4 % 2) e in (omega (arith, two, four), omega (arith, two, four), omega (arith, used))
+with-both : (s head : ℕ) → s < 2 → head / 2 ^ (2 - s) % 2 ≡ 1 → head % 2 ≡ 1 → Shows head 3 (cond (eqb (head / 2 ^ (1 + s) % 2) 1) head (head + 2 ^ (1 + s)))
+with-both zero head lt own used =
+    let four : head / 4 % 2 ≡ 1 = own in
+    by-bit (head / 2 % 2) head (head + 2) (Shows head 3) (λ two. (omega (arith, two, four), refl, used)) (λ two. (omega (arith, two, four), omega (arith, two, four), omega (arith, used)))
+with-both (suc zero) head lt own used =
+    let two : head / 2 % 2 ≡ 1 = own in
+    by-bit (head / 4 % 2) head (head + 4) (Shows head 3) (λ four. (omega (arith, two, four), refl, used)) (λ four. (omega (arith, two, four), omega (arith, two, four), omega (arith, used)))
 with-both (suc (suc s)) head lt own used = absurd (omega (arith, lt))
 
 -- a head with the visible bit of the present version alone
-with-own : (s head : ℕ) → s < 2 → head / 2 ^ (2 - s) % 2 ≡ 1 → head % 2 ≡ 1
-    → (cond (eqb (head / 2 ^ (1 + s) % 2) 1) (head - 2 ^ (1 + s)) head / 2 % 4 ≡ 2 - s) × (cond (eqb (head / 2 ^ (1 + s) % 2) 1) (head - 2 ^ (1 + s)) head / 8 ≡ head / 8)
-    × (cond (eqb (head / 2 ^ (1 + s) % 2) 1) (head - 2 ^ (1 + s)) head % 2 ≡ 1)
-with-own zero head lt own used = by (eqb (head / 2 % 2) 1) refl
-  where
-    four : head / 4 % 2 ≡ 1
-    four = own
-
-    by : (b : Bool) → eqb (head / 2 % 2) 1 ≡ b → (cond b (head - 2) head / 2 % 4 ≡ 2) × (cond b (head - 2) head / 8 ≡ head / 8) × (cond b (head - 2) head % 2 ≡ 1)
-    by true e = let two = eqb-true (head / 2 % 2) 1 e in (omega (arith, two, four), omega (arith, two, four), omega (arith, two, used))
-    by false e = let two = not-one (head / 2 % 2) e in (omega (arith, two, four), refl, used)
-with-own (suc zero) head lt own used = by (eqb (head / 4 % 2) 1) refl
-  where
-    two : head / 2 % 2 ≡ 1
-    two = own
-
-    by : (b : Bool) → eqb (head / 4 % 2) 1 ≡ b → (cond b (head - 4) head / 2 % 4 ≡ 1) × (cond b (head - 4) head / 8 ≡ head / 8) × (cond b (head - 4) head % 2 ≡ 1)
-    by true e = let four = eqb-true (head / 4 % 2) 1 e in (omega (arith, two, four), omega (arith, two, four), omega (arith, four, used))
-    by false e = let four = not-one (head / 4 % 2) e in (omega (arith, two, four), refl, used)
+with-own : (s head : ℕ) → s < 2 → head / 2 ^ (2 - s) % 2 ≡ 1 → head % 2 ≡ 1 → Shows head (2 - s) (cond (eqb (head / 2 ^ (1 + s) % 2) 1) (head - 2 ^ (1 + s)) head)
+with-own zero head lt own used =
+    let four : head / 4 % 2 ≡ 1 = own in
+    by-bit (head / 2 % 2) (head - 2) head (Shows head 2) (λ two. (omega (arith, two, four), omega (arith, two, four), omega (arith, two, used))) (λ two. (omega (arith, two, four), refl, used))
+with-own (suc zero) head lt own used =
+    let two : head / 2 % 2 ≡ 1 = own in
+    by-bit (head / 4 % 2) (head - 4) head (Shows head 1) (λ four. (omega (arith, two, four), omega (arith, two, four), omega (arith, four, used))) (λ four. (omega (arith, two, four), refl, used))
 with-own (suc (suc s)) head lt own used = absurd (omega (arith, lt))
 
 -- a head without a visible bit, where it had not that of the present version
 with-none : (s head : ℕ) → s < 2 → head / 2 ^ (2 - s) % 2 ≢ 1 → cond (eqb (head / 2 ^ (1 + s) % 2) 1) (head - 2 ^ (1 + s)) head / 2 % 4 ≡ 0
-with-none zero head lt other = by (eqb (head / 2 % 2) 1) refl
-  where
-    four : head / 4 % 2 ≢ 1
-    four = other
-
-    by : (b : Bool) → eqb (head / 2 % 2) 1 ≡ b → cond b (head - 2) head / 2 % 4 ≡ 0
-    by true e = let two = eqb-true (head / 2 % 2) 1 e in omega (arith, two, four)
-    by false e = let two = not-one (head / 2 % 2) e in omega (arith, two, four)
-with-none (suc zero) head lt other = by (eqb (head / 4 % 2) 1) refl
-  where
-    two : head / 2 % 2 ≢ 1
-    two = other
-
-    by : (b : Bool) → eqb (head / 4 % 2) 1 ≡ b → cond b (head - 4) head / 2 % 4 ≡ 0
-    by true e = let four = eqb-true (head / 4 % 2) 1 e in omega (arith, two, four)
-    by false e = let four = not-one (head / 4 % 2) e in omega (arith, two, four)
+with-none zero head lt other =
+    let four : head / 4 % 2 ≢ 1 = other in by-bit (head / 2 % 2) (head - 2) head (λ n. n / 2 % 4 ≡ 0) (λ two. omega (arith, two, four)) (λ two. omega (arith, two, four))
+with-none (suc zero) head lt other =
+    let two : head / 2 % 2 ≢ 1 = other in by-bit (head / 4 % 2) (head - 4) head (λ n. n / 2 % 4 ≡ 0) (λ four. omega (arith, two, four)) (λ four. omega (arith, two, four))
 with-none (suc (suc s)) head lt other = absurd (omega (arith, lt))
 
 -- ---- cells

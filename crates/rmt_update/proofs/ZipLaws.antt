@@ -1,6 +1,6 @@
 -- Lists item by item beside one another.
-use Rattle.std.proofs.Common.{◌≡◌, ℕ, zero, suc, List, [], ◌∷◌, length, Some, refl, ap, subst, arith}
-use Rattle.std.specs.Prelude.{All, slice_get}
+use Rattle.std.proofs.Common.{◌≡◌, ◌⊎◌, ℕ, zero, suc, Bool, true, false, cond, List, [], ◌∷◌, length, Some, None, inl, inr, refl, ap, ◌∙◌, subst, arith}
+use Rattle.std.specs.Prelude.{All, find, slice_get}
 use Rattle.std.specs.List.{AllZip}
 use Rattle.std.proofs.lemmas.List.Elements.{All-cons, All-nil}
 use Rattle.std.proofs.lemmas.Option.{none-some, same_Some}
@@ -44,3 +44,44 @@ zip-all-right R P gives [] [] zip = All-nil P
 zip-all-right R P gives [] (y ∷ ys) zip = absurd zip
 zip-all-right R P gives (x ∷ xs) [] zip = absurd zip
 zip-all-right R P gives (x ∷ xs) (y ∷ ys) zip = All-cons P y ys (gives x y zip.0) (zip-all-right R P gives xs ys zip.1)
+
+-- the first items of two lists, side by side, that pass
+pub record FoundBoth {X Y : Type 0} (R : X → Y → Type 0) (f : X → Bool) (g : Y → Bool) (xs : List X) (ys : List Y) : Type 0 where
+  pub i : ℕ
+  pub x : X
+  pub y : Y
+  pub at : slice_get xs i ≡ Some x
+  pub beside : (slice_get ys i ≡ Some y) × R x y
+  pub first : find f xs ≡ Some x
+  pub second : find g ys ≡ Some y
+
+pub find-both : {X Y : Type 0} (R : X → Y → Type 0) (f : X → Bool) (g : Y → Bool) → ((x : X) (y : Y) → R x y → g y ≡ f x) → (xs : List X) (ys : List Y) → AllZip R xs ys
+    → ((find f xs ≡ None) × (find g ys ≡ None)) ⊎ FoundBoth R f g xs ys
+find-both R f g same [] [] zip = inl (refl, refl)
+find-both R f g same [] (y ∷ ys) zip = absurd zip
+find-both R f g same (x ∷ xs) [] zip = absurd zip
+find-both R f g same (x ∷ xs) (y ∷ ys) zip = by (f x) refl (find-both R f g same xs ys zip.1)
+  where
+    by : (b : Bool) → f x ≡ b → ((find f xs ≡ None) × (find g ys ≡ None)) ⊎ FoundBoth R f g xs ys
+        → ((cond (f x) (Some x) (find f xs) ≡ None) × (cond (g y) (Some y) (find g ys) ≡ None)) ⊎ FoundBoth R f g (x ∷ xs) (y ∷ ys)
+    by true e rest =
+        inr (record {
+          i = 0;
+          x = x;
+          y = y;
+          at = refl;
+          beside = (refl, zip.0);
+          first = ap (λ b. cond b (Some x) (find f xs)) e;
+          second = ap (λ b. cond b (Some y) (find g ys)) (same x y zip.0 ∙ e);
+        })
+    by false e (inl none) = inl (ap (λ b. cond b (Some x) (find f xs)) e ∙ none.0, ap (λ b. cond b (Some y) (find g ys)) (same x y zip.0 ∙ e) ∙ none.1)
+    by false e (inr h) =
+        inr (record {
+          i = suc h.i;
+          x = h.x;
+          y = h.y;
+          at = h.at;
+          beside = h.beside;
+          first = ap (λ b. cond b (Some x) (find f xs)) e ∙ h.first;
+          second = ap (λ b. cond b (Some y) (find g ys)) (same x y zip.0 ∙ e) ∙ h.second;
+        })

@@ -16,9 +16,11 @@ pub mod NextKept
 pub mod Open
 pub mod Placing
 pub mod Planned
+pub mod Plans
 pub mod Recent
 pub mod Refill
 pub mod RowIndex
 pub mod Taking
 pub mod TurnWrites
 pub mod Turning
+pub mod Types

@@ -15,7 +15,7 @@ use Rattle.rmt_config.specs.Commits.{AreFilled, IsFirstSeed}
 use Rattle.rmt_config.specs.Form.{Formed}
 use Rattle.rmt_config.specs.Rooms.{PartAt, parts_of}
 use Rattle.rmt_cuckoo.specs.declared.layout.Ways.{Ways}
-use Rattle.rmt_cuckoo.specs.Loading.{IsLoading, IsOverfull}
+use Rattle.rmt_cuckoo.specs.Loading.{IsLoading, IsOverfull, cells_of}
 use Rattle.rmt_update.specs.declared.book.loading.Full.{Full}
 use Rattle.rmt_update.specs.declared.book.loading.Loaded.{Loaded}
 use Rattle.rmt_update.specs.declared.book.loading.TableTried.{TableTried}
@@ -68,6 +68,13 @@ pub record CanFill (table : TableCells) (entries : List Entry) : Type 0 where
   pub bits : sum table.name.keys ≤ 640
   pub tests : All (λ (e : Entry). AllZip IsTest table.name.keys e.tests) entries
   pub few : length entries < 2 ^ 32
+
+-- keys can be loaded into the ways of a table
+pub record CanLoad (layout : List Ways) (keys : List (List ℕ)) : Type 0 where
+  pub parts : length layout ≤ 64
+  pub rows : All (λ (w : Ways). 1 ≤ w.rows) layout
+  pub few_cells : cells_of layout < 2 ^ 32
+  pub few_keys : length keys < 2 ^ 32
 
 -- entries of a kind stand in these spots: those of an exact table each in a candidate cell of its own, and the others in rows in order, without a gap
 abbrev pub StandBy : List PartCells → ℕ → Terms → List Entry → Kind → List Spot → Type 0

@@ -2,12 +2,10 @@
 
 ghost use Rattle.std.specs.Prelude.{◌≡◌, IfErr, IfOk, IsSome, List, Some};
 ghost use Rattle.std.specs.List.{AllZip};
-ghost use Rattle.rmt_ast.specs.declared.entry.Entry.{Entry};
-ghost use Rattle.rmt_ast.specs.declared.names.Names.{Names as NamesOf};
+ghost use Rattle.rmt_update.specs.Types.{Config as ConfigOf, Entry, Names as NamesOf, RunCells};
 ghost use Rattle.rmt_config.specs.Form.{Formed};
 ghost use Rattle.rmt_config.specs.NamesForm.{entries_spelled};
-ghost use Rattle.rmt_config.specs.RunCells.{RunCells, own_cells};
-ghost use Rattle.rmt_config.specs.declared.config.Config.{Config as ConfigOf};
+ghost use Rattle.rmt_config.specs.RunCells.{own_cells};
 ghost use Rattle.rmt_update.specs.BookStands.{BookStands};
 ghost use Rattle.rmt_book.specs.Listed.{IsTable};
 

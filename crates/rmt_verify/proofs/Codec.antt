@@ -1,7 +1,8 @@
 -- A reader and a spelling that undo each other, and how such pairs are joined: what is read is spelled so and fits, and what fits is read as it is spelled.
-use Rattle.std.proofs.Common.{◌≡◌, ℕ, zero, suc, ◌^◌, ◌<◌, ◌/◌, ◌%◌, Bool, true, false, cond, List, [], ◌∷◌, ◌++◌, length, Option, Some, None, refl, sym, ap, subst, ◌∙◌, append_assoc, arith}
+use Rattle.std.proofs.Common.{◌≡◌, ℕ, zero, suc, ◌+◌, ◌*◌, ◌^◌, ◌<◌, ◌/◌, ◌%◌, Bool, true, false, cond, List, [], ◌∷◌, ◌++◌, length, Option, Some, None, refl, sym, ap, subst, ◌∙◌, append_assoc, arith}
 use Rattle.std.specs.Prelude.{All}
 use Rattle.std.specs.List.{flat_map}
+use Rattle.std.proofs.lemmas.Nat.{div_below, mul-add-lt}
 use Rattle.std.proofs.lemmas.List.Elements.{All-nil, All-cons, All-head, All-tail}
 use Rattle.rmt_bits.proofs.ByteLaws.{AreBytes, AreBytes-rest}
 use Rattle.rmt_config.specs.Spelling.{two_bytes, four_bytes}
@@ -138,22 +139,20 @@ pub byte_codec : Codec byte_at (λ n. n ∷ []) (λ n. n < 2 ^ 8)
 unfolding byte_at
 byte_codec = record { takes = byte_takes; again = λ x rest p. refl }
 
-two_fits : (x : ℕ × ℕ) → x.0 < 2 ^ 8 → x.1 < 2 ^ 8 → two_of_parts x < 2 ^ 16
-two_fits x high low = omega (arith, high, low)
+parts_fit : (base : ℕ) (x : ℕ × ℕ) → x.0 < base → x.1 < base → base * x.0 + x.1 < base * base
+parts_fit base x high low =
+    let all = mul-add-lt x.0 base x.1 base high low in
+    omega (arith, all)
 
-two_back : (n : ℕ) → n < 2 ^ 16 → (x : ℕ × ℕ) × (two_of_parts x ≡ n) × ((x.0 < 2 ^ 8) × (x.1 < 2 ^ 8))
-two_back n lt = ((n / 256, n % 256), omega arith, (omega (arith, lt), omega arith))
+parts_back : (base n : ℕ) → 0 < base → n < base * base → (x : ℕ × ℕ) × (base * x.0 + x.1 ≡ n) × ((x.0 < base) × (x.1 < base))
+parts_back base n some lt = ((n / base, n % base), omega (arith, some), (div_below n base base some lt, omega (arith, some)))
 
 pub two_codec : Codec two_at two_bytes (λ n. n < 2 ^ 16)
 unfolding two_at
-two_codec = codec_made two_of_parts (codec_pair byte_codec byte_codec) two_bytes (λ n. n < 2 ^ 16) (λ x p. (two_text x p.0 p.1, two_fits x p.0 p.1)) two_back
-
-four_fits : (x : ℕ × ℕ) → x.0 < 2 ^ 16 → x.1 < 2 ^ 16 → four_of_parts x < 2 ^ 32
-four_fits x high low = omega (arith, high, low)
-
-four_back : (n : ℕ) → n < 2 ^ 32 → (x : ℕ × ℕ) × (four_of_parts x ≡ n) × ((x.0 < 2 ^ 16) × (x.1 < 2 ^ 16))
-four_back n lt = ((n / 65536, n % 65536), omega arith, (omega (arith, lt), omega arith))
+two_codec =
+    codec_made two_of_parts (codec_pair byte_codec byte_codec) two_bytes (λ n. n < 2 ^ 16) (λ x p. (two_text x p.0 p.1, parts_fit 256 x p.0 p.1)) (λ n lt. parts_back 256 n (omega arith) lt)
 
 pub four_codec : Codec four_at four_bytes (λ n. n < 2 ^ 32)
 unfolding four_at
-four_codec = codec_made four_of_parts (codec_pair two_codec two_codec) four_bytes (λ n. n < 2 ^ 32) (λ x p. (four_text x p.1, four_fits x p.0 p.1)) four_back
+four_codec =
+    codec_made four_of_parts (codec_pair two_codec two_codec) four_bytes (λ n. n < 2 ^ 32) (λ x p. (four_text x p.1, parts_fit 65536 x p.0 p.1)) (λ n lt. parts_back 65536 n (omega arith) lt)

@@ -20,16 +20,20 @@ use Rattle.rmt_config.specs.declared.config.Memory.TheVariants.{Exact}
 use Rattle.rmt_config.specs.declared.config.TcamRow.{TcamRow}
 use Rattle.rmt_config.specs.Cells.{Blocks, Content, blocks_at, candidates, cell_of, code_of, data_at, entry_at, row_record, tcam_row, unit_row}
 use Rattle.rmt_config.specs.Effects.{HasArguments}
-use Rattle.rmt_config.specs.Layouts.{entry_in, exact_keys, exact_records, local_of, position_of, quantum_of, row_of, ternary_records, unit_of}
+use Rattle.rmt_config.specs.Layouts.{IsInSram, entry_in, exact_keys, exact_records, local_of, position_of, quantum_of, row_of, ternary_records, unit_of}
 use Rattle.rmt_config.specs.Rooms.{tests_as_one}
-use Rattle.rmt_config.specs.BlockCounts.{divided_up}
+use Rattle.rmt_config.specs.BlockCounts.{divided_up, record_units, record_width}
+use Rattle.rmt_config.specs.LaneForm.{bits_of_lanes}
+use Rattle.rmt_config.specs.MemoryRules.{ExactFits, FormedRows, SramRows, TernaryFits}
 use Rattle.rmt_config.proofs.CellLayouts.{exact-data, exact-entry, ternary-record, up-enough, up-most}
 use Rattle.rmt_config.proofs.SpelledCandidates.{candidate-row}
 use Rattle.rmt_pack.specs.declared.tcam.TcamWord.{TcamWord}
 use Rattle.rmt_pack.specs.Tcam.{FillsRow, IsWords, joined_words}
 use Rattle.rmt_pack.proofs.TcamLaws.{unit_row-words}
+use Rattle.rmt_refine.specs.Types.{SlotUnit, SramRow, Stage}
+use Rattle.rmt_verify.specs.SramCells.{IsCellAt}
 use Rattle.rmt_verify.specs.Wanted.{Matches, word_in}
-use Rattle.rmt_config.proofs.LayoutLaws.{at_layout, bytes_hold}
+use Rattle.rmt_config.proofs.LayoutLaws.{at_layout, bytes_hold, keys_in, records_in, rows_in}
 
 -- ---- bytes of a number
 
@@ -57,6 +61,31 @@ data_long front bytes bits y zeros is =
 -- an entry has no more bits than the layout says
 entry-lt : (l : CellLayout) (held : Blocks) (blocks : List ℕ) (q i : ℕ) → entry_in l held blocks q i < 2 ^ l.entry
 entry-lt l held blocks q i = slice-lt (unit_row l.bits held (row_of l i) (blocks_at blocks l.side (unit_of l q i))) (position_of l i * l.entry) l.entry
+
+cell_in : (l m : CellLayout) (blocks : List ℕ) (rows : List SramRow) (cell : ℕ) → l ≡ m → SramRows rows → IsInSram m → length blocks ≡ m.quanta * m.units * m.side → cell < m.ways * m.quanta * m.way → IsCellAt l blocks rows cell
+cell_in l m blocks rows cell is rows_are layout long low = at_layout (λ (z : CellLayout). IsCellAt z blocks rows cell) l m is (record { rows_are = rows_are; layout = layout; blocks_are = long; low = low })
+
+-- a cell of the keys and of the data of an exact part, and of a ternary part
+pub key_cell : (s : SlotUnit) (k p d : ℕ) (ks rs : List ℕ) (rows : List SramRow) (l : CellLayout) (size cell : ℕ) → ExactFits s k p d ks rs → SramRows rows → l ≡ exact_keys k p d size → size ≡ bits_of_lanes s.keys
+    → cell < 4096 * d * p → IsCellAt l ks rows cell
+key_cell s k p d ks rs rows l size cell fits rows_are is same low =
+    let long = fits.keys in
+    cell_in l (exact_keys k p d (bits_of_lanes s.keys)) ks rows cell (is ∙ ap (exact_keys k p d) same) rows_are
+    (keys_in k p d (bits_of_lanes s.keys) fits.some_k fits.most_k fits.some_p fits.most_p fits.some_d fits.most_d fits.most_bits fits.fits) (omega (arith, long)) (omega (arith, low))
+
+pub data_cell : (p d n : ℕ) (rs : List ℕ) (rows : List SramRow) (l : CellLayout) (cell : ℕ) → 0 < p → p < 65536 → 0 < d → d ≤ 106 → 0 < n → n < 65536 → length rs ≡ d * (record_units (4 * p) n * record_width n) → SramRows rows
+    → l ≡ exact_records p d n → cell < 4096 * d * p → IsCellAt l rs rows cell
+data_cell p d n rs rows l cell lp hp ld hd ln hn long rows_are is low =
+    cell_in l (exact_records p d n) rs rows cell is rows_are (records_in p d n lp hp ld hd ln hn) (omega (arith, long)) (omega (arith, low))
+
+pub row_cell : (stage : Stage) (s : SlotUnit) (d : ℕ) (ks rs : List ℕ) (rows : List SramRow) (l : CellLayout) (cell : ℕ) → TernaryFits s d ks rs → FormedRows stage → rows ≡ stage.srows → l ≡ ternary_records d (s.held + 8)
+    → cell < 2048 * d → IsCellAt l rs rows cell
+row_cell stage s d ks rs rows l cell fits formed read is low =
+    let long = fits.records in
+    let most = fits.most_held in
+    subst (λ (z : List SramRow). IsCellAt l rs z cell) (sym read)
+    (cell_in l (ternary_records d (s.held + 8)) rs stage.srows cell is (record { rise = formed.srise; low = formed.slow; small = formed.sbits })
+    (rows_in d (s.held + 8) fits.some_d fits.most_d (omega arith) (omega (arith, most))) (omega (arith, long)) (omega (arith, low)))
 
 -- what stands above a head of 8 bits
 pub above_head : (x bits : ℕ) → x < 2 ^ (bits + 8) → (slice x 8 bits ≡ x / 256) × (x / 256 < 2 ^ bits)

@@ -1,8 +1,8 @@
 -- Numbers side by side, looked at one after another.
-use Rattle.std.proofs.Common.{◌≡◌, ℕ, zero, suc, ◌+◌, ◌-◌, ◌*◌, ◌%◌, ◌^◌, ◌<◌, ◌≤◌, ◌==◌, ◌&&◌, Bool, true, List, [], ◌∷◌, length, get_or, take, drop, refl, sym, ap, ◌∙◌, subst, arith}
+use Rattle.std.proofs.Common.{◌≡◌, ℕ, zero, suc, ◌+◌, ◌-◌, ◌*◌, ◌%◌, ◌^◌, ◌<◌, ◌≤◌, ◌==◌, ◌&&◌, Bool, true, false, List, [], ◌∷◌, length, get_or, take, drop, refl, sym, ap, ◌∙◌, subst, arith}
 use Rattle.std.specs.Prelude.{sum}
 use Rattle.std.specs.List.{AllZip}
-use Rattle.std.proofs.lemmas.Bool.{eq-eqb}
+use Rattle.std.proofs.lemmas.Bool.{both_ways, eq-eqb, ne_eqb}
 use Rattle.std.proofs.lemmas.List.{drop_all}
 use Rattle.std.proofs.lemmas.Slice.Zip.{AllZip-long}
 use Rattle.std.proofs.lemmas.List.Sums.{sum_by-cons, sum_by-drop_more, sum_by_more}
@@ -14,9 +14,8 @@ use Rattle.rmt_bits.specs.Bits.{slice}
 use Rattle.rmt_ast.specs.declared.program.Test.{Test}
 use Rattle.rmt_ast.specs.WellFormed.{IsTest}
 use Rattle.rmt_config.specs.Effects.{begin_of}
-use Rattle.rmt_config.specs.Rooms.{tests_as_one}
+use Rattle.rmt_config.specs.Rooms.{mask_or_value, tests_as_one}
 use Rattle.rmt_refine.proofs.KeyLaws.{block_eq}
-use Rattle.rmt_config.specs.Rooms.{mask_or_value}
 use Rattle.rmt_pack.proofs.BesideLaws.{part_fits}
 use Rattle.rmt_config.proofs.RiseLaws.{one_off}
 
@@ -87,6 +86,17 @@ module _ (m : Bool) (ws : List ℕ) (ts : List Test) (n : ℕ) (zip : AllZip IsT
   -- what is read there
   pub test_read : (from whole i r : ℕ) → i < length ts → from + rest i ≡ whole → r ≡ slice n (whole - (from + get_or ws i 0)) (get_or ws i 0) → r ≡ slice n (rest (i + 1)) (get_or ws i 0)
   test_read from whole i r lt at is = is ∙ ap (λ low. slice n low (get_or ws i 0)) (place_next from whole i lt at).1
+
+  -- where it is not the test's part, the number is not that of the tests; where it is, what is left decides
+  module _ (from whole i r : ℕ) (d : Test) (lt : i < length ts) (place : from + rest i ≡ whole) (read : r ≡ slice n (whole - (from + get_or ws i 0)) (get_or ws i 0)) (same : left i ≡ (n == one m ws ts)) where
+    here_or_not : (b : Bool) → (slice n (rest (i + 1)) (get_or ws i 0) == mask_or_value m (get_or ts i d)) ≡ b → (b && left (i + 1)) ≡ (n == one m ws ts)
+    here_or_not b is = sym (tests_step i d lt ∙ ap (λ x. x && left (i + 1)) is) ∙ same
+
+    pub tests_differ : (r ≡ mask_or_value m (get_or ts i d) → ⊥) → n ≡ one m ws ts → ⊥
+    tests_differ other eq = both_ways (n == one m ws ts) (sym (here_or_not false (ne_eqb _ _ (λ e. other (test_read from whole i r lt place read ∙ e))))) (eq-eqb n (one m ws ts) eq)
+
+    pub tests_agree : r ≡ mask_or_value m (get_or ts i d) → left (i + 1) ≡ (n == one m ws ts)
+    tests_agree here = here_or_not true (eq-eqb _ _ (sym (test_read from whole i r lt place read) ∙ here))
 
 pub width_there : (ws : List ℕ) (ts : List Test) (i : ℕ) → AllZip IsTest ws ts → i < length ts → i < length ws
 width_there ws ts i zip lt = let long = AllZip-long IsTest ws ts zip in omega (arith, lt, long)

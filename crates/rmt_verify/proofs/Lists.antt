@@ -1,5 +1,5 @@
 -- The items of a map and the whole: each is read as it is spelled.
-use Rattle.std.proofs.Common.{◌≡◌, ℕ, ◌+◌, ◌^◌, ◌<◌, ◌≤◌, Bool, true, false, List, ◌++◌, refl, append_assoc, arith, cond, leb, ltb}
+use Rattle.std.proofs.Common.{◌≡◌, ℕ, ◌+◌, ◌^◌, ◌<◌, ◌≤◌, Bool, true, false, List, ◌++◌, refl, append_assoc, arith, cond, leb, ltb, rules}
 use Rattle.std.proofs.lemmas.Bool.{ltb-true, leb-true}
 use Rattle.rmt_bits.specs.Words.{word_size}
 use Rattle.rmt_bits.proofs.TestLaws.{split4}
@@ -86,18 +86,7 @@ lists_codec =
     spelled_lists MapFits
     (λ a p. (
       text_five (spelled_list32 spelled_lanes a.0) (spelled_list16 spelled_join a.1.0) (spelled_list16 spelled_part a.1.1.0) (spelled_list8 two_bytes a.1.1.1.0) (spelled_list32 spelled_cell a.1.1.1.1),
-      record {
-        fields = p.0.0;
-        each_field = p.0.1;
-        joins = p.1.0.0;
-        each_join = p.1.0.1;
-        parts = p.1.1.0.0;
-        each_part = p.1.1.0.1;
-        starts = p.1.1.1.0.0;
-        each_start = p.1.1.1.0.1;
-        cells = p.1.1.1.1.0;
-        each_cell = p.1.1.1.1.1;
-      },
+      search rules,
     ))
     (λ m f. (
       (m.map.places, (m.joins, (m.map.placement.parts, (m.map.starts, m.map.cells)))),

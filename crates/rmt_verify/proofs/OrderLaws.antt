@@ -1,5 +1,5 @@
 -- Entries by their numbers, and in the order of their rows.
-use Rattle.std.proofs.Common.{◌≡◌, ◌≢◌, ℕ, ◌+◌, ◌-◌, ◌<◌, ◌≤◌, ◌&&◌, ◌||◌, ◌==◌, ◌++◌, ◌∷◌, [], Bool, true, false, List, length, length-append, get_or, take, drop, take-append-drop, All, Contains, refl, sym, ap, ◌∙◌, subst, inl, inr, arith}
+use Rattle.std.proofs.Common.{◌≡◌, ℕ, ◌+◌, ◌-◌, ◌<◌, ◌≤◌, ◌&&◌, ◌||◌, ◌==◌, ◌++◌, ◌∷◌, [], Bool, true, false, List, length, length-append, get_or, take, drop, take-append-drop, All, Contains, refl, sym, ap, ◌∙◌, subst, inl, inr, arith}
 use Rattle.std.specs.Prelude.{AllPairs, nat_lt}
 use Rattle.std.proofs.lemmas.Bool.{both_ways, cases_lt, cases_order, eq-eqb, eqb-true, false≢true, lt-ltb, ltb-true}
 use Rattle.std.proofs.lemmas.List.{append-nil, get_or_default, take_more}
@@ -58,32 +58,36 @@ never_below a b le = by (nat_lt a b) refl
     by true e = absurd (let lt = ltb-true a b e in omega (arith, lt, le))
     by false e = e
 
+-- a number that is not below a second, nor this one below a third
+not_below_both : (a b x : ℕ) → nat_lt a b ≡ false → nat_lt b x ≡ false → (nat_lt a x ≡ false) × (a ≡ x → b ≡ a)
+not_below_both a b x p q =
+    let ab = not_below a b p in
+    let bx = not_below b x q in
+    (never_below a x (omega (arith, ab, bx)), λ same. omega (arith, ab, bx, same))
+
+-- the same of entries that one test of their ranks compares, and then their numbers
+never_behind : (ab bx ax : Bool) (a b x : Entry) → (ab ≡ false → bx ≡ false → (ax ≡ false) × (x.rank ≡ a.rank → b.rank ≡ a.rank)) → (ab || (b.rank == a.rank && nat_lt b.number a.number)) ≡ false
+    → (bx || (x.rank == b.rank && nat_lt x.number b.number)) ≡ false → (ax || (x.rank == a.rank && nat_lt x.number a.number)) ≡ false
+never_behind ab bx ax a b x ranks p q =
+    let one = neither ab (b.rank == a.rank) (nat_lt b.number a.number) p in
+    let two = neither bx (x.rank == b.rank) (nat_lt x.number b.number) q in
+    let on = ranks one.0 two.0 in
+    nor ax (x.rank == a.rank) (nat_lt x.number a.number) on.0
+    (λ same.
+    (let xa = eqb-true x.rank a.rank same in
+    let ba = on.1 xa in
+    (not_below_both x.number b.number a.number (two.1 (eq-eqb x.rank b.rank (xa ∙ sym ba))) (one.1 (eq-eqb b.rank a.rank ba))).0))
+
 -- where an entry does not go before another, nor a third before this one, the third does not go before the first
 pub never_turns : (k : Kind) (a b x : Entry) → goes_first k b a ≡ false → goes_first k x b ≡ false → goes_first k x a ≡ false
 never_turns kind.Keyless a b x p q = refl
 never_turns kind.Exact a b x p q = refl
 never_turns kind.Prefix a b x p q =
-    let one = neither (nat_lt a.rank b.rank) (b.rank == a.rank) (nat_lt b.number a.number) p in
-    let two = neither (nat_lt b.rank x.rank) (x.rank == b.rank) (nat_lt x.number b.number) q in
-    let high = not_below a.rank b.rank one.0 in
-    let more = not_below b.rank x.rank two.0 in
-    nor (nat_lt a.rank x.rank) (x.rank == a.rank) (nat_lt x.number a.number) (never_below a.rank x.rank (omega (arith, high, more)))
-    (λ same.
-    (let e : x.rank ≡ a.rank = eqb-true x.rank a.rank same in
-    let up = not_below b.number a.number (one.1 (eq-eqb b.rank a.rank (omega (arith, high, more, e)))) in
-    let on = not_below x.number b.number (two.1 (eq-eqb x.rank b.rank (omega (arith, high, more, e)))) in
-    never_below x.number a.number (omega (arith, up, on))))
+    never_behind (nat_lt a.rank b.rank) (nat_lt b.rank x.rank) (nat_lt a.rank x.rank) a b x
+    (λ ab bx. let both = not_below_both a.rank b.rank x.rank ab bx in (both.0, λ same. both.1 (sym same))) p q
 never_turns kind.Ternary a b x p q =
-    let one = neither (nat_lt b.rank a.rank) (b.rank == a.rank) (nat_lt b.number a.number) p in
-    let two = neither (nat_lt x.rank b.rank) (x.rank == b.rank) (nat_lt x.number b.number) q in
-    let high = not_below b.rank a.rank one.0 in
-    let more = not_below x.rank b.rank two.0 in
-    nor (nat_lt x.rank a.rank) (x.rank == a.rank) (nat_lt x.number a.number) (never_below x.rank a.rank (omega (arith, high, more)))
-    (λ same.
-    (let e : x.rank ≡ a.rank = eqb-true x.rank a.rank same in
-    let up = not_below b.number a.number (one.1 (eq-eqb b.rank a.rank (omega (arith, high, more, e)))) in
-    let on = not_below x.number b.number (two.1 (eq-eqb x.rank b.rank (omega (arith, high, more, e)))) in
-    never_below x.number a.number (omega (arith, up, on))))
+    never_behind (nat_lt b.rank a.rank) (nat_lt x.rank b.rank) (nat_lt x.rank a.rank) a b x
+    (λ ab bx. let both = not_below_both x.rank b.rank a.rank bx ab in (both.0, λ same. both.1 same ∙ same)) p q
 
 -- so numbers keep the order over one between, which an entry has
 pub order_on : (k : Kind) (es : List Entry) (a b x : ℕ) → ((e : Entry) × Contains es e × (e.number ≡ b)) → KeepsOrder k es a b → KeepsOrder k es b x → KeepsOrder k es a x

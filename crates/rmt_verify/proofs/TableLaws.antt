@@ -169,7 +169,7 @@ module _ (p : Program) (c : Config) (n : ℕ) (t : Table) (widths : List ℕ) (e
       λ h. told.1 (record { code_is = h.holds.code; key = h.holds.key; mask = h.holds.mask; held = h.holds.held }, h.candidate),
     )
 
-    pub there_is : (holds : Bool) (params : List ℕ) (code : ℕ) (y : Content) (m : Memory) → params ≡ own_params → code ≡ part.first + e.action → own ≡ y → part.slot.memory ≡ m
+    there_is : (holds : Bool) (params : List ℕ) (code : ℕ) (y : Content) (m : Memory) → params ≡ own_params → code ≡ part.first + e.action → own ≡ y → part.slot.memory ≡ m
         → Told holds widths params code y m → IsTrue holds ↔ HeldThere p c t part x e
     there_is holds params code y m params_is code_is content memory told =
         own_told holds
@@ -180,35 +180,46 @@ module _ (p : Program) (c : Config) (n : ℕ) (t : Table) (widths : List ℕ) (e
         (subst (λ (ws : List ℕ). Told holds ws params code y m) known.widths_are told)))))
 
     -- where the entry stands in the cell, the cell holds the entry of its number
-    pub cell_told : (holds : Bool) → IsTrue holds ↔ HeldThere p c t part x e → (cells : List CellOf) → Contains cells (told_at part x) → IsTrue holds ↔ CellHeld p c cells t es part x
+    cell_told : (holds : Bool) → IsTrue holds ↔ HeldThere p c t part x e → (cells : List CellOf) → Contains cells (told_at part x) → IsTrue holds ↔ CellHeld p c cells t es part x
     cell_told holds h cells told = (
       λ yes. record { entry = e; there = there; told = told; held = h.0 yes },
       λ own_held.
           h.1 (subst (HeldThere p c t part x) (one_numbered es known.entries.rising own_held.entry e own_held.there there (sym own_held.held.holds.number_is ∙ sym number)) own_held.held),
     )
 
-    pub exact_there : (k per d w : ℕ) (ks rs cs : List ℕ) (rows : List SramRow) (keys records : List ℕ) (holds : Bool) (params : List ℕ) (code : ℕ) → part.slot.memory ≡ Exact k per d w ks rs cs
-        → rows ≡ stands.stage.srows → keys ≡ ks → records ≡ rs → params ≡ own_params → code ≡ part.first + e.action
-        → Told holds widths params code (exact_content (sram_row rows) part.slot k per keys records (cell_of (1024 * d) per x.cell)) (Exact k per d w keys records cs)
-        → IsTrue holds ↔ HeldThere p c t part x e
-    exact_there k per d w ks rs cs rows keys records holds params code memory rows_are keys_are records_are params_is code_is told =
-        there_is holds params code (exact_content (sram_row stands.stage.srows) part.slot k per ks rs (cell_of (1024 * d) per x.cell)) (Exact k per d w ks rs cs) params_is code_is
-        (own_content_is c part stands x.cell ∙ ap (λ (m : Memory). content_of stands.stage (record part.slot { memory = m }) x.cell) memory) memory
-        (subst (λ (zs : List SramRow). P zs ks rs) rows_are (subst (λ (ys : List ℕ). P rows ys rs) keys_are (subst (λ (ys : List ℕ). P rows keys ys) records_are told)))
-      where
-        P : List SramRow → List ℕ → List ℕ → Type 0
-        P zs xs ys = Told holds widths params code (exact_content (sram_row zs) part.slot k per xs ys (cell_of (1024 * d) per x.cell)) (Exact k per d w xs ys cs)
+    -- what was read of the part's stage, and of the entry's action
+    module _ (stage : Stage) (actions : List ℕ) (all : List Action) (d : Action) (stage_read : stage ≡ get_or c.stages part.stage stage) (actions_are : actions ≡ t.actions) (all_are : all ≡ p.actions) where
+      abbrev params : List ℕ
+      params = (get_or all (get_or actions e.action 0) d).params
 
-    pub ternary_there : (d : ℕ) (ks rs cs : List ℕ) (stage : Stage) (keys records : List ℕ) (holds : Bool) (params : List ℕ) (code : ℕ) → part.slot.memory ≡ Ternary d ks rs cs
-        → stage ≡ stands.stage → keys ≡ ks → records ≡ rs → params ≡ own_params → code ≡ part.first + e.action
-        → IsTrue holds ↔ Matches widths params code e (ternary_content stage part.slot keys records x.cell) → IsTrue holds ↔ HeldThere p c t part x e
-    ternary_there d ks rs cs stage keys records holds params code memory stage_same keys_are records_are params_is code_is told =
-        there_is holds params code (ternary_content stands.stage part.slot ks rs x.cell) (Ternary d ks rs cs) params_is code_is
-        (own_content_is c part stands x.cell ∙ ap (λ (m : Memory). content_of stands.stage (record part.slot { memory = m }) x.cell) memory) memory
-        (λ yes. (own_match.0 yes, Contains-range (2048 * d) x.cell (cell_below c part stands x (Ternary d ks rs cs) listed memory)), λ both. own_match.1 both.0)
-      where
-        own_match : IsTrue holds ↔ Matches widths params code e (ternary_content stands.stage part.slot ks rs x.cell)
-        own_match =
-            subst (λ (s : Stage). IsTrue holds ↔ Matches widths params code e (ternary_content s part.slot ks rs x.cell)) stage_same
-            (subst (λ (ys : List ℕ). IsTrue holds ↔ Matches widths params code e (ternary_content stage part.slot ys rs x.cell)) keys_are
-            (subst (λ (ys : List ℕ). IsTrue holds ↔ Matches widths params code e (ternary_content stage part.slot keys ys x.cell)) records_are told))
+      found : (holds : Bool) (y : Content) (m : Memory) → content_of stands.stage (record part.slot { memory = m }) x.cell ≡ y → part.slot.memory ≡ m → Told holds widths params (part.first + e.action) y m
+          → (cells : List CellOf) → Contains cells (told_at part x) → IsTrue holds ↔ CellHeld p c cells t es part x
+      found holds y m content memory told =
+          cell_told holds
+          (there_is holds params (part.first + e.action) y m (params_read actions all d actions_are all_are) refl
+          (own_content_is c part stands x.cell ∙ ap (λ (k : Memory). content_of stands.stage (record part.slot { memory = k }) x.cell) memory ∙ content) memory told)
+
+      pub exact_there : (k per q w : ℕ) (ks rs cs : List ℕ) (rows : List SramRow) (keys records : List ℕ) (holds : Bool) → part.slot.memory ≡ Exact k per q w ks rs cs
+          → rows ≡ stage.srows → keys ≡ ks → records ≡ rs
+          → Told holds widths params (part.first + e.action) (exact_content (sram_row rows) part.slot k per keys records (cell_of (1024 * q) per x.cell)) (Exact k per q w keys records cs)
+          → (cells : List CellOf) → Contains cells (told_at part x) → IsTrue holds ↔ CellHeld p c cells t es part x
+      exact_there k per q w ks rs cs rows keys records holds memory rows_are keys_are records_are told =
+          found holds (exact_content (sram_row stands.stage.srows) part.slot k per ks rs (cell_of (1024 * q) per x.cell)) (Exact k per q w ks rs cs) refl memory
+          (subst (λ (zs : List SramRow). P zs ks rs) (rows_are ∙ ap (λ (s : Stage). s.srows) (stage_is c part stands stage stage_read))
+          (subst (λ (ys : List ℕ). P rows ys rs) keys_are (subst (λ (ys : List ℕ). P rows keys ys) records_are told)))
+        where
+          P : List SramRow → List ℕ → List ℕ → Type 0
+          P zs xs ys = Told holds widths params (part.first + e.action) (exact_content (sram_row zs) part.slot k per xs ys (cell_of (1024 * q) per x.cell)) (Exact k per q w xs ys cs)
+
+      pub ternary_there : (q : ℕ) (ks rs cs : List ℕ) (keys records : List ℕ) → part.slot.memory ≡ Ternary q ks rs cs → keys ≡ ks → records ≡ rs
+          → (holds : Bool) → IsTrue holds ↔ Matches widths params (part.first + e.action) e (ternary_content stage part.slot keys records x.cell)
+          → (cells : List CellOf) → Contains cells (told_at part x) → IsTrue holds ↔ CellHeld p c cells t es part x
+      ternary_there q ks rs cs keys records memory keys_are records_are holds told =
+          found holds (ternary_content stands.stage part.slot ks rs x.cell) (Ternary q ks rs cs) refl memory
+          (λ yes. (own_match.0 yes, Contains-range (2048 * q) x.cell (cell_below c part stands x (Ternary q ks rs cs) listed memory)), λ both. own_match.1 both.0)
+        where
+          own_match : IsTrue holds ↔ Matches widths params (part.first + e.action) e (ternary_content stands.stage part.slot ks rs x.cell)
+          own_match =
+              subst (λ (s : Stage). IsTrue holds ↔ Matches widths params (part.first + e.action) e (ternary_content s part.slot ks rs x.cell)) (stage_is c part stands stage stage_read)
+              (subst (λ (ys : List ℕ). IsTrue holds ↔ Matches widths params (part.first + e.action) e (ternary_content stage part.slot ys rs x.cell)) keys_are
+              (subst (λ (ys : List ℕ). IsTrue holds ↔ Matches widths params (part.first + e.action) e (ternary_content stage part.slot keys ys x.cell)) records_are told))

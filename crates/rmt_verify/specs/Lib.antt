@@ -1,4 +1,5 @@
 pub mod Types
+pub mod Given
 pub mod Spelling
 pub mod Spells
 pub mod Readers
@@ -16,3 +17,4 @@ pub mod CellsHeld
 pub mod Told
 pub mod Wanted
 pub mod TableKnown
+pub mod SramCells

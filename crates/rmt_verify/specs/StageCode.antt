@@ -9,7 +9,7 @@ use Rattle.rmt_refine.specs.Types.{Program, Stage, Table, Unit}
 use Rattle.rmt_refine.specs.Units.{table_at}
 use Rattle.rmt_vliw.specs.Coded.{TableCoded}
 use Rattle.rmt_vliw.specs.declared.folded.Folded.{Folded}
-pub use Rattle.rmt_vliw.specs.Folding.{AreFoldings}
+pub use Rattle.rmt_vliw.specs.Folding.{AreFoldings, IsFolding}
 
 -- a program, what its actions fold to, and places of its fields that keep them apart
 pub record CodingKnown (p : Program) (own : List Folded) (lanes : List (List Lane)) : Type 0 where

@@ -1,5 +1,5 @@
 -- What is known of a table and of its parts while its cells are looked at.
-use Rattle.std.specs.Prelude.{◌≡◌, ◌<◌, ◌≤◌, ℕ, List, Some, All, map, sum}
+use Rattle.std.specs.Prelude.{◌≡◌, ◌<◌, ◌≤◌, ℕ, List, Some, All, Contains, map, sum}
 use Rattle.rmt_ast.specs.declared.entry.Entry.{Entry}
 use Rattle.rmt_ast.specs.EntryLists.{AreTableEntries, terms_of}
 use Rattle.rmt_ast.specs.State.{width_of}
@@ -9,7 +9,7 @@ use Rattle.rmt_config.specs.LaneForm.{bits_of_lanes}
 use Rattle.rmt_config.specs.MemoryRules.{MemoryIsFormed}
 use Rattle.rmt_config.specs.PartStands.{PartStands}
 use Rattle.rmt_config.specs.Rooms.{PartAt, parts_of}
-use Rattle.rmt_refine.specs.Types.{Program, Table, Config}
+use Rattle.rmt_refine.specs.Types.{Program, Table, Config, CellNumber}
 use Rattle.rmt_refine.specs.Units.{HasKind, table_at}
 
 -- a part that stands where it may, with the table's key and a memory of its kind
@@ -30,6 +30,12 @@ pub record TableKnown (p : Program) (c : Config) (n : ℕ) (t : Table) (widths :
   pub few : sum widths ≤ 640
   pub entries : AreTableEntries n es (terms_of p t)
   pub memory : MemoryIsFormed c
+
+-- a listed cell of such a part
+pub record CellKnown (p : Program) (c : Config) (n : ℕ) (t : Table) (widths : List ℕ) (es : List Entry) (part : PartAt) (x : CellNumber) : Type 0 where
+  pub its_table : TableKnown p c n t widths es
+  pub its_part : PartKnown c t (sum widths) part
+  pub listed : Contains part.slot.numbers x
 
 -- the parts of the table that node n applies, if it applies one
 abbrev pub NodeKnown : Program → Config → ℕ → Type 0

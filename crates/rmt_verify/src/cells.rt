@@ -1,17 +1,11 @@
 //! Fourth part: the cells hold the entries.
 
 ghost use Rattle.std.specs.Prelude.{◌≡◌, ◌<◌, ◌↔◌, ℕ, All, IfOk, IsOkUnless, IsTrue, List, Some, length, map, option_copied};
-ghost use Rattle.rmt_bits.specs.declared.fault.OutOfMemory.{OutOfMemory};
-ghost use Rattle.rmt_ast.specs.EntryLists.{AreEntries};
 ghost use Rattle.rmt_ast.specs.State.{width_of};
-ghost use Rattle.rmt_ast.specs.WellFormed.{IsProgram};
-ghost use Rattle.rmt_config.specs.Form.{Formed};
-ghost use Rattle.rmt_phv.specs.Places.{KeepsApart};
-ghost use Rattle.rmt_refine.specs.Cells.{CellsCarried};
-ghost use Rattle.rmt_refine.specs.Units.{UnitsCarried, table_at as table_at_of};
-ghost use Rattle.rmt_refine.specs.View.{own_view};
+ghost use Rattle.rmt_refine.specs.Units.{table_at as table_at_of};
 ghost use Rattle.rmt_refine.specs.declared.map.CellOf.{CellOf as CellOfMap};
 ghost use Rattle.rmt_verify.specs.CellsHeld.{TablesHeld};
+ghost use Rattle.rmt_verify.specs.Given.{CellsCarried, IsGiven, KeepsApart, OutOfMemory, UnitsCarried, own_view};
 ghost use Rattle.rmt_verify.specs.TableKnown.{NodeKnown};
 ghost use Rattle.rmt_verify.specs.Told.{AreTold};
 
@@ -23,14 +17,13 @@ mod table;
 mod tcam;
 mod told;
 
+use crate::checked::Checked;
 use crate::fault::VerifyFault;
 use entries::are_as_many;
-use rmt_ast::entry::EntryLists;
 use rmt_ast::program::{Program, Table, What};
 use rmt_bits::answer::Bytes;
 use rmt_bits::sequence::Sequence;
-use rmt_config::config::Config;
-use rmt_refine::map::{CellOf, Map};
+use rmt_refine::map::CellOf;
 use std::alloc::{AllocError, Global};
 use std::collections::BTreeMap;
 use table::{TableAt, table_holds};
@@ -64,28 +57,26 @@ fn widths_of(alloc: Global, program: &Program, table: &Table) -> Result<Bytes, A
 /// Whether the cells of the table that a node applies, if it applies one, hold the table's entries.
 fn node_holds(
     alloc: Global,
-    program: &Program,
-    entries: &EntryLists,
-    config: &Config,
+    given: &Checked,
     told: &BTreeMap<u32, CellOf>,
     node: usize,
 ) -> Result<bool, VerifyFault>
-    requires program { IsProgram program.now }
-    requires entries { AreEntries program.now entries.now }
-    requires formed { Formed config.now }
-    requires node { node < length program.now.nodes }
-    requires known { NodeKnown program.now config.now node }
+    requires given { IsGiven given.now.program.now given.now.entries.now given.now.config.now }
+    requires node { node < length given.now.program.now.nodes }
+    requires known { NodeKnown given.now.program.now given.now.config.now node }
     requires told { (cells : List CellOfMap) × AreTold cells told.now }
-    ensures { IfOk result (λ holds. (cells : List CellOfMap) → AreTold cells told.now → (IsTrue holds ↔ TablesHeld program.now config.now cells entries.now node)) }
+    ensures { IfOk result (λ holds. (cells : List CellOfMap) → AreTold cells told.now
+        → (IsTrue holds ↔ TablesHeld given.now.program.now given.now.config.now cells given.now.entries.now node)) }
 {
-    match (table_at(program, node), entries.get(node)) {
+    let program = given.program;
+    match (table_at(program, node), given.entries.get(node)) {
         (Some(table), Some(list)) => {
             let widths = widths_of(alloc, program, table)?;
             table_holds(
                 alloc,
                 &TableAt {
                     program,
-                    config,
+                    config: given.config,
                     told,
                     node: node as u32,
                     table,
@@ -101,20 +92,17 @@ fn node_holds(
 /// Whether the cells of each table hold the table's entries.
 fn nodes_hold(
     alloc: Global,
-    program: &Program,
-    entries: &EntryLists,
-    config: &Config,
+    given: &Checked,
     told: &BTreeMap<u32, CellOf>,
 ) -> Result<bool, VerifyFault>
-    requires program { IsProgram program.now }
-    requires entries { AreEntries program.now entries.now }
-    requires formed { Formed config.now }
-    requires known { (n : ℕ) → NodeKnown program.now config.now n }
+    requires given { IsGiven given.now.program.now given.now.entries.now given.now.config.now }
+    requires known { (n : ℕ) → NodeKnown given.now.program.now given.now.config.now n }
     requires told { (cells : List CellOfMap) × AreTold cells told.now }
-    ensures { IfOk result (λ hold. (cells : List CellOfMap) → AreTold cells told.now → (IsTrue hold ↔ ((n : ℕ) → TablesHeld program.now config.now cells entries.now n))) }
+    ensures { IfOk result (λ hold. (cells : List CellOfMap) → AreTold cells told.now
+        → (IsTrue hold ↔ ((n : ℕ) → TablesHeld given.now.program.now given.now.config.now cells given.now.entries.now n))) }
 {
-    for node in 0..program.nodes.len() {
-        if !node_holds(alloc, program, entries, config, told, node)? {
+    for node in 0..given.program.nodes.len() {
+        if !node_holds(alloc, given, told, node)? {
             return Ok(false);
         }
     }
@@ -132,29 +120,22 @@ fn nodes_hold(
 /// # Errors
 ///
 /// For want of memory.
-pub fn cells_hold(
-    alloc: Global,
-    program: &Program,
-    entries: &EntryLists,
-    config: &Config,
-    map: &Map,
-) -> Result<bool, VerifyFault>
-    requires program { IsProgram program.now }
-    requires entries { AreEntries program.now entries.now }
-    requires formed { Formed config.now }
+pub fn cells_hold(alloc: Global, given: &Checked) -> Result<bool, VerifyFault>
+    requires given { IsGiven given.now.program.now given.now.entries.now given.now.config.now }
     // As the first part says.
-    requires places { KeepsApart program.now map.now.places }
+    requires places { KeepsApart given.now.program.now given.now.map.now.places }
     // As the third part says.
-    requires units { UnitsCarried program.now map.now.places map.now.placement.parts map.now.starts config.now }
-    ensures exact { IfOk result (λ hold. IsTrue hold ↔ CellsCarried program.now config.now (own_view config.now) map.now.cells entries.now) }
+    requires units { UnitsCarried given.now.program.now given.now.map.now.places given.now.map.now.placement.parts given.now.map.now.starts given.now.config.now }
+    ensures exact { IfOk result (λ hold. IsTrue hold
+        ↔ CellsCarried given.now.program.now given.now.config.now (own_view given.now.config.now) given.now.map.now.cells given.now.entries.now) }
     ensures only_memory { IsOkUnless result OutOfMemory.NoMemory }
 {
-    let cells = map.cells.as_slice();
-    if !are_as_many(cells.len(), entries.as_slice()) {
+    let cells = given.map.cells.as_slice();
+    if !are_as_many(cells.len(), given.entries.as_slice()) {
         return Ok(false);
     }
     match told_of(alloc, cells)? {
-        Some(told) => nodes_hold(alloc, program, entries, config, &told),
+        Some(told) => nodes_hold(alloc, given, &told),
         None => Ok(false),
     }
 }

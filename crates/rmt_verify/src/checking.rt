@@ -1,14 +1,12 @@
 //! The whole check: the seven parts, one after another.
 
 ghost use Rattle.std.specs.Prelude.{◌≡◌, None, IfOk, IsOkUnless, MatchOption};
-ghost use Rattle.rmt_bits.specs.declared.fault.OutOfMemory.{OutOfMemory};
-ghost use Rattle.rmt_ast.specs.EntryLists.{AreEntries};
-ghost use Rattle.rmt_ast.specs.WellFormed.{IsProgram};
-ghost use Rattle.rmt_config.specs.Form.{Formed};
 ghost use Rattle.rmt_refine.specs.Carries.{Carries};
 ghost use Rattle.rmt_verify.specs.Checks.{AllHold, FailsFirst};
+ghost use Rattle.rmt_verify.specs.Given.{AreEntries, Formed, IsProgram, OutOfMemory};
 
 use crate::cells::cells_hold;
+use crate::checked::Checked;
 use crate::edges::edges_hold;
 use crate::fault::VerifyFault;
 use crate::instructions::code_holds;
@@ -46,6 +44,12 @@ pub fn check_map(
     ensures only_memory { IsOkUnless result OutOfMemory.NoMemory }
 {
     let own = &map.map;
+    let given = Checked {
+        program,
+        entries,
+        config,
+        map: own,
+    };
     let places = &own.places;
     let parts = own.placement.parts.as_slice();
     let starts = own.starts.as_slice();
@@ -58,7 +62,7 @@ pub fn check_map(
     if !units_hold(alloc, program, places, parts, starts, config)? {
         return Ok(Some(3));
     }
-    if !cells_hold(alloc, program, entries, config, own)? {
+    if !cells_hold(alloc, &given)? {
         return Ok(Some(4));
     }
     if !code_holds(alloc, program, places, config)? {
@@ -67,7 +71,7 @@ pub fn check_map(
     if !edges_hold(alloc, program, places, parts, starts)? {
         return Ok(Some(6));
     }
-    if !names_hold(alloc, program, entries, config, own)? {
+    if !names_hold(alloc, &given)? {
         return Ok(Some(7));
     }
     Ok(None)

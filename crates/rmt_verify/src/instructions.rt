@@ -2,12 +2,9 @@
 
 ghost use Rattle.std.specs.Prelude.{◌↔◌, All, IfOk, IsOkUnless, IsTrue};
 ghost use Rattle.std.specs.List.{list_all};
-ghost use Rattle.rmt_bits.specs.declared.fault.OutOfMemory.{OutOfMemory};
-ghost use Rattle.rmt_ast.specs.WellFormed.{IsProgram};
-ghost use Rattle.rmt_config.specs.Form.{Formed};
 ghost use Rattle.rmt_config.specs.StageForm.{stage_is_formed};
-ghost use Rattle.rmt_phv.specs.Places.{KeepsApart};
 ghost use Rattle.rmt_refine.specs.Code.{CodeCarried};
+ghost use Rattle.rmt_verify.specs.Given.{IsPlaced, OutOfMemory};
 ghost use Rattle.rmt_verify.specs.Instructions.{IsCoded};
 ghost use Rattle.rmt_verify.specs.StageCode.{CodingKnown, StageCoded};
 
@@ -17,11 +14,12 @@ mod tables;
 
 use crate::fault::VerifyFault;
 use foldings::foldings_of;
+use one::Coding;
 use rmt_ast::program::Program;
 use rmt_config::config::{Config, Stage};
 use rmt_phv::places::Places;
 use std::alloc::Global;
-use tables::{Coding, stage_code_holds};
+use tables::stage_code_holds;
 
 /// Whether each stage has the instructions of its tables.
 fn all_code_holds(alloc: Global, coding: &Coding, stages: &[Stage]) -> Result<bool, VerifyFault>
@@ -51,10 +49,8 @@ pub fn code_holds(
     places: &Places,
     config: &Config,
 ) -> Result<bool, VerifyFault>
-    requires program { IsProgram program.now }
-    // As the first part says.
-    requires places { KeepsApart program.now places.now }
-    requires formed { Formed config.now }
+    // As the first part says of the places.
+    requires placed { IsPlaced program.now places.now config.now }
     ensures exact { IfOk result (λ holds. IsTrue holds ↔ IsCoded program.now places.now config.now) }
     // Then each instruction does what its action says.
     ensures carries { IfOk result (λ holds. IsTrue holds → CodeCarried program.now places.now config.now) }

@@ -4,6 +4,7 @@
 
 mod all;
 pub mod cells;
+mod checked;
 pub mod checking;
 pub mod edges;
 mod fault;
@@ -18,6 +19,7 @@ pub mod units;
 mod writing;
 
 pub use cells::cells_hold;
+pub use checked::Checked;
 pub use checking::check_map;
 pub use edges::{edges_hold, parts_stand};
 pub use fault::{MapFault, VerifyFault};

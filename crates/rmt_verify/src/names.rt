@@ -1,53 +1,32 @@
 //! Seventh part: the names of a configuration are those of a program with its entries.
 
 ghost use Rattle.std.specs.Prelude.{◌↔◌, IfOk, IfSome, IsOkUnless, IsTrue};
-ghost use Rattle.rmt_bits.specs.declared.fault.OutOfMemory.{OutOfMemory};
-ghost use Rattle.rmt_ast.specs.EntryLists.{AreEntries};
-ghost use Rattle.rmt_ast.specs.WellFormed.{IsProgram};
-ghost use Rattle.rmt_config.specs.Form.{Formed};
-ghost use Rattle.rmt_refine.specs.Cells.{CellsCarried};
 ghost use Rattle.rmt_refine.specs.Named.{NamesCarried};
-ghost use Rattle.rmt_refine.specs.Units.{UnitsCarried};
-ghost use Rattle.rmt_refine.specs.View.{own_view};
+ghost use Rattle.rmt_verify.specs.Given.{CellsCarried, IsGiven, OutOfMemory, UnitsCarried, own_view};
 
+use crate::checked::Checked;
 use crate::fault::VerifyFault;
-use crate::same::{Same, are_same};
-use rmt_ast::entry::EntryLists;
-use rmt_ast::names::{ActionName, Names, RankOf, TableName};
+use crate::same::{Same, are_equal, are_same};
+use rmt_ast::names::{ActionName, Names, TableName};
 use rmt_ast::naming::names_of;
-use rmt_ast::program::{Kind, Program};
-use rmt_config::config::Config;
-use rmt_refine::map::Map;
 use std::alloc::Global;
-
-impl Same for Kind {
-    fn is_same(&self, other: &Kind) -> bool {
-        *self == *other
-    }
-}
-
-impl Same for RankOf {
-    fn is_same(&self, other: &RankOf) -> bool {
-        *self == *other
-    }
-}
 
 impl Same for ActionName {
     fn is_same(&self, other: &ActionName) -> bool {
-        are_same(self.name.as_slice(), other.name.as_slice())
-            && are_same(self.params.as_slice(), other.params.as_slice())
+        are_equal(self.name.as_slice(), other.name.as_slice())
+            && are_equal(self.params.as_slice(), other.params.as_slice())
     }
 }
 
 impl Same for TableName {
     fn is_same(&self, other: &TableName) -> bool {
         self.node == other.node
-            && are_same(self.name.as_slice(), other.name.as_slice())
-            && self.kind.is_same(&other.kind)
+            && are_equal(self.name.as_slice(), other.name.as_slice())
+            && self.kind == other.kind
             && self.size == other.size
-            && are_same(self.keys.as_slice(), other.keys.as_slice())
+            && are_equal(self.keys.as_slice(), other.keys.as_slice())
             && are_same(self.actions.as_slice(), other.actions.as_slice())
-            && are_same(self.ranks.as_slice(), other.ranks.as_slice())
+            && are_equal(self.ranks.as_slice(), other.ranks.as_slice())
     }
 }
 
@@ -66,25 +45,17 @@ impl Same for Names {
 /// # Errors
 ///
 /// For want of memory.
-pub fn names_hold(
-    alloc: Global,
-    program: &Program,
-    entries: &EntryLists,
-    config: &Config,
-    map: &Map,
-) -> Result<bool, VerifyFault>
-    requires program { IsProgram program.now }
-    requires entries { AreEntries program.now entries.now }
-    requires formed { Formed config.now }
-    requires units { UnitsCarried program.now map.now.places map.now.placement.parts map.now.starts config.now }
-    requires cells { CellsCarried program.now config.now (own_view config.now) map.now.cells entries.now }
-    ensures exact { IfOk result (λ hold. IsTrue hold ↔ IfSome config.now.names (NamesCarried program.now entries.now config.now)) }
+pub fn names_hold(alloc: Global, given: &Checked) -> Result<bool, VerifyFault>
+    requires given { IsGiven given.now.program.now given.now.entries.now given.now.config.now }
+    requires units { UnitsCarried given.now.program.now given.now.map.now.places given.now.map.now.placement.parts given.now.map.now.starts given.now.config.now }
+    requires cells { CellsCarried given.now.program.now given.now.config.now (own_view given.now.config.now) given.now.map.now.cells given.now.entries.now }
+    ensures exact { IfOk result (λ hold. IsTrue hold ↔ IfSome given.now.config.now.names (NamesCarried given.now.program.now given.now.entries.now given.now.config.now)) }
     ensures only_memory { IsOkUnless result OutOfMemory.NoMemory }
 {
-    match &config.names {
+    match &given.config.names {
         None => Ok(true),
         Some(names) => {
-            let own = names_of(alloc, program, entries)?;
+            let own = names_of(alloc, given.program, given.entries)?;
             Ok(names.is_same(&own))
         }
     }

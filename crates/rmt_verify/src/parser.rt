@@ -1,10 +1,8 @@
 //! Second part: the configuration's parser is the plain one with the map's joins made on it.
 
 ghost use Rattle.std.specs.Prelude.{◌↔◌, Ok, Err, IfOk, IsOkUnless, IsTrue};
-ghost use Rattle.rmt_bits.specs.declared.fault.OutOfMemory.{OutOfMemory};
-ghost use Rattle.rmt_ast.specs.WellFormed.{IsProgram};
 ghost use Rattle.rmt_config.specs.Agreement.{AgreesWith};
-ghost use Rattle.rmt_phv.specs.Places.{KeepsApart};
+ghost use Rattle.rmt_verify.specs.Given.{IsProgram, KeepsApart, OutOfMemory};
 ghost use Rattle.rmt_verify.specs.ParserMade.{IsMadeOf};
 
 use crate::fault::VerifyFault;

@@ -1,9 +1,9 @@
 //! Equal values.
 
+ghost use Rattle.std.specs.Bool.{Decides};
 ghost use Rattle.std.specs.Prelude.{◌≡◌, ◌↔◌, IsTrue};
 
-use rmt_bits::lane::Lane;
-use rmt_config::config::{Extract, Next, ParserConfig, ParserEntry, ParserState, TailOf};
+use rmt_config::config::{ParserConfig, ParserEntry, ParserState};
 
 /// What is compared.
 pub trait Same {
@@ -27,39 +27,17 @@ pub fn are_same<T: Same>(items: &[T], others: &[T]) -> bool
     true
 }
 
-impl Same for u8 {
-    fn is_same(&self, other: &u8) -> bool {
-        *self == *other
-    }
-}
-
-impl Same for Lane {
-    fn is_same(&self, other: &Lane) -> bool {
-        *self == *other
-    }
-}
-
-impl Same for Extract {
-    fn is_same(&self, other: &Extract) -> bool {
-        *self == *other
-    }
-}
-
-impl Same for Next {
-    fn is_same(&self, other: &Next) -> bool {
-        *self == *other
-    }
-}
-
-impl Same for TailOf {
-    fn is_same(&self, other: &TailOf) -> bool {
-        *self == *other
-    }
+/// The same of lists of items whose own test of equality tells whether they are the same value.
+pub fn are_equal<T: PartialEq>(items: &[T], others: &[T]) -> bool
+    requires { (a b : T) → Decides (T.eq a b) (a ≡ b) }
+    ensures { IsTrue result ↔ items.now ≡ others.now }
+{
+    items == others
 }
 
 impl Same for ParserState {
     fn is_same(&self, other: &ParserState) -> bool {
-        are_same(self.lookups.as_slice(), other.lookups.as_slice())
+        are_equal(self.lookups.as_slice(), other.lookups.as_slice())
     }
 }
 
@@ -70,8 +48,8 @@ impl Same for ParserEntry {
             && self.mask == other.mask
             && self.need == other.need
             && self.advance == other.advance
-            && self.next.is_same(&other.next)
-            && are_same(self.extracts.as_slice(), other.extracts.as_slice())
+            && self.next == other.next
+            && are_equal(self.extracts.as_slice(), other.extracts.as_slice())
     }
 }
 
@@ -79,6 +57,6 @@ impl Same for ParserConfig {
     fn is_same(&self, other: &ParserConfig) -> bool {
         are_same(self.states.as_slice(), other.states.as_slice())
             && are_same(self.entries.as_slice(), other.entries.as_slice())
-            && are_same(self.tails.as_slice(), other.tails.as_slice())
+            && are_equal(self.tails.as_slice(), other.tails.as_slice())
     }
 }

@@ -1,14 +1,10 @@
 //! Third part: the units of each stage are those of the nodes that stand there.
 
 ghost use Rattle.std.specs.Prelude.{◌≡◌, ◌<◌, ◌≢◌, ◌↔◌, ◌^◌, ℕ, Option, IfOk, IsOkUnless, IsTrue, map, slice_index_or};
-ghost use Rattle.rmt_bits.specs.declared.fault.OutOfMemory.{OutOfMemory};
-ghost use Rattle.rmt_ast.specs.WellFormed.{IsProgram};
-ghost use Rattle.rmt_config.specs.Form.{Formed};
 ghost use Rattle.rmt_config.specs.declared.config.Stage.{Stage};
 ghost use Rattle.rmt_pack.specs.declared.placement.Part.{Part};
-ghost use Rattle.rmt_phv.specs.Places.{KeepsApart};
-ghost use Rattle.rmt_refine.specs.Units.{UnitsCarried};
 ghost use Rattle.rmt_verify.specs.EdgeSpans.{no_span};
+ghost use Rattle.rmt_verify.specs.Given.{IsPlaced, OutOfMemory, UnitsCarried};
 
 mod gate;
 mod quanta;
@@ -24,7 +20,7 @@ use rmt_ast::program::Program;
 use rmt_config::config::{Config, Stage};
 use rmt_pack::placement::Part;
 use rmt_phv::places::Places;
-use stage::all_stages;
+use stage::{Placed, all_stages};
 use std::alloc::Global;
 
 /// That a stage has this start.
@@ -81,9 +77,8 @@ pub fn units_hold(
     starts: &[u16],
     config: &Config,
 ) -> Result<bool, VerifyFault>
-    requires program { IsProgram program.now }
-    requires places { KeepsApart program.now places.now }
-    requires formed { Formed config.now }
+    // As the first part says of the places.
+    requires placed { IsPlaced program.now places.now config.now }
     ensures exact { IfOk result (λ holds. IsTrue holds ↔ UnitsCarried program.now places.now parts.now starts.now config.now) }
     ensures only_memory { IsOkUnless result OutOfMemory.NoMemory }
 {
@@ -99,5 +94,11 @@ pub fn units_hold(
     if !all_stand(nodes, &spans) {
         return Ok(false);
     }
-    Ok(all_stages(alloc, program, places, parts, &spans, stages)?)
+    let placed = Placed {
+        program,
+        places,
+        parts,
+        spans: &spans,
+    };
+    Ok(all_stages(alloc, &placed, stages)?)
 }

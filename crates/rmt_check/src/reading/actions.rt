@@ -36,10 +36,7 @@ impl Part for LeafText {
     ghost seen = { leaf_at };
 
     fn read(alloc: Global, trees: &[Tree]) -> Result<Option<LeafText>, AllocError> {
-        match parts_of(Rule::Leaf, trees) {
-            Some(parts) => first_choice(alloc, parts),
-            None => Ok(None),
-        }
+        first_choice(alloc, Rule::Leaf, trees)
     }
 }
 

@@ -1,25 +1,24 @@
 //! Reads the control.
 
 ghost use Rattle.std.specs.Prelude.{◌≡◌, ◌++◌, ◌∷◌, [], IfOk, OnOk};
+ghost use Rattle.rmt_syntax.specs.Grammar.{terminal_of};
 ghost use Rattle.rmt_syntax.specs.declared.tree.Tree.TheViews.{out-Tree};
-ghost use Rattle.rmt_check.specs.Reading.{arm_word, arm_at, first, field_at, what_text, node_text, is_arm, is_statement, added, control_text, control_at};
+ghost use Rattle.rmt_check.specs.Reading.{arm_if, arm_at, first, field_at, what_text, node_text, is_arm, is_statement, added, control_text, control_at};
 
-use crate::reading::lists::{Among, Choice, Part, first_behind, first_choice, parts_of};
+use crate::reading::lists::{Among, Part, Word, first_behind, first_choice, parts_of};
 use crate::reading::words::{ident_of, no_number};
 use crate::source::{ArmText, NodeText, Under, WhatText};
 use rmt_bits::sequence::Sequence;
 use rmt_lexer::position::Position;
+use rmt_lexer::token::Token;
 use rmt_syntax::terminal::{Terminal, terminal_of};
 use rmt_syntax::tree::{Rule, Tree};
 use std::alloc::{AllocError, Global};
 
-impl Choice for ArmText {
-    ghost chosen = { arm_word };
+impl Word for ArmText {
+    ghost said = { λ t. arm_if (terminal_of t.what) t };
 
-    fn choose(alloc: Global, trees: &[Tree]) -> Result<Option<ArmText>, AllocError> {
-        let [Tree::One(token), ..] = trees else {
-            return Ok(None);
-        };
+    fn said(alloc: Global, token: &Token) -> Result<Option<ArmText>, AllocError> {
         match terminal_of(token) {
             Terminal::Hit => Ok(Some(ArmText::Hit)),
             Terminal::Miss => Ok(Some(ArmText::Miss)),
@@ -33,10 +32,7 @@ impl Part for ArmText {
     ghost seen = { arm_at };
 
     fn read(alloc: Global, trees: &[Tree]) -> Result<Option<ArmText>, AllocError> {
-        match parts_of(Rule::Arm, trees) {
-            Some(parts) => first_choice(alloc, parts),
-            None => Ok(None),
-        }
+        first_choice(alloc, Rule::Arm, trees)
     }
 }
 

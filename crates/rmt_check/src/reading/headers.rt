@@ -1,25 +1,24 @@
 //! Reads headers and metadata.
 
 ghost use Rattle.std.specs.Prelude.{◌≡◌, IfOk};
-ghost use Rattle.rmt_check.specs.Reading.{target_word, target_at, target_among, value_at, case_at, next_among, tail_at, header_at, meta_at};
+ghost use Rattle.rmt_syntax.specs.Grammar.{terminal_of};
+ghost use Rattle.rmt_check.specs.Reading.{target_if, target_at, target_among, value_at, case_at, next_among, tail_at, header_at, meta_at};
 
-use crate::reading::lists::{Among, Choice, Part, first_behind, first_choice, parts_of};
+use crate::reading::lists::{Among, Part, Word, first_behind, first_choice, parts_of};
 use crate::reading::words::{ident_of, no_name, place_at};
 use crate::rules::places::beyond;
 use crate::source::{
     CaseText, HeaderText, Ident, MetaText, Number, TailText, TargetText, ValueText,
 };
+use rmt_lexer::token::Token;
 use rmt_syntax::terminal::{Terminal, terminal_of};
 use rmt_syntax::tree::{Rule, Tree};
 use std::alloc::{AllocError, Global};
 
-impl Choice for TargetText {
-    ghost chosen = { target_word };
+impl Word for TargetText {
+    ghost said = { λ t. target_if (terminal_of t.what) t };
 
-    fn choose(alloc: Global, trees: &[Tree]) -> Result<Option<TargetText>, AllocError> {
-        let [Tree::One(token), ..] = trees else {
-            return Ok(None);
-        };
+    fn said(alloc: Global, token: &Token) -> Result<Option<TargetText>, AllocError> {
         match terminal_of(token) {
             Terminal::Name => Ok(Some(TargetText::Header(ident_of(alloc, token)?))),
             Terminal::Accept => Ok(Some(TargetText::Accept)),
@@ -33,10 +32,7 @@ impl Part for TargetText {
     ghost seen = { target_at };
 
     fn read(alloc: Global, trees: &[Tree]) -> Result<Option<TargetText>, AllocError> {
-        match parts_of(Rule::Target, trees) {
-            Some(parts) => first_choice(alloc, parts),
-            None => Ok(None),
-        }
+        first_choice(alloc, Rule::Target, trees)
     }
 }
 

@@ -1,13 +1,14 @@
 //! What the readers of all kinds of parts share.
 
 ghost use Rattle.std.specs.Prelude.{◌≡◌, IfOk, List, Option, option_copied};
-ghost use Rattle.rmt_check.specs.Parts.{Tree};
-ghost use Rattle.rmt_check.specs.Reading.{parts_at, each, first, place_at, seen_behind};
+ghost use Rattle.rmt_check.specs.Parts.{Token, Tree};
+ghost use Rattle.rmt_check.specs.Reading.{at_rule, at_token, parts_at, each, first, place_at, seen_behind};
 
 use crate::reading::words::place_at;
 use crate::rules::places::beyond;
 use rmt_bits::sequence::Sequence;
 use rmt_lexer::position::Position;
+use rmt_lexer::token::Token;
 use rmt_syntax::terminal::Terminal;
 use rmt_syntax::tree::{Rule, Tree};
 use std::alloc::{AllocError, Global};
@@ -78,13 +79,40 @@ pub trait Choice: Drop {
         ensures { IfOk result (λ choice. choice ≡ chosen trees.now) };
 }
 
-/// What the first part says that says anything.
+/// What a token alone says.
+pub trait Word: Drop {
+    ghost said: { Token → Option Self };
+
+    /// What this token says, if anything.
+    fn said(alloc: Global, token: &Token) -> Result<Option<Self>, AllocError>
+        ensures { IfOk result (λ word. word ≡ said token.now) };
+}
+
+impl<T: Word> Choice for T {
+    ghost chosen = { at_token T.said };
+
+    fn choose(alloc: Global, trees: &[Tree]) -> Result<Option<T>, AllocError> {
+        match trees {
+            [Tree::One(token), ..] => T::said(alloc, token),
+            _ => Ok(None),
+        }
+    }
+}
+
+/// What the first part says that says anything, where the first tree is the text of a rule.
 #[tactic(auto, using(crate::proofs::ReadingLaws::places))]
-pub fn first_choice<T: Choice>(alloc: Global, trees: &[Tree]) -> Result<Option<T>, AllocError>
-    ensures { IfOk result (λ choice. choice ≡ first T.chosen trees.now) }
+pub fn first_choice<T: Choice>(
+    alloc: Global,
+    rule: Rule,
+    trees: &[Tree],
+) -> Result<Option<T>, AllocError>
+    ensures { IfOk result (λ choice. choice ≡ at_rule rule (first T.chosen) trees.now) }
 {
-    for at in 0..trees.len() {
-        if let Some(choice) = T::choose(alloc, beyond(at, trees))? {
+    let Some(parts) = parts_of(rule, trees) else {
+        return Ok(None);
+    };
+    for at in 0..parts.len() {
+        if let Some(choice) = T::choose(alloc, beyond(at, parts))? {
             return Ok(Some(choice));
         }
     }

@@ -1,6 +1,7 @@
 //! Reads tables.
 
-ghost use Rattle.rmt_check.specs.Reading.{kind_at, key_at, table_at};
+ghost use Rattle.std.specs.Prelude.{◌≡◌};
+ghost use Rattle.rmt_check.specs.Reading.{kind_of, kind_at, key_at, table_at};
 
 use crate::reading::lists::{Among, Part, first_behind, first_place, parts_of};
 use crate::reading::words::no_name;
@@ -10,6 +11,18 @@ use rmt_syntax::terminal::{Terminal, terminal_of};
 use rmt_syntax::tree::{Rule, Tree};
 use std::alloc::{AllocError, Global};
 
+/// How a key is compared behind a word.
+fn kind_of(terminal: Terminal) -> Option<Kind>
+    ensures { result ≡ kind_of terminal }
+{
+    match terminal {
+        Terminal::Exact => Some(Kind::Exact),
+        Terminal::Prefix => Some(Kind::Prefix),
+        Terminal::Ternary => Some(Kind::Ternary),
+        _ => None,
+    }
+}
+
 impl Part for Kind {
     ghost seen = { kind_at };
 
@@ -17,12 +30,7 @@ impl Part for Kind {
         let [Tree::One(token), ..] = trees else {
             return Ok(None);
         };
-        match terminal_of(token) {
-            Terminal::Exact => Ok(Some(Kind::Exact)),
-            Terminal::Prefix => Ok(Some(Kind::Prefix)),
-            Terminal::Ternary => Ok(Some(Kind::Ternary)),
-            _ => Ok(None),
-        }
+        Ok(kind_of(terminal_of(token)))
     }
 }
 

@@ -9,7 +9,7 @@ use crate::names::lists::names_of;
 use crate::rules::parts::nodes_of;
 use crate::rules::places::place_when;
 use crate::rules::repeats::repeated_names;
-use crate::rules::search::{Flaw, earliest_of};
+use crate::rules::search::{Flaw, Found, earliest_of};
 use crate::source::{Ident, NodeText, Source, TableText, WhatText};
 use rmt_ast::name_list::NameList;
 use rmt_lexer::position::Position;
@@ -39,7 +39,7 @@ fn applied_tables(alloc: Global, source: &Source) -> Result<Vec<&Ident>, AllocEr
 }
 
 /// Where a table is applied again.
-pub fn applied_twice(alloc: Global, source: &Source) -> Result<Option<Position>, AllocError>
+pub fn applied_twice(alloc: Global, source: &Source) -> Found
     ensures { IfOk result (λ p. p ≡ earliest (broken_13 source.now)) }
 {
     let tables = applied_tables(alloc, source)?;
@@ -59,7 +59,7 @@ impl<'a> Flaw<NameList<'a>, TableText> for Unapplied {
 }
 
 /// Where a table is declared that no node applies.
-pub fn not_applied(alloc: Global, source: &Source) -> Result<Option<Position>, AllocError>
+pub fn not_applied(alloc: Global, source: &Source) -> Found
     ensures { IfOk result (λ p. p ≡ earliest (broken_20 source.now)) }
 {
     let tables = applied_tables(alloc, source)?;

@@ -1,6 +1,7 @@
 //! Code 11, sums of at most 32 bits, and code 12, the field that no action may assign.
 
 ghost use Rattle.std.specs.Prelude.{◌≡◌};
+ghost use Rattle.std.specs.List.{flat_map};
 ghost use Rattle.rmt_check.specs.Names.{in_port, named, same_field, width_of};
 ghost use Rattle.rmt_check.specs.Rules as rules;
 ghost use Rattle.rmt_check.specs.Rules.{broken_11, broken_12, earliest, when};
@@ -35,6 +36,15 @@ fn wide_sign(width: u128, right: &Option<(Sign, LeafText)>) -> Option<Position>
     }
 }
 
+/// What is wrong with an assignment of an action.
+impl<N: Lookup, F: Flaw<N, AssignText>> Flaw<N, ActionText> for F {
+    ghost places = { λ n a. flat_map (F.places n) a.assigns };
+
+    fn at(names: &N, action: &ActionText) -> Option<Position> {
+        earliest_of::<F, _, _>(names, action.assigns.as_slice())
+    }
+}
+
 /// A sum that goes into more than 32 bits.
 struct WideSum;
 
@@ -43,14 +53,6 @@ impl<N: Lookup> Flaw<N, AssignText> for WideSum {
 
     fn at(names: &N, assign: &AssignText) -> Option<Position> {
         wide_sign(width_of(names, &assign.dest), &assign.expr.right)
-    }
-}
-
-impl<N: Lookup> Flaw<N, ActionText> for WideSum {
-    ghost places = { λ n a. rules.wide_signs (N.text n) a };
-
-    fn at(names: &N, action: &ActionText) -> Option<Position> {
-        earliest_of::<WideSum, _, _>(names, action.assigns.as_slice())
     }
 }
 
@@ -78,14 +80,6 @@ impl<N: Lookup> Flaw<N, AssignText> for WrittenPort {
 
     fn at(names: &N, assign: &AssignText) -> Option<Position> {
         place_when(is_in_port(names, &assign.dest), assign.dest.place)
-    }
-}
-
-impl<N: Lookup> Flaw<N, ActionText> for WrittenPort {
-    ghost places = { λ n a. rules.written_ports (N.text n) a };
-
-    fn at(names: &N, action: &ActionText) -> Option<Position> {
-        earliest_of::<WrittenPort, _, _>(names, action.assigns.as_slice())
     }
 }
 

@@ -7,10 +7,10 @@ ghost use Rattle.rmt_check.specs.Rules.{bad_size_of, broken_16, broken_18, broke
 
 use crate::rules::parts::{listed, metadata, nodes_of};
 use crate::rules::places::{earlier, earliest_beyond, place_when};
-use crate::rules::search::{Flaw, earliest_of};
+use crate::rules::search::{Flaw, Found, earliest_of};
 use crate::source::{ActionText, MetaText, Source, TableText};
 use rmt_lexer::position::Position;
-use std::alloc::{AllocError, Global};
+use std::alloc::Global;
 
 /// A list of more than 14 actions.
 struct TooManyListed;
@@ -70,7 +70,7 @@ impl Flaw<(), ActionText> for TooManyAssigns {
 }
 
 /// Where there are more than 256 metadata fields.
-fn too_many_meta_fields(alloc: Global, metas: &[MetaText]) -> Result<Option<Position>, AllocError>
+fn too_many_meta_fields(alloc: Global, metas: &[MetaText]) -> Found
     ensures { IfOk result (λ p. p ≡ earliest (places (drop 256 (declared_names (flat_map (λ m. m.fields) metas.now))))) }
 {
     let fields = metadata(alloc, metas)?;
@@ -79,7 +79,7 @@ fn too_many_meta_fields(alloc: Global, metas: &[MetaText]) -> Result<Option<Posi
 
 /// Where a limit on a number is broken, be it of headers, actions, parameters, assignments, metadata fields, nodes
 /// or entries of a table.
-pub fn count_limit(alloc: Global, source: &Source) -> Result<Option<Position>, AllocError>
+pub fn count_limit(alloc: Global, source: &Source) -> Found
     ensures { IfOk result (λ p. p ≡ earliest (broken_18 source.now)) }
 {
     let headers = source.headers.as_slice();

@@ -10,12 +10,12 @@ use crate::rules::name_twice::repeated_idents;
 use crate::rules::parts::key_fields;
 use crate::rules::places::{earlier, earliest_beyond, place_when};
 use crate::rules::repeats::repeated;
-use crate::rules::search::{Flaw, TryFlaw, earliest_of, try_earliest_of};
+use crate::rules::search::{Flaw, Found, TryFlaw, earliest_of, try_earliest_of};
 use crate::rules::sums::{Wide, sum_up_to};
 use crate::source::{FieldText, HeaderText, TableText};
 use rmt_ast::program::Kind;
 use rmt_lexer::position::Position;
-use std::alloc::{AllocError, Global};
+use std::alloc::Global;
 
 /// Where a prefix key has a second field.
 fn further_prefix(kind: Kind, fields: &[FieldText]) -> Option<Position>
@@ -30,11 +30,7 @@ fn further_prefix(kind: Kind, fields: &[FieldText]) -> Option<Position>
 }
 
 /// The earliest place of a field that is named again.
-fn repeated_fields<N: Lookup>(
-    alloc: Global,
-    names: &N,
-    fields: &[FieldText],
-) -> Result<Option<Position>, AllocError>
+fn repeated_fields<N: Lookup>(alloc: Global, names: &N, fields: &[FieldText]) -> Found
     ensures { IfOk result (λ p. p ≡ earliest (rules.repeated_fields (N.text names.now) fields.now)) }
 {
     let mut marks = Vec::new(alloc);
@@ -50,7 +46,7 @@ struct BadKey;
 impl<N: Lookup> TryFlaw<N, TableText> for BadKey {
     ghost places = { λ n t. rules.bad_key_of (N.text n) t };
 
-    fn at(alloc: Global, names: &N, table: &TableText) -> Result<Option<Position>, AllocError> {
+    fn at(alloc: Global, names: &N, table: &TableText) -> Found {
         match &table.key {
             Some(key) => {
                 let fields = key.fields.as_slice();
@@ -69,17 +65,13 @@ struct RepeatedSelect;
 impl TryFlaw<(), HeaderText> for RepeatedSelect {
     ghost places = { λ _ h. rules.repeated_select h };
 
-    fn at(
-        alloc: Global,
-        _shared: &(),
-        header: &HeaderText,
-    ) -> Result<Option<Position>, AllocError> {
+    fn at(alloc: Global, _shared: &(), header: &HeaderText) -> Found {
         repeated_idents(alloc, header.select.as_slice())
     }
 }
 
 /// Where a prefix key has a second field, or a key or a select has a field twice.
-pub fn key_kinds<N: Lookup>(alloc: Global, names: &N) -> Result<Option<Position>, AllocError>
+pub fn key_kinds<N: Lookup>(alloc: Global, names: &N) -> Found
     ensures { IfOk result (λ p. p ≡ earliest (broken_14 (N.text names.now))) }
 {
     let source = names.source();

@@ -7,13 +7,12 @@ ghost use Rattle.rmt_check.specs.Rules.{broken_5, declared_names, earliest, fiel
 use crate::rules::parts::{listed, metadata};
 use crate::rules::places::{earlier, earliest_beyond};
 use crate::rules::repeats::repeated_names;
-use crate::rules::search::{TryFlaw, try_earliest_of};
+use crate::rules::search::{Found, TryFlaw, try_earliest_of};
 use crate::source::{ActionText, HeaderText, Ident, MetaText, Source, TableText};
-use rmt_lexer::position::Position;
-use std::alloc::{AllocError, Global};
+use std::alloc::Global;
 
 /// The earliest place of a name in a list that repeats an earlier one.
-pub fn repeated_idents(alloc: Global, idents: &[Ident]) -> Result<Option<Position>, AllocError>
+pub fn repeated_idents(alloc: Global, idents: &[Ident]) -> Found
     ensures { IfOk result (λ p. p ≡ earliest (repeated idents.now)) }
 {
     repeated_names(alloc, idents)
@@ -25,11 +24,7 @@ struct NameTwice;
 impl TryFlaw<(), HeaderText> for NameTwice {
     ghost places = { λ _ h. fields_twice h };
 
-    fn at(
-        alloc: Global,
-        _shared: &(),
-        header: &HeaderText,
-    ) -> Result<Option<Position>, AllocError> {
+    fn at(alloc: Global, _shared: &(), header: &HeaderText) -> Found {
         repeated_names(alloc, header.fields.as_slice())
     }
 }
@@ -37,11 +32,7 @@ impl TryFlaw<(), HeaderText> for NameTwice {
 impl TryFlaw<(), ActionText> for NameTwice {
     ghost places = { λ _ a. params_twice a };
 
-    fn at(
-        alloc: Global,
-        _shared: &(),
-        action: &ActionText,
-    ) -> Result<Option<Position>, AllocError> {
+    fn at(alloc: Global, _shared: &(), action: &ActionText) -> Found {
         repeated_names(alloc, action.params.as_slice())
     }
 }
@@ -49,13 +40,13 @@ impl TryFlaw<(), ActionText> for NameTwice {
 impl TryFlaw<(), TableText> for NameTwice {
     ghost places = { λ _ t. listed_twice t };
 
-    fn at(alloc: Global, _shared: &(), table: &TableText) -> Result<Option<Position>, AllocError> {
+    fn at(alloc: Global, _shared: &(), table: &TableText) -> Found {
         repeated_idents(alloc, listed(table))
     }
 }
 
 /// Where a metadata field is declared again, be it in another `meta`.
-fn meta_field_twice(alloc: Global, metas: &[MetaText]) -> Result<Option<Position>, AllocError>
+fn meta_field_twice(alloc: Global, metas: &[MetaText]) -> Found
     ensures { IfOk result (λ p. p ≡ earliest (repeated (declared_names (flat_map (λ m. m.fields) metas.now)))) }
 {
     let fields = metadata(alloc, metas)?;
@@ -63,7 +54,7 @@ fn meta_field_twice(alloc: Global, metas: &[MetaText]) -> Result<Option<Position
 }
 
 /// Where a name is declared again in its space, `meta` stands again, or a table lists an action twice.
-pub fn name_twice(alloc: Global, source: &Source) -> Result<Option<Position>, AllocError>
+pub fn name_twice(alloc: Global, source: &Source) -> Found
     ensures { IfOk result (λ p. p ≡ earliest (broken_5 source.now)) }
 {
     let headers = source.headers.as_slice();

@@ -60,8 +60,7 @@ pub fn target_names(target: &TargetText) -> &[Ident]
 {
     match target {
         TargetText::Header(header) => slice::from_ref(header),
-        TargetText::Accept => &[],
-        TargetText::Reject => &[],
+        TargetText::Accept | TargetText::Reject => &[],
     }
 }
 
@@ -71,7 +70,6 @@ pub fn arm_names(arm: &ArmText) -> &[Ident]
 {
     match arm {
         ArmText::Action(action) => slice::from_ref(action),
-        ArmText::Hit => &[],
-        ArmText::Miss => &[],
+        ArmText::Hit | ArmText::Miss => &[],
     }
 }

@@ -6,16 +6,14 @@ ghost use Rattle.rmt_check.specs.Rules.{earliest, repeated_by};
 
 use crate::names::labels::Labelled;
 use crate::rules::places::{earlier, place_when};
+use crate::rules::search::Found;
 use indexmap::IndexSet;
 use rmt_lexer::position::Position;
-use std::alloc::{AllocError, Global};
+use std::alloc::Global;
 use std::hash::Hash;
 
 /// The earliest place of a key that repeats an earlier one.
-pub fn repeated<K: Eq + Hash + Copy>(
-    alloc: Global,
-    marks: &[(K, Position)],
-) -> Result<Option<Position>, AllocError>
+pub fn repeated<K: Eq + Hash + Copy>(alloc: Global, marks: &[(K, Position)]) -> Found
     ensures { IfOk result (λ p. p ≡ earliest (repeated_by (λ x y. K.eq x.0 y.0) (λ x. x.1) marks.now)) }
 {
     let mut seen = IndexSet::new(alloc);
@@ -28,10 +26,7 @@ pub fn repeated<K: Eq + Hash + Copy>(
 }
 
 /// The earliest place of a name that repeats an earlier one.
-pub fn repeated_names<T: Labelled>(
-    alloc: Global,
-    items: &[T],
-) -> Result<Option<Position>, AllocError>
+pub fn repeated_names<T: Labelled>(alloc: Global, items: &[T]) -> Found
     ensures { IfOk result (λ p. p ≡ earliest (rules.repeated (map T.ident_of items.now))) }
 {
     let mut marks = Vec::new(alloc);

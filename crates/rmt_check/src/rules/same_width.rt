@@ -11,14 +11,14 @@ use crate::names::params::{ActionNames, InAction};
 use crate::rules::parts::nodes_of;
 use crate::rules::places::{earlier, place_when};
 use crate::rules::search::{
-    Flaw, PairFlaw, TryFlaw, earliest_beside, earliest_of, try_earliest_of,
+    Flaw, Found, PairFlaw, TryFlaw, earliest_beside, earliest_of, try_earliest_of,
 };
 use crate::source::{
     ActionText, AssignText, CaseText, HeaderText, Ident, LeafText, NodeText, Number, ValueText,
     WhatText,
 };
 use rmt_lexer::position::Position;
-use std::alloc::{AllocError, Global};
+use std::alloc::Global;
 
 /// Whether a number is of at most so many bits.
 fn fits(width: u128, number: u128) -> bool
@@ -73,7 +73,7 @@ impl<'a, N: Lookup> Flaw<InAction<'a, N>, AssignText> for OtherWidth {
 impl<N: Lookup> TryFlaw<N, ActionText> for OtherWidth {
     ghost places = { λ n a. rules.operand_widths (N.text n) a };
 
-    fn at(alloc: Global, names: &N, action: &ActionText) -> Result<Option<Position>, AllocError> {
+    fn at(alloc: Global, names: &N, action: &ActionText) -> Found {
         let own = ActionNames::of(alloc, action)?;
         Ok(earliest_of::<OtherWidth, _, _>(&(names, own), action.assigns.as_slice()))
     }
@@ -144,7 +144,7 @@ impl<N: Lookup> Flaw<N, NodeText> for TooWide {
 }
 
 /// Where an operand is not of the width of the assigned field, or a number does not fit its field.
-pub fn widths_differ<N: Lookup>(alloc: Global, names: &N) -> Result<Option<Position>, AllocError>
+pub fn widths_differ<N: Lookup>(alloc: Global, names: &N) -> Found
     ensures { IfOk result (λ p. p ≡ earliest (broken_10 (N.text names.now))) }
 {
     let source = names.source();

@@ -9,6 +9,9 @@ use crate::rules::places::earlier;
 use rmt_lexer::position::Position;
 use std::alloc::{AllocError, Global};
 
+/// The earliest place that is found, if there is one; the only fault is want of memory.
+pub type Found = Result<Option<Position>, AllocError>;
+
 /// What may be wrong with an item of a text, which is looked at with what all items share.
 pub trait Flaw<C, T> {
     ghost places: { C → T → List PlaceValue };
@@ -36,16 +39,12 @@ pub trait TryFlaw<C, T> {
     ghost places: { C → T → List PlaceValue };
 
     /// The earliest place at which an item is wrong.
-    fn at(alloc: Global, shared: &C, item: &T) -> Result<Option<Position>, AllocError>
+    fn at(alloc: Global, shared: &C, item: &T) -> Found
         ensures { IfOk result (λ p. p ≡ earliest (places shared.now item.now)) };
 }
 
 /// The earliest place of such a flaw in some items.
-pub fn try_earliest_of<F, C, T>(
-    alloc: Global,
-    shared: &C,
-    items: &[T],
-) -> Result<Option<Position>, AllocError>
+pub fn try_earliest_of<F, C, T>(alloc: Global, shared: &C, items: &[T]) -> Found
 where
     F: TryFlaw<C, T>,
     ensures { IfOk result (λ p. p ≡ earliest (flat_map (F.places shared.now) items.now)) }

@@ -12,14 +12,14 @@ use crate::names::lookup::{InHeader, Lookup, key, own_key};
 use crate::names::params::{ActionNames, InAction};
 use crate::rules::parts::{arm_names, key_fields, listed, nodes_of, target_names};
 use crate::rules::places::{earlier, place_when};
-use crate::rules::search::{Flaw, TryFlaw, earliest_of, try_earliest_of};
+use crate::rules::search::{Flaw, Found, TryFlaw, earliest_of, try_earliest_of};
 use crate::source::{
     ActionText, ArmText, AssignText, CaseText, FieldText, HeaderText, Ident, LeafText, NodeText,
     OwnerText, TableText, WhatText,
 };
 use rmt_ast::name_list::NameList;
 use rmt_lexer::position::Position;
-use std::alloc::{AllocError, Global};
+use std::alloc::Global;
 use std::slice;
 
 /// A name that is not among some.
@@ -173,7 +173,7 @@ impl<'a, N: Lookup> Flaw<InAction<'a, N>, AssignText> for UnknownInAssign {
 impl<N: Lookup> TryFlaw<N, ActionText> for UnknownInAssign {
     ghost places = { λ n a. rules.unknown_in_action (N.text n) a };
 
-    fn at(alloc: Global, names: &N, action: &ActionText) -> Result<Option<Position>, AllocError> {
+    fn at(alloc: Global, names: &N, action: &ActionText) -> Found {
         let own = ActionNames::of(alloc, action)?;
         let assigns = action.assigns.as_slice();
         Ok(earliest_of::<UnknownInAssign, _, _>(&(names, own), assigns))
@@ -217,7 +217,7 @@ impl<N: Lookup> Flaw<N, NodeText> for UnknownInNode {
 }
 
 /// Where a name is not declared.
-pub fn unknown_name<N: Lookup>(alloc: Global, names: &N) -> Result<Option<Position>, AllocError>
+pub fn unknown_name<N: Lookup>(alloc: Global, names: &N) -> Found
     ensures { IfOk result (λ p. p ≡ earliest (broken_6 (N.text names.now))) }
 {
     let source = names.source();

@@ -1,109 +1,114 @@
 //! The rules of form of what memory holds: occupied cells as a slot lists them, and zeros.
 
-ghost use Rattle.std.specs.Prelude.{◌≡◌, ℕ, ◌+◌, ◌*◌, ◌<◌, ◌≤◌, ◌↔◌, length, IsTrue, All};
+ghost use Rattle.std.specs.Prelude.{◌≡◌, ◌*◌, ◌<◌, ◌≤◌, ◌↔◌, length, IsTrue, All};
 ghost use Rattle.std.specs.List.{list_all};
 ghost use Rattle.rmt_config.specs.LaneForm.{bits_of_lanes};
-ghost use Rattle.rmt_config.specs.Cells.{sram_row};
 ghost use Rattle.rmt_config.specs.StageForm.{stage_is_formed, rows_are_formed};
 ghost use Rattle.rmt_config.specs.UnitForm.{slot_is_formed, unit_is_formed};
 ghost use Rattle.rmt_config.specs.CellForm.{SlotHolds, StageHolds, Coded, coded_from};
 ghost use Rattle.rmt_config.specs.MemoryRules.{FormedRows, ExactFits, TernaryFits};
-ghost use Rattle.rmt_config.specs.Layouts.{exact_keys as exact_keys_of, exact_records as exact_records_of, ternary_keys as ternary_keys_of, ternary_records as ternary_records_of, cells_hold, SramTold, TcamTold};
+ghost use Rattle.rmt_config.specs.Layouts.{EntriesHeld, ExactHeld, HasHeads, TernaryHeld, exact_keys as exact_keys_of};
 
 use crate::config::{Memory, SlotUnit, Stage, Unit};
-use crate::form::cells::cells_are_formed;
+use crate::form::cells::{Entries, HeadRule, cells_are_formed};
 use crate::form::lane::key_bits;
+use crate::form::layout::CellLayout;
 use crate::form::parts::{exact_keys, exact_records, ternary_keys, ternary_records};
 use crate::form::set_bits::blocks_are_told;
 
-/// Whether the rows and numbers of an exact part are those of occupied cells, and all else is zero.
-fn exact_holds(
-    stage: &Stage,
-    slot: &SlotUnit,
+/// A slot of a stage, the visible bits of its cells, and the number of its first instruction.
+#[derive(Clone, Copy)]
+struct SlotPlace<'a> {
+    stage: &'a Stage,
+    slot: &'a SlotUnit,
     visible: u8,
     first: u32,
+}
+
+/// Whether the entries of the listed cells in these blocks have heads of occupied cells, and no other bit is set there.
+fn entries_hold(place: &SlotPlace, layout: &CellLayout, blocks: &[u8]) -> bool
+    requires rows { FormedRows place.now.stage.now }
+    requires heads { HasHeads layout.now }
+    requires blocks { length blocks.now ≡ layout.now.quanta * layout.now.units * layout.now.side }
+    requires first { place.now.first < 65536 }
+    ensures { IsTrue result ↔ EntriesHeld place.now.stage.now place.now.slot.now place.now.visible place.now.first layout.now blocks.now }
+{
+    let rows = place.stage.srows.as_slice();
+    let numbers = place.slot.numbers.as_slice();
+    let entries = Entries {
+        layout: *layout,
+        blocks,
+        rows,
+    };
+    let rule = HeadRule {
+        visible: place.visible,
+        first: place.first,
+        actions: place.slot.actions,
+    };
+    if !cells_are_formed(&entries, numbers, rule) {
+        return false;
+    }
+    blocks_are_told(layout, numbers, blocks, rows)
+}
+
+/// The layout of the entries of an exact part.
+fn exact_entries(slot: &SlotUnit, width: u8, per: u16, quanta: u8) -> CellLayout
+    requires { bits_of_lanes slot.now.keys ≤ 640 }
+    ensures { result ≡ exact_keys_of width per quanta (bits_of_lanes slot.now.keys) }
+{
+    exact_keys(width, per, quanta, key_bits(slot.keys.as_slice()))
+}
+
+/// Whether the rows and numbers of an exact part are those of occupied cells, and all else is zero.
+fn exact_holds(
+    place: &SlotPlace,
     width: u8,
     per: u16,
     quanta: u8,
     keys: &[u8],
     records: &[u8],
 ) -> bool
-    requires rows { FormedRows stage.now }
-    requires fits { ExactFits slot.now width per quanta keys.now records.now }
-    requires first { first < 65536 }
-    ensures { IsTrue result
-        ↔ (IsTrue (cells_hold (exact_keys_of width per quanta (bits_of_lanes slot.now.keys)) (sram_row stage.now.srows) keys.now visible first slot.now.actions slot.now.numbers)
-        × (SramTold (exact_keys_of width per quanta (bits_of_lanes slot.now.keys)) stage.now slot.now keys.now
-        × SramTold (exact_records_of per quanta slot.now.held) stage.now slot.now records.now)) }
+    requires rows { FormedRows place.now.stage.now }
+    requires fits { ExactFits place.now.slot.now width per quanta keys.now records.now }
+    requires first { place.now.first < 65536 }
+    ensures { IsTrue result ↔ ExactHeld place.now.stage.now place.now.slot.now place.now.visible place.now.first width per quanta keys.now records.now }
 {
-    let rows = stage.srows.as_slice();
-    let numbers = slot.numbers.as_slice();
-    let entries = exact_keys(width, per, quanta, key_bits(slot.keys.as_slice()));
-    if !cells_are_formed(&entries, keys, rows, numbers, visible, first, slot.actions) {
+    let layout = exact_entries(place.slot, width, per, quanta);
+    if !entries_hold(place, &layout, keys) {
         return false;
     }
-    if !blocks_are_told(&entries, numbers, keys, rows) {
-        return false;
-    }
-    if slot.held == 0 {
+    if place.slot.held == 0 {
         return true;
     }
-    blocks_are_told(
-        &exact_records(per, quanta, slot.held),
-        numbers,
-        records,
-        rows,
-    )
+    let layout = exact_records(per, quanta, place.slot.held);
+    let numbers = place.slot.numbers.as_slice();
+    blocks_are_told(&layout, numbers, records, place.stage.srows.as_slice())
 }
 
 /// Whether the rows and numbers of a ternary part are those of occupied cells, and all else is zero.
-fn ternary_holds(
-    stage: &Stage,
-    slot: &SlotUnit,
-    visible: u8,
-    first: u32,
-    quanta: u8,
-    keys: &[u8],
-    records: &[u8],
-) -> bool
-    requires rows { FormedRows stage.now }
-    requires fits { TernaryFits slot.now quanta keys.now records.now }
-    requires first { first < 65536 }
-    ensures { IsTrue result
-        ↔ (IsTrue (cells_hold (ternary_records_of quanta (slot.now.held + 8)) (sram_row stage.now.srows) records.now visible first slot.now.actions slot.now.numbers)
-        × (TcamTold (ternary_keys_of quanta (bits_of_lanes slot.now.keys)) stage.now slot.now keys.now
-        × SramTold (ternary_records_of quanta (slot.now.held + 8)) stage.now slot.now records.now)) }
+fn ternary_holds(place: &SlotPlace, quanta: u8, keys: &[u8], records: &[u8]) -> bool
+    requires rows { FormedRows place.now.stage.now }
+    requires fits { TernaryFits place.now.slot.now quanta keys.now records.now }
+    requires first { place.now.first < 65536 }
+    ensures { IsTrue result ↔ TernaryHeld place.now.stage.now place.now.slot.now place.now.visible place.now.first quanta keys.now records.now }
 {
-    let rows = stage.srows.as_slice();
-    let numbers = slot.numbers.as_slice();
-    let entries = ternary_records(quanta, slot.held);
-    if !cells_are_formed(
-        &entries,
-        records,
-        rows,
-        numbers,
-        visible,
-        first,
-        slot.actions,
-    ) {
+    let layout = ternary_records(quanta, place.slot.held);
+    if !entries_hold(place, &layout, records) {
         return false;
     }
-    if !blocks_are_told(&entries, numbers, records, rows) {
-        return false;
-    }
-    let layout = ternary_keys(quanta, key_bits(slot.keys.as_slice()));
-    blocks_are_told(&layout, numbers, keys, stage.trows.as_slice())
+    let layout = ternary_keys(quanta, key_bits(place.slot.keys.as_slice()));
+    let numbers = place.slot.numbers.as_slice();
+    blocks_are_told(&layout, numbers, keys, place.stage.trows.as_slice())
 }
 
-/// Whether the memory of a slot holds its occupied cells as its numbers list them, and zeros; `visible` are the visible bits of those cells, and `first` is the number of its
-/// first instruction.
-fn slot_holds(stage: &Stage, visible: u8, first: u32, slot: &SlotUnit) -> bool
-    requires rows { FormedRows stage.now }
-    requires slot { IsTrue (slot_is_formed slot.now) }
-    requires first { first < 65536 }
-    ensures { IsTrue result ↔ SlotHolds visible stage.now first slot.now }
+/// Whether the memory of a slot holds its occupied cells as its numbers list them, and zeros.
+fn slot_holds(place: &SlotPlace) -> bool
+    requires rows { FormedRows place.now.stage.now }
+    requires slot { IsTrue (slot_is_formed place.now.slot.now) }
+    requires first { place.now.first < 65536 }
+    ensures { IsTrue result ↔ SlotHolds place.now.visible place.now.stage.now place.now.first place.now.slot.now }
 {
-    match &slot.memory {
+    match &place.slot.memory {
         Memory::Without => true,
         Memory::Exact {
             width,
@@ -112,35 +117,20 @@ fn slot_holds(stage: &Stage, visible: u8, first: u32, slot: &SlotUnit) -> bool
             keys,
             records,
             ..
-        } => {
-            exact_holds(
-                stage,
-                slot,
-                visible,
-                first,
-                *width,
-                *per,
-                *quanta,
-                keys.as_slice(),
-                records.as_slice(),
-            )
-        }
+        } => exact_holds(
+            place,
+            *width,
+            *per,
+            *quanta,
+            keys.as_slice(),
+            records.as_slice(),
+        ),
         Memory::Ternary {
             quanta,
             keys,
             records,
             ..
-        } => {
-            ternary_holds(
-                stage,
-                slot,
-                visible,
-                first,
-                *quanta,
-                keys.as_slice(),
-                records.as_slice(),
-            )
-        }
+        } => ternary_holds(place, *quanta, keys.as_slice(), records.as_slice()),
     }
 }
 
@@ -156,7 +146,13 @@ fn slots_hold(stage: &Stage, visible: u8, units: &[Unit]) -> bool
         match unit {
             Unit::Gate(_) => {}
             Unit::Slot(slot) => {
-                if !slot_holds(stage, visible, first, slot) {
+                let place = SlotPlace {
+                    stage,
+                    slot,
+                    visible,
+                    first,
+                };
+                if !slot_holds(&place) {
                     return false;
                 }
                 first += slot.actions as u32 + 1;

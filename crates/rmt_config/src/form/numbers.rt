@@ -3,10 +3,10 @@
 ghost use Rattle.std.specs.Prelude.{◌≡◌, ◌++◌, map, IfOk, OnOk};
 ghost use Rattle.std.specs.List.{flat_map};
 ghost use Rattle.rmt_config.specs.declared.config.CellNumber.{CellNumber};
-ghost use Rattle.rmt_config.specs.Order.{rises_from};
 ghost use Rattle.rmt_config.specs.CellForm.{numbers_of_unit, numbers_of_stage, entry_numbers, entries_are_numbered};
 
 use crate::config::{CellNumber, Config, Stage, Unit};
+use crate::form::search::items_rise;
 use std::alloc::{AllocError, Global};
 
 /// Adds the numbers of the entries of listed cells.
@@ -54,20 +54,6 @@ fn number_list(alloc: Global, config: &Config) -> Result<Vec<u32>, AllocError>
     Ok(numbers)
 }
 
-/// Whether each number is above the one before it.
-fn rise(numbers: &[u32]) -> bool
-    ensures { result ≡ rises_from 0 numbers.now }
-{
-    let mut least: u64 = 0;
-    for number in numbers {
-        if u64::from(*number) < least {
-            return false;
-        }
-        least = u64::from(*number) + 1;
-    }
-    true
-}
-
 /// Whether no entry number stands twice. The time is that of sorting the numbers, and the memory that of a list of
 /// them.
 pub fn numbers_are_distinct(alloc: Global, config: &Config) -> Result<bool, AllocError>
@@ -75,5 +61,5 @@ pub fn numbers_are_distinct(alloc: Global, config: &Config) -> Result<bool, Allo
 {
     let mut numbers = number_list(alloc, config)?;
     numbers.sort_unstable();
-    Ok(rise(numbers.as_slice()))
+    Ok(items_rise(0, numbers.as_slice()))
 }

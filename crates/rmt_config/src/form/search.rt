@@ -10,7 +10,7 @@ ghost use Rattle.rmt_config.specs.declared.config.CellNumber.{CellNumber};
 use crate::config::{CellNumber, Operation, SramRow, Stage, TailOf, TcamRow};
 
 /// What stands in a list by rising numbers: a row, by its block and its row in it, a listed cell, an operation, by its
-/// word, a stage, by its start, or a tail, by its entry.
+/// word, a stage, by its start, a tail, by its entry, or a number by itself.
 pub trait Numbered {
     /// Its number.
     ghost place_of: { Self → ℕ };
@@ -91,6 +91,14 @@ impl Numbered for TailOf {
 
     fn place(&self) -> u32 {
         self.entry as u32
+    }
+}
+
+impl Numbered for u32 {
+    ghost place_of = { λ n. n };
+
+    fn place(&self) -> u32 {
+        *self
     }
 }
 

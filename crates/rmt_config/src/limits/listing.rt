@@ -1,8 +1,7 @@
 //! How often the blocks of a stage are listed.
 
 ghost use Rattle.std.specs.Prelude.{◌≡◌, ◌++◌, List, [], ◌∷◌, ℕ};
-ghost use Rattle.std.specs.List.{flat_map};
-ghost use Rattle.rmt_config.specs.Resources.{memory_sram, memory_tcam, unit_sram, unit_tcam, most_listed, most_listed_in};
+ghost use Rattle.rmt_config.specs.Resources.{memory_sram, memory_tcam, most_listed, most_listed_in};
 ghost use Rattle.rmt_config.specs.Limits.{told};
 ghost use Rattle.rmt_config.specs.LimitSteps.{Counts};
 
@@ -73,33 +72,17 @@ fn greatest(counts: &[u32; 256]) -> u32
     most
 }
 
-fn sram_listings(units: &[Unit]) -> u32
-    ensures { result ≡ told (most_listed (flat_map unit_sram units.now)) }
-{
-    let mut counts = no_counts();
-    for unit in units {
-        if let Unit::Slot(slot) = unit {
-            count_sram(&mut counts, &slot.memory);
-        }
-    }
-    greatest(&counts)
-}
-
-fn tcam_listings(units: &[Unit]) -> u32
-    ensures { result ≡ told (most_listed (flat_map unit_tcam units.now)) }
-{
-    let mut counts = no_counts();
-    for unit in units {
-        if let Unit::Slot(slot) = unit {
-            count_tcam(&mut counts, &slot.memory);
-        }
-    }
-    greatest(&counts)
-}
-
 /// How often the block is listed that is listed most.
 pub fn listings(units: &[Unit]) -> u32
     ensures { result ≡ told (most_listed_in units.now) }
 {
-    sram_listings(units).max(tcam_listings(units))
+    let mut sram = no_counts();
+    let mut tcam = no_counts();
+    for unit in units {
+        if let Unit::Slot(slot) = unit {
+            count_sram(&mut sram, &slot.memory);
+            count_tcam(&mut tcam, &slot.memory);
+        }
+    }
+    greatest(&sram).max(greatest(&tcam))
 }

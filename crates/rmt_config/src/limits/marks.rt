@@ -97,7 +97,7 @@ pub fn count_marks(marks: &[bool; 256]) -> u32
 }
 
 /// The bits of a word. A number that is no word's counts as a word of 32 bits.
-fn bits_of(word: usize) -> u32
+pub fn bits_of(word: usize) -> u32
     ensures { result ≡ word_size word }
 {
     if word < 64 {

@@ -1,7 +1,7 @@
 //! The limits of each stage.
 
 ghost use Rattle.std.specs.Prelude.{◌≡◌, ◌<◌, length};
-ghost use Rattle.rmt_config.specs.Limits.{stage_hit, reading_limit_hit, unit_limit_hit};
+ghost use Rattle.rmt_config.specs.Limits.{first_hit, stage_hit, reading_limit_hit, unit_limit_hit};
 ghost use Rattle.rmt_config.specs.LimitSteps.{hit_of};
 
 use crate::config::Stage;
@@ -68,21 +68,31 @@ pub fn over_in_stages(limit: StageLimit, stages: &[Stage]) -> Option<LimitHit>
     None
 }
 
+/// The first of some limits that is passed, by limit and then by stage.
+fn over_in_any(limits: &[StageLimit], stages: &[Stage]) -> Option<LimitHit>
+    requires { length stages.now < 256 }
+    ensures { result ≡ first_hit (λ limit. stage_hit (hit_of limit) 0 stages.now) limits.now }
+{
+    for limit in limits {
+        if let Some(hit) = over_in_stages(*limit, stages) {
+            return Some(hit);
+        }
+    }
+    None
+}
+
 /// The first of the limits on blocks and crossbars that is passed.
 pub fn over_in_reading(stages: &[Stage]) -> Option<LimitHit>
     requires { length stages.now < 256 }
     ensures { result ≡ reading_limit_hit stages.now }
 {
-    if let Some(hit) = over_in_stages(StageLimit::Sram, stages) {
-        return Some(hit);
-    }
-    if let Some(hit) = over_in_stages(StageLimit::Tcam, stages) {
-        return Some(hit);
-    }
-    if let Some(hit) = over_in_stages(StageLimit::ExactWords, stages) {
-        return Some(hit);
-    }
-    over_in_stages(StageLimit::TernaryWords, stages)
+    let limits = [
+        StageLimit::Sram,
+        StageLimit::Tcam,
+        StageLimit::ExactWords,
+        StageLimit::TernaryWords,
+    ];
+    over_in_any(&limits, stages)
 }
 
 /// The first of the limits on units, instructions and data that is passed.
@@ -90,14 +100,13 @@ pub fn over_in_units(stages: &[Stage]) -> Option<LimitHit>
     requires { length stages.now < 256 }
     ensures { result ≡ unit_limit_hit stages.now }
 {
-    if let Some(hit) = over_in_stages(StageLimit::Slots, stages) {
-        return Some(hit);
-    }
-    if let Some(hit) = over_in_stages(StageLimit::Instructions, stages) {
-        return Some(hit);
-    }
-    if let Some(hit) = over_in_stages(StageLimit::DataBits, stages) {
-        return Some(hit);
-    }
-    over_in_stages(StageLimit::Gates, stages)
+    over_in_any(
+        &[
+            StageLimit::Slots,
+            StageLimit::Instructions,
+            StageLimit::DataBits,
+            StageLimit::Gates,
+        ],
+        stages,
+    )
 }

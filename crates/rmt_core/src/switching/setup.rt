@@ -1,13 +1,12 @@
 //! What the files of `switch` say.
 
 ghost use Rattle.std.specs.Prelude.{◌≡◌, ◌≤◌, ◌<◌, Ok, length, IfOk, IfErr};
+ghost use Rattle.rmt_core.specs.Parts.{OnlyPrinted, Tells};
 ghost use Rattle.std.specs.List.{All};
-ghost use Rattle.rmt_io.specs.Outside.{OnlyPrinted};
 ghost use Rattle.rmt_pcap.specs.Captures.{IsHead, IsOfFile, capture_of};
 ghost use Rattle.rmt_switch.specs.GroupText.{groups_of};
 ghost use Rattle.rmt_drive.specs.SimText.{bad_packets_line};
 ghost use Rattle.rmt_core.specs.SwitchSetup.{IsImageOf, SaysFault, setup_fault_line, setup_fault_status};
-ghost use Rattle.rmt_drive.specs.Telling.{Tells};
 
 use crate::bad_image::tell_bad_image;
 use crate::texts::{TextFault, tell_text_fault};

@@ -1,13 +1,7 @@
 //! What changes the entries of a run, made where a line first wants it.
 
 ghost use Rattle.std.specs.Prelude.{◌≡◌, List, None, OnOk};
-ghost use Rattle.rmt_chip.specs.Stands.{Stands};
-ghost use Rattle.rmt_config.specs.declared.config.Config.{Config};
-ghost use Rattle.rmt_config.specs.RunInputs.{Input};
-ghost use Rattle.rmt_io.specs.Outside.{SinkState};
-ghost use Rattle.rmt_drive.specs.declared.running.state.Run.{Run};
-ghost use Rattle.rmt_drive.specs.declared.watch.Watch.{Watch};
-ghost use Rattle.rmt_drive.specs.EventText.{EventReading};
+ghost use Rattle.rmt_drive.specs.Parts.{Config, EventReading, Input, Run, SinkState, Stands, Watch};
 ghost use Rattle.rmt_drive.specs.Running.{Follows};
 
 use crate::running::commits::{Commits, commits_of};

@@ -1,18 +1,8 @@
 //! The cycles of a commit.
 
-ghost use Rattle.std.specs.Prelude.{◌≡◌, ◌<◌, ◌≤◌, ◌⊎◌, ◌^◌, ◌+◌, ◌++◌, All, List, length, map, IsErrOf, IfErr, OnOk};
-ghost use Rattle.rmt_ast.specs.Events.{Event};
-ghost use Rattle.rmt_chip.specs.Stands.{entered_of, spare_of, version_of};
-ghost use Rattle.rmt_memory.specs.Writable.{IsTaken};
-ghost use Rattle.rmt_config.specs.declared.config.Config.{Config};
-ghost use Rattle.rmt_config.specs.Commits.{RunState};
-ghost use Rattle.rmt_config.specs.RunInputs.{Input, Writes};
-ghost use Rattle.rmt_io.specs.Outside.{SinkState, PrintingFailed, OnlyPrinted};
-ghost use Rattle.rmt_drive.specs.declared.watch.Watch.{Watch};
-ghost use Rattle.rmt_drive.specs.ChipEvents.{commit_cycles};
-ghost use Rattle.rmt_drive.specs.ChipText.{lines_of};
-ghost use Rattle.rmt_runs.specs.Cuts.{Cut};
-ghost use Rattle.rmt_drive.specs.ChipCycles.{Came, Goes};
+ghost use Rattle.std.specs.Prelude.{◌≡◌, ◌<◌, ◌≤◌, ◌^◌, ◌+◌, ◌++◌, All, List, length, map, IfErr, OnOk};
+ghost use Rattle.rmt_drive.specs.Parts.{Config, Event, Goes, Input, IsTaken, Prints, RunState, SinkState, Watch, Writes, commit_cycles, entered_of, spare_of, version_of};
+ghost use Rattle.rmt_drive.specs.ChipCycles.{Came, CutOff, EachCame};
 
 use crate::running::state::Run;
 use crate::running::turn::{Cycle, turn};
@@ -39,22 +29,16 @@ pub fn change_cells<O: Sink>(
     requires versions { version_of chip.old < 2 ^ 63 }
     requires cycles { run.old.cycles < 2 ^ 125 }
     ensures ok { OnOk result
-        ((w : Watch) (c : Config) (events : List Event) (made : List Input) (r : RunState)
-        (before : SinkState) → Came w c events made r run.old chip.old before (O.state out.old) →
+        (EachCame run.old chip.old (O.state out.old) (λ w c made r before.
         Goes w c (made ++ commit_cycles r moved seed writes.now) run.new chip.new before
-        (O.state out.new)) }
+        (O.state out.new))) }
     ensures cut { IfErr result
-        (λ fault. (w : Watch) (c : Config) (events : List Event) (made : List Input) (r : RunState)
-        (before : SinkState) → Came w c events made r run.old chip.old before (O.state out.old) →
+        (λ fault. EachCame run.old chip.old (O.state out.old) (λ w c made r before.
         (part : List Input) × (rest : List Input)
         × (commit_cycles r moved seed writes.now ≡ part ++ rest)
-        × Cut (lines_of w c (made ++ part)) before (O.state out.new) fault) }
+        × CutOff w c (made ++ part) before (O.state out.new) fault)) }
     ensures cycles { OnOk result (run.new.cycles ≤ run.old.cycles + 8589934592) }
-    ensures either { IfErr result
-        (λ fault. (fault ≡ RunFault.NoMemory) ⊎ (fault ≡ RunFault.Write)) }
-    ensures failed { IsErrOf result RunFault.Write →
-        PrintingFailed (O.state out.old) (O.state out.new) }
-    ensures only_printed { OnlyPrinted (O.state out.old) (O.state out.new) }
+    ensures prints { Prints (O.state out.old) (O.state out.new) result }
 {
     let Ok(count) = u32::try_from(writes.len()) else {
         return Err(RunFault::NoMemory);
@@ -95,13 +79,9 @@ fn write_cells<O: Sink>(
         (λ fault. (w : Watch) (c : Config) (made : List Input) (before : SinkState) →
         Goes w c made run.old chip.old before (O.state out.old) →
         (part : List Input) × (rest : List Input) × (map Writes writes.now ≡ part ++ rest)
-        × Cut (lines_of w c (made ++ part)) before (O.state out.new) fault) }
+        × CutOff w c (made ++ part) before (O.state out.new) fault) }
     ensures cycles { OnOk result (run.new.cycles ≡ run.old.cycles + length writes.now) }
-    ensures either { IfErr result
-        (λ fault. (fault ≡ RunFault.NoMemory) ⊎ (fault ≡ RunFault.Write)) }
-    ensures failed { IsErrOf result RunFault.Write →
-        PrintingFailed (O.state out.old) (O.state out.new) }
-    ensures only_printed { OnlyPrinted (O.state out.old) (O.state out.new) }
+    ensures prints { Prints (O.state out.old) (O.state out.new) result }
 {
     for write in writes {
         match turn(chip, run, Cycle::Changes(write), out) {

@@ -1,15 +1,10 @@
 //! The commits of a run.
 
-ghost use Rattle.std.specs.Prelude.{◌≡◌, ◌<◌, ◌⊎◌, ◌^◌, ◌+◌, ℕ, List, Some, IsErrOf, IfErr, IfOk, OnOk};
-ghost use Rattle.rmt_config.specs.declared.config.Config.{Config};
-ghost use Rattle.rmt_config.specs.Commits.{RunState};
-ghost use Rattle.rmt_config.specs.RunInputs.{Input};
-ghost use Rattle.rmt_io.specs.Outside.{SinkState, PrintingFailed, OnlyPrinted};
+ghost use Rattle.std.specs.Prelude.{◌≡◌, ◌<◌, ◌^◌, ◌+◌, ℕ, List, Some, IfErr, IfOk, OnOk};
+ghost use Rattle.rmt_drive.specs.Parts.{Config, EventReading, Input, Prints, RunState, SinkState, Watch};
 ghost use Rattle.rmt_packets.specs.declared.line_kind.LineKind.TheVariants as kind;
 ghost use Rattle.rmt_packets.specs.LineKinds.{kind_of};
-ghost use Rattle.rmt_drive.specs.declared.watch.Watch.{Watch};
-ghost use Rattle.rmt_drive.specs.EventText.{EventReading};
-ghost use Rattle.rmt_drive.specs.Running.{Follows, HasCome, IsFew, IsPlannedAt, IsUnplannedAt, Leaves, LeftOff};
+ghost use Rattle.rmt_drive.specs.Running.{Follows, HasCome, IsFew, IsPlannedAt, IsRunning, IsUnplannedAt, Leaves, LeftOff};
 
 use crate::running::changing::change_cells;
 use crate::running::commits::Commits;
@@ -29,8 +24,7 @@ pub fn commit<O: Sink>(
     run: &mut Run,
     out: &mut O,
 ) -> Result<Option<u8>, RunFault>
-    requires follows { (w : Watch) × (c : Config) × (said : EventReading) × (before : SinkState)
-        × Follows w c said run.old chip.old (Some commits.old) before (O.state out.old) }
+    requires follows { IsRunning run.old chip.old (Some commits.old) (O.state out.old) }
     requires few { (lines : ℕ) × (lines < 2 ^ 41) × IsFew lines run.old chip.old }
     ensures ok { IfOk result
         (λ code. (w : Watch) (c : Config) (said : EventReading) (number : ℕ) (text : List ℕ)
@@ -45,11 +39,7 @@ pub fn commit<O: Sink>(
         LeftOff w c number text said before (O.state out.new) fault) }
     ensures few { OnOk result ((lines : ℕ) → IsFew lines run.old chip.old →
         IsFew (lines + 1) run.new chip.new) }
-    ensures either { IfErr result
-        (λ fault. (fault ≡ RunFault.NoMemory) ⊎ (fault ≡ RunFault.Write)) }
-    ensures failed { IsErrOf result RunFault.Write →
-        PrintingFailed (O.state out.old) (O.state out.new) }
-    ensures only_printed { OnlyPrinted (O.state out.old) (O.state out.new) }
+    ensures prints { Prints (O.state out.old) (O.state out.new) result }
 {
     match plan(alloc, commits) {
         Ok(plan) => match change_cells(

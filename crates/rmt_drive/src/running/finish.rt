@@ -1,20 +1,14 @@
 //! The end of a run.
 
-ghost use Rattle.std.specs.Prelude.{◌≡◌, ◌≢◌, ◌<◌, ◌⊎◌, ◌^◌, ◌++◌, ℕ, [], List, length, replicate, string_bytes, IsErrOf, IfErr, IfOk, OnOk, if◌then◌else◌};
+ghost use Rattle.std.specs.Prelude.{◌≡◌, ◌≢◌, ◌<◌, ◌⊎◌, ◌^◌, ◌++◌, ℕ, [], List, length, replicate, string_bytes, IfErr, IfOk, OnOk, if◌then◌else◌};
+ghost use Rattle.rmt_drive.specs.Parts.{Config, Goes, Idle, Input, Prints, Stands, Watch, empty_cycles};
 ghost use Rattle.std.specs.List.{flat_map};
-ghost use Rattle.rmt_ast.specs.Events.{Event};
-ghost use Rattle.rmt_chip.specs.Stands.{Stands, entered_of};
-ghost use Rattle.rmt_config.specs.declared.config.Config.{Config};
-ghost use Rattle.rmt_config.specs.Commits.{RunState};
-ghost use Rattle.rmt_config.specs.RunInputs.{Idle, Input, counts_in, flight_in};
-ghost use Rattle.rmt_io.specs.Outside.{SinkState, Gained, PrintingFailed, OnlyPrinted};
-ghost use Rattle.rmt_drive.specs.declared.watch.Watch.{Watch};
-ghost use Rattle.rmt_drive.specs.ChipEvents.{empty_cycles};
-ghost use Rattle.rmt_drive.specs.ChipText.{all_cycles, end_of, lines_of, run_text};
+ghost use Rattle.rmt_config.specs.RunInputs.{counts_in, flight_in};
+ghost use Rattle.rmt_io.specs.Outside.{Gained, PrintingFailed, OnlyPrinted};
+ghost use Rattle.rmt_drive.specs.ChipText.{all_cycles, end_of, run_text};
 ghost use Rattle.rmt_runs.specs.Printing.{GainedFront};
-ghost use Rattle.rmt_runs.specs.Cuts.{Cut};
 ghost use Rattle.rmt_drive.specs.RunEnd.{bad_line, status_of_end};
-ghost use Rattle.rmt_drive.specs.ChipCycles.{Came, Goes};
+ghost use Rattle.rmt_drive.specs.ChipCycles.{CutOff, EachCame, MayWait};
 ghost use Rattle.rmt_drive.specs.SimText.{count_line, cycles_line, flight_line};
 
 use crate::count_lines::count_lines;
@@ -36,28 +30,20 @@ pub fn finish<O: Sink>(
     bad: Option<Bad>,
     out: &mut O,
 ) -> Status
-    requires came { (w : Watch) × (c : Config) × (events : List Event) × (made : List Input)
-        × (r : RunState) × (before : SinkState)
-        × Came w c events made r run.old chip.old before (O.state out.old) }
-    requires entered { entered_of chip.old < 2 ^ 63 }
-    requires cycles { run.old.cycles < 2 ^ 126 }
+    requires may { MayWait run.old chip.old (O.state out.old) }
     ensures possible { (result ≡ status_of_end bad) ⊎ (result ≡ Status.WriteFault)
         ⊎ (result ≡ Status.NoMemory) }
     ensures printed { result ≡ status_of_end bad →
-        (w : Watch) (c : Config) (events : List Event) (made : List Input) (r : RunState)
-        (before : SinkState) → Came w c events made r run.old chip.old before (O.state out.old) →
-        Gained before (O.state out.new) (run_text w c made (empty_cycles r) (bad_line bad)) }
-    ensures front { (w : Watch) (c : Config) (events : List Event) (made : List Input) (r : RunState)
-        (before : SinkState) → Came w c events made r run.old chip.old before (O.state out.old) →
-        GainedFront before (O.state out.new) (run_text w c made (empty_cycles r) (bad_line bad)) }
+        EachCame run.old chip.old (O.state out.old) (λ w c made r before.
+        Gained before (O.state out.new) (run_text w c made (empty_cycles r) (bad_line bad))) }
+    ensures front { EachCame run.old chip.old (O.state out.old) (λ w c made r before.
+        GainedFront before (O.state out.new) (run_text w c made (empty_cycles r) (bad_line bad))) }
     ensures some { result ≡ Status.WriteFault →
-        (w : Watch) (c : Config) (events : List Event) (made : List Input) (r : RunState)
-        (before : SinkState) → Came w c events made r run.old chip.old before (O.state out.old) →
-        run_text w c made (empty_cycles r) (bad_line bad) ≢ [] }
+        EachCame run.old chip.old (O.state out.old) (λ w c made r before.
+        run_text w c made (empty_cycles r) (bad_line bad) ≢ []) }
     ensures clocked { result ≡ Status.Done →
-        (w : Watch) (c : Config) (events : List Event) (made : List Input) (r : RunState)
-        (before : SinkState) → Came w c events made r run.old chip.old before (O.state out.old) →
-        Stands c (made ++ replicate (empty_cycles r) Idle) chip.new }
+        EachCame run.old chip.old (O.state out.old) (λ w c made r before.
+        Stands c (made ++ replicate (empty_cycles r) Idle) chip.new) }
     ensures failed { result ≡ Status.WriteFault →
         PrintingFailed (O.state out.old) (O.state out.new) }
     ensures only_printed { OnlyPrinted (O.state out.old) (O.state out.new) }
@@ -79,26 +65,16 @@ fn run_out<O: Sink>(
     bad: Option<Bad>,
     out: &mut O,
 ) -> Result<(), RunFault>
-    requires came { (w : Watch) × (c : Config) × (events : List Event) × (made : List Input)
-        × (r : RunState) × (before : SinkState)
-        × Came w c events made r run.old chip.old before (O.state out.old) }
-    requires entered { entered_of chip.old < 2 ^ 63 }
-    requires cycles { run.old.cycles < 2 ^ 126 }
+    requires may { MayWait run.old chip.old (O.state out.old) }
     ensures ok { OnOk result
-        ((w : Watch) (c : Config) (events : List Event) (made : List Input) (r : RunState)
-        (before : SinkState) → Came w c events made r run.old chip.old before (O.state out.old) →
+        (EachCame run.old chip.old (O.state out.old) (λ w c made r before.
         Goes w c (all_cycles w made (empty_cycles r) (bad_line bad)) run.new chip.new before
-        (O.state out.new)) }
+        (O.state out.new))) }
     ensures cut { IfErr result
-        (λ fault. (w : Watch) (c : Config) (events : List Event) (made : List Input) (r : RunState)
-        (before : SinkState) → Came w c events made r run.old chip.old before (O.state out.old) →
-        Cut (lines_of w c (all_cycles w made (empty_cycles r) (bad_line bad))) before
-        (O.state out.new) fault) }
-    ensures either { IfErr result
-        (λ fault. (fault ≡ RunFault.NoMemory) ⊎ (fault ≡ RunFault.Write)) }
-    ensures failed { IsErrOf result RunFault.Write →
-        PrintingFailed (O.state out.old) (O.state out.new) }
-    ensures only_printed { OnlyPrinted (O.state out.old) (O.state out.new) }
+        (λ fault. EachCame run.old chip.old (O.state out.old) (λ w c made r before.
+        CutOff w c (all_cycles w made (empty_cycles r) (bad_line bad)) before
+        (O.state out.new) fault)) }
+    ensures prints { Prints (O.state out.old) (O.state out.new) result }
 {
     if !runs_on(run.watch, bad) {
         return Ok(());

@@ -1,15 +1,11 @@
 //! The lines of a packet text, one after another, in a run of the chip.
 
-ghost use Rattle.std.specs.Prelude.{◌≡◌, ◌<◌, ◌⊎◌, ◌^◌, ◌+◌, ℕ, List, Option, IsErrOf, IfErr, IfOk, IsTrue, OnOk};
-ghost use Rattle.rmt_config.specs.declared.config.Config.{Config};
-ghost use Rattle.rmt_io.specs.Outside.{SinkState, PrintingFailed, OnlyPrinted};
+ghost use Rattle.std.specs.Prelude.{◌≡◌, ◌<◌, ◌⊎◌, ◌^◌, ◌+◌, ℕ, List, Option, IfErr, IfOk, IsTrue, OnOk};
+ghost use Rattle.rmt_drive.specs.Parts.{Config, EventReading, Prints, Run, SinkState, Watch};
 ghost use Rattle.rmt_packets.specs.declared.line_kind.LineKind.TheVariants as kind;
 ghost use Rattle.rmt_packets.specs.LineKinds.{kind_of};
 ghost use Rattle.rmt_lists.specs.Running.{is_change};
-ghost use Rattle.rmt_drive.specs.declared.running.state.Run.{Run};
-ghost use Rattle.rmt_drive.specs.declared.watch.Watch.{Watch};
-ghost use Rattle.rmt_drive.specs.EventText.{EventReading};
-ghost use Rattle.rmt_drive.specs.Running.{Follows, IsFew, Leaves, LeftOff};
+ghost use Rattle.rmt_drive.specs.Running.{Follows, IsFew, IsRunning, Leaves, LeftOff};
 
 use crate::running::begin::begin;
 use crate::running::commit::commit;
@@ -35,8 +31,7 @@ pub fn take_line<O: Sink>(
     frame: &mut Vec<u8>,
     out: &mut O,
 ) -> Result<Option<u8>, RunFault>
-    requires follows { (w : Watch) × (c : Config) × (said : EventReading) × (before : SinkState)
-        × Follows w c said run.old chip.old commits.old before (O.state out.old) }
+    requires follows { IsRunning run.old chip.old commits.old (O.state out.old) }
     requires few { (lines : ℕ) × (lines < 2 ^ 41) × IsFew lines run.old chip.old }
     ensures ok { IfOk result
         (λ code. (w : Watch) (c : Config) (said : EventReading) (number : ℕ)
@@ -51,11 +46,7 @@ pub fn take_line<O: Sink>(
         LeftOff w c number line.now said before (O.state out.new) fault) }
     ensures few { OnOk result ((lines : ℕ) → IsFew lines run.old chip.old →
         IsFew (lines + 1) run.new chip.new) }
-    ensures either { IfErr result
-        (λ fault. (fault ≡ RunFault.NoMemory) ⊎ (fault ≡ RunFault.Write)) }
-    ensures failed { IsErrOf result RunFault.Write →
-        PrintingFailed (O.state out.old) (O.state out.new) }
-    ensures only_printed { OnlyPrinted (O.state out.old) (O.state out.new) }
+    ensures prints { Prints (O.state out.old) (O.state out.new) result }
 {
     match kind_of(line) {
         LineKind::Addition => take_change(alloc, chip, commits, line),
@@ -73,9 +64,8 @@ fn take_packet<O: Sink>(
     frame: &mut Vec<u8>,
     out: &mut O,
 ) -> Result<Option<u8>, RunFault>
-    requires follows { (w : Watch) × (c : Config) × (said : EventReading) × (before : SinkState)
-        × (commits : Option Commits)
-        × Follows w c said run.old chip.old commits before (O.state out.old) }
+    requires follows { (commits : Option Commits)
+        × IsRunning run.old chip.old commits (O.state out.old) }
     requires few { (lines : ℕ) × (lines < 2 ^ 41) × IsFew lines run.old chip.old }
     ensures ok { IfOk result
         (λ code. (w : Watch) (c : Config) (said : EventReading) (number : ℕ)
@@ -90,11 +80,7 @@ fn take_packet<O: Sink>(
         LeftOff w c number line.now said before (O.state out.new) fault) }
     ensures few { OnOk result ((lines : ℕ) → IsFew lines run.old chip.old →
         IsFew (lines + 1) run.new chip.new) }
-    ensures either { IfErr result
-        (λ fault. (fault ≡ RunFault.NoMemory) ⊎ (fault ≡ RunFault.Write)) }
-    ensures failed { IsErrOf result RunFault.Write →
-        PrintingFailed (O.state out.old) (O.state out.new) }
-    ensures only_printed { OnlyPrinted (O.state out.old) (O.state out.new) }
+    ensures prints { Prints (O.state out.old) (O.state out.new) result }
 {
     let port = match read_packet(line, frame) {
         Ok(port) => port,
@@ -151,8 +137,7 @@ fn take_commit<O: Sink>(
     run: &mut Run,
     out: &mut O,
 ) -> Result<Option<u8>, RunFault>
-    requires follows { (w : Watch) × (c : Config) × (said : EventReading) × (before : SinkState)
-        × Follows w c said run.old chip.old commits.old before (O.state out.old) }
+    requires follows { IsRunning run.old chip.old commits.old (O.state out.old) }
     requires few { (lines : ℕ) × (lines < 2 ^ 41) × IsFew lines run.old chip.old }
     ensures ok { IfOk result
         (λ code. (w : Watch) (c : Config) (said : EventReading) (number : ℕ) (text : List ℕ)
@@ -167,11 +152,7 @@ fn take_commit<O: Sink>(
         LeftOff w c number text said before (O.state out.new) fault) }
     ensures few { OnOk result ((lines : ℕ) → IsFew lines run.old chip.old →
         IsFew (lines + 1) run.new chip.new) }
-    ensures either { IfErr result
-        (λ fault. (fault ≡ RunFault.NoMemory) ⊎ (fault ≡ RunFault.Write)) }
-    ensures failed { IsErrOf result RunFault.Write →
-        PrintingFailed (O.state out.old) (O.state out.new) }
-    ensures only_printed { OnlyPrinted (O.state out.old) (O.state out.new) }
+    ensures prints { Prints (O.state out.old) (O.state out.new) result }
 {
     let Ok(()) = begin(alloc, chip, commits) else {
         return Err(RunFault::NoMemory);

@@ -1,11 +1,7 @@
 //! What there is of a run beside its chip.
 
 ghost use Rattle.std.specs.Prelude.{[], IfOk};
-ghost use Rattle.rmt_config.specs.declared.config.Config.{Config};
-ghost use Rattle.rmt_chip.specs.declared.chip.Chip.{Chip};
-ghost use Rattle.rmt_chip.specs.Stands.{Stands};
-ghost use Rattle.rmt_io.specs.Outside.{SinkState};
-ghost use Rattle.rmt_drive.specs.ChipCycles.{Goes};
+ghost use Rattle.rmt_drive.specs.Parts.{Chip, Config, Goes, SinkState, Stands};
 
 use crate::watch::Watch;
 use rmt_chip::fault::ChipFault;

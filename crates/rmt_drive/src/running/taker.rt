@@ -1,8 +1,7 @@
 //! A run of the chip as what takes lines.
 
 ghost use Rattle.std.specs.Prelude.{ℕ};
-ghost use Rattle.rmt_config.specs.declared.config.Config.{Config};
-ghost use Rattle.rmt_drive.specs.declared.watch.Watch.{Watch};
+ghost use Rattle.rmt_drive.specs.Parts.{Config, Watch};
 ghost use Rattle.rmt_drive.specs.Running.{BreaksOver, IsFew, StandsOver, StopsOver};
 
 use crate::running::commits::Commits;

@@ -1,15 +1,10 @@
 //! One cycle of a run.
 
-ghost use Rattle.std.specs.Prelude.{◌≡◌, ◌<◌, ◌≤◌, ◌⊎◌, ◌^◌, ◌+◌, ◌++◌, ◌∷◌, [], List, length, IsErrOf, IfErr, OnOk};
+ghost use Rattle.std.specs.Prelude.{◌≡◌, ◌<◌, ◌≤◌, ◌^◌, ◌+◌, ◌++◌, ◌∷◌, [], List, length, IfErr, OnOk};
+ghost use Rattle.rmt_drive.specs.Parts.{Config, Goes, Input, Prints, SinkState, Stands, Watch, spare_of};
 ghost use Rattle.rmt_chip.specs.Leaving.{AnswersIf};
-ghost use Rattle.rmt_chip.specs.Stands.{Stands, spare_of};
-ghost use Rattle.rmt_config.specs.declared.config.Config.{Config};
-ghost use Rattle.rmt_config.specs.RunInputs.{Input, answer_in};
-ghost use Rattle.rmt_io.specs.Outside.{SinkState, PrintingFailed, OnlyPrinted};
-ghost use Rattle.rmt_drive.specs.declared.watch.Watch.{Watch};
-ghost use Rattle.rmt_drive.specs.ChipText.{lines_of};
-ghost use Rattle.rmt_runs.specs.Cuts.{Cut};
-ghost use Rattle.rmt_drive.specs.ChipCycles.{Goes, MayTurn, input_for, line_if, spent_by};
+ghost use Rattle.rmt_config.specs.RunInputs.{answer_in};
+ghost use Rattle.rmt_drive.specs.ChipCycles.{CutOff, MayTurn, input_for, line_if, spent_by};
 
 use crate::running::state::Run;
 use crate::vectors::add_vectors;
@@ -50,14 +45,10 @@ pub fn turn<O: Sink>(
     ensures cut { IfErr result
         (λ fault. (w : Watch) (c : Config) (made : List Input) (before : SinkState) →
         Goes w c made run.old chip.old before (O.state out.old) →
-        Cut (lines_of w c (made ++ input_for input.entry ∷ [])) before (O.state out.new) fault) }
+        CutOff w c (made ++ input_for input.entry ∷ []) before (O.state out.new) fault) }
     ensures cycles { OnOk result (run.new.cycles ≡ run.old.cycles + 1) }
     ensures spare { spare_of chip.old ≤ spare_of chip.new + spent_by input.entry }
-    ensures either { IfErr result
-        (λ fault. (fault ≡ RunFault.NoMemory) ⊎ (fault ≡ RunFault.Write)) }
-    ensures failed { IsErrOf result RunFault.Write →
-        PrintingFailed (O.state out.old) (O.state out.new) }
-    ensures only_printed { OnlyPrinted (O.state out.old) (O.state out.new) }
+    ensures prints { Prints (O.state out.old) (O.state out.new) result }
 {
     let Ok(()) = run_cycle(chip, run, input) else {
         return Err(RunFault::NoMemory);

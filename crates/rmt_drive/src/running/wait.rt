@@ -1,17 +1,8 @@
 //! Cycles in which nothing enters.
 
-ghost use Rattle.std.specs.Prelude.{◌≡◌, ◌<◌, ◌≤◌, ◌⊎◌, ◌^◌, ◌+◌, ◌++◌, ℕ, List, replicate, IsErrOf, IfErr, OnOk};
-ghost use Rattle.rmt_ast.specs.Events.{Event};
-ghost use Rattle.rmt_chip.specs.Stands.{Stands, entered_of, oldest_in_flight, spare_of, version_of};
-ghost use Rattle.rmt_config.specs.declared.config.Config.{Config};
-ghost use Rattle.rmt_config.specs.Commits.{RunState, waits};
-ghost use Rattle.rmt_config.specs.RunInputs.{Idle, Input};
-ghost use Rattle.rmt_io.specs.Outside.{SinkState, PrintingFailed, OnlyPrinted};
-ghost use Rattle.rmt_drive.specs.declared.watch.Watch.{Watch};
-ghost use Rattle.rmt_drive.specs.ChipEvents.{is_waiting};
-ghost use Rattle.rmt_drive.specs.ChipText.{lines_of};
-ghost use Rattle.rmt_runs.specs.Cuts.{Cut};
-ghost use Rattle.rmt_drive.specs.ChipCycles.{Came, Goes};
+ghost use Rattle.std.specs.Prelude.{◌≡◌, ◌<◌, ◌≤◌, ◌^◌, ◌+◌, ◌++◌, ℕ, List, replicate, IfErr, OnOk};
+ghost use Rattle.rmt_drive.specs.Parts.{Config, Goes, Idle, Input, Prints, Stands, is_waiting, oldest_in_flight, spare_of, version_of, waits};
+ghost use Rattle.rmt_drive.specs.ChipCycles.{CutOff, EachCame, MayWait};
 
 use crate::running::state::Run;
 use crate::running::turn::{Cycle, turn};
@@ -26,28 +17,18 @@ pub fn wait<O: Sink>(
     moved: bool,
     out: &mut O,
 ) -> Result<(), RunFault>
-    requires came { (w : Watch) × (c : Config) × (events : List Event) × (made : List Input)
-        × (r : RunState) × (before : SinkState)
-        × Came w c events made r run.old chip.old before (O.state out.old) }
-    requires entered { entered_of chip.old < 2 ^ 63 }
-    requires cycles { run.old.cycles < 2 ^ 126 }
+    requires may { MayWait run.old chip.old (O.state out.old) }
     ensures ok { OnOk result
-        ((w : Watch) (c : Config) (events : List Event) (made : List Input) (r : RunState)
-        (before : SinkState) → Came w c events made r run.old chip.old before (O.state out.old) →
+        (EachCame run.old chip.old (O.state out.old) (λ w c made r before.
         Goes w c (made ++ replicate (waits r moved) Idle) run.new chip.new before
-        (O.state out.new)) }
+        (O.state out.new))) }
     ensures cut { IfErr result
-        (λ fault. (w : Watch) (c : Config) (events : List Event) (made : List Input) (r : RunState)
-        (before : SinkState) → Came w c events made r run.old chip.old before (O.state out.old) →
+        (λ fault. EachCame run.old chip.old (O.state out.old) (λ w c made r before.
         (count : ℕ) × (count ≤ waits r moved)
-        × Cut (lines_of w c (made ++ replicate count Idle)) before (O.state out.new) fault) }
+        × CutOff w c (made ++ replicate count Idle) before (O.state out.new) fault)) }
     ensures cycles { OnOk result (run.new.cycles ≤ run.old.cycles + 65536) }
     ensures spare { OnOk result (spare_of chip.old ≤ spare_of chip.new) }
-    ensures either { IfErr result
-        (λ fault. (fault ≡ RunFault.NoMemory) ⊎ (fault ≡ RunFault.Write)) }
-    ensures failed { IsErrOf result RunFault.Write →
-        PrintingFailed (O.state out.old) (O.state out.new) }
-    ensures only_printed { OnlyPrinted (O.state out.old) (O.state out.new) }
+    ensures prints { Prints (O.state out.old) (O.state out.new) result }
 {
     let latency = chip.latency();
     for _age in 0..latency {

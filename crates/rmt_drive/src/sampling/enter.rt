@@ -1,9 +1,7 @@
 //! Entering the packets of a text that lies in memory.
 
-ghost use Rattle.std.specs.Prelude.{◌≡◌, ◌<◌, ◌^◌, ◌∷◌, ◌++◌, List, [], Option, None, Some, Ok, OnOk, length, map};
-ghost use Rattle.rmt_bits.specs.Packet.{Packet};
-ghost use Rattle.rmt_chip.specs.Stands.{entered_of};
-ghost use Rattle.rmt_config.specs.declared.config.Config.{Config};
+ghost use Rattle.std.specs.Prelude.{◌≡◌, ◌<◌, ◌^◌, ◌∷◌, ◌++◌, List, [], Option, None, Some, Ok, OnOk};
+ghost use Rattle.rmt_drive.specs.Parts.{Config, Packet, entered_of};
 ghost use Rattle.rmt_config.specs.ChipRun.{inputs_of};
 ghost use Rattle.rmt_packets.specs.PacketText.{packet_of, packets_of};
 ghost use Rattle.rmt_drive.specs.Tallies.{IsBounded, StandsFor};
@@ -24,24 +22,6 @@ pub fn run_packets(alloc: Global, text: &[u8], run: &mut CountedRun) -> Result<(
         StandsFor c (inputs_of c (packets_of text.now).packets) run.new) }
     ensures bounded { OnOk result (IsBounded run.new.tally) }
 {
-    enter_all(alloc, text, run)?;
-    if run.cycles > 0 {
-        drain(run);
-    }
-    Ok(())
-}
-
-/// Enters the packets of a text.
-fn enter_all(alloc: Global, text: &[u8], run: &mut CountedRun) -> Result<(), AllocError>
-    requires good { (packets_of text.now).bad ≡ None }
-    requires stands { (c : Config) × StandsFor c [] run.old }
-    requires bounded { IsBounded run.old.tally }
-    ensures stands { OnOk result
-        ((c : Config) → StandsFor c [] run.old →
-        StandsFor c (map Some (packets_of text.now).packets) run.new) }
-    ensures few { OnOk result (length (packets_of text.now).packets < 2 ^ 63) }
-    ensures bounded { OnOk result (IsBounded run.new.tally) }
-{
     let mut frame = Vec::new(alloc);
     let mut at: usize = 0;
     let mut number: u64 = 1;
@@ -50,6 +30,10 @@ fn enter_all(alloc: Global, text: &[u8], run: &mut CountedRun) -> Result<(), All
         at = line.next;
         number = line.number + 1;
     }
+    if run.cycles == 0 {
+        return Ok(());
+    }
+    drain(run);
     Ok(())
 }
 

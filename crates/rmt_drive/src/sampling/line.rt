@@ -1,9 +1,8 @@
 //! The line of a sample.
 
 ghost use Rattle.std.specs.Prelude.{◌≡◌, ◌-◌, None, IfOk, length, map, string_bytes};
+ghost use Rattle.rmt_drive.specs.Parts.{Formed, IsWithinLimits};
 ghost use Rattle.rmt_config.specs.ChipRun.{cycles_of, outcomes_of};
-ghost use Rattle.rmt_config.specs.Form.{Formed};
-ghost use Rattle.rmt_config.specs.Limits.{IsWithinLimits};
 ghost use Rattle.rmt_packets.specs.PacketText.{packets_of};
 ghost use Rattle.rmt_refine.specs.RunsAs.{told_by_outcome};
 ghost use Rattle.rmt_drive.specs.SampleText.{answers_line, bytes_part, counts_line, packets_part};

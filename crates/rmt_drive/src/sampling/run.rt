@@ -1,12 +1,9 @@
 //! A run of the chip of which only counts are kept.
 
 ghost use Rattle.std.specs.Prelude.{◌<◌, ◌^◌, ◌+◌, ◌++◌, ◌∷◌, List, [], Option, None, length, replicate, IfOk};
-ghost use Rattle.rmt_bits.specs.Packet.{Packet};
+ghost use Rattle.rmt_drive.specs.Parts.{Config, Packet, entered_of, latency_of};
 ghost use Rattle.rmt_chip.specs.Inputs.{input_of, MayEnter};
 ghost use Rattle.rmt_chip.specs.PacketRuns.{StandsFor as Stands};
-ghost use Rattle.rmt_chip.specs.Stands.{entered_of};
-ghost use Rattle.rmt_config.specs.declared.config.Config.{Config};
-ghost use Rattle.rmt_config.specs.ChipRun.{latency_of};
 ghost use Rattle.rmt_drive.specs.Tallies.{IsBounded, StandsFor};
 
 use crate::sampling::tally::{Tally, count, no_answers};

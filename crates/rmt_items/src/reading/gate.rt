@@ -1,5 +1,7 @@
 //! Guards, and gates with their tests.
 
+#![tactic(auto, unfolding(crate::specs::Reading::guard_at, crate::specs::Reading::test_at, crate::specs::Reading::gate_at))]
+
 ghost use Rattle.std.specs.Prelude.{◌≡◌, ◌≤◌};
 ghost use Rattle.rmt_items.specs.Readers.{Gives, kept, listed, list_at, byte_at, number_at, at_least};
 ghost use Rattle.rmt_items.specs.Reading.{mask_is_even, guard_at, test_fits, test_at, gate_at};
@@ -20,7 +22,6 @@ fn outcomes_of(bytes: &[u8]) -> Read<u16>
 }
 
 /// The guard of a unit, or none.
-#[tactic(auto, unfolding(crate::specs::Reading::guard_at))]
 pub fn guard_of(bytes: &[u8]) -> Read<Option<UnitGuard>>
     ensures { Gives (λ x. (x.0, x.1.now)) result (guard_at bytes.now) }
 {
@@ -49,7 +50,6 @@ impl Item<()> for GateTest {
 
     ghost item_at = { λ _. test_at };
 
-    #[tactic(auto, unfolding(crate::specs::Reading::test_at))]
     fn read(_alloc: Global, _given: (), bytes: &[u8]) -> Read<GateTest> {
         let (lane, rest) = lane_of(bytes)?;
         let ((value, mask), rest) = fours_of(rest)?;
@@ -67,7 +67,6 @@ fn tests_of(alloc: Global, bytes: &[u8]) -> Read<Sequence<GateTest>>
 }
 
 /// A gate.
-#[tactic(auto, unfolding(crate::specs::Reading::gate_at))]
 pub fn gate_of(alloc: Global, bytes: &[u8]) -> Read<GateUnit>
     ensures { Gives (λ x. (x.0, x.1.now)) result (gate_at bytes.now) }
 {

@@ -1,5 +1,7 @@
 //! Headers.
 
+#![tactic(auto, unfolding(crate::specs::Reading::header_at, crate::specs::Reading::headers_at))]
+
 ghost use Rattle.std.specs.Prelude.{◌≡◌};
 ghost use Rattle.rmt_items.specs.Readers.{Gives, kept, listed, list_at, byte_at};
 ghost use Rattle.rmt_items.specs.Reading.{lanes_at, header_size_fits, header_at, headers_at};
@@ -25,7 +27,6 @@ impl Item<()> for OutHeader {
 
     ghost item_at = { λ _. header_at };
 
-    #[tactic(auto, unfolding(crate::specs::Reading::header_at))]
     fn read(alloc: Global, _given: (), bytes: &[u8]) -> Read<OutHeader> {
         let (valid, rest) = lane_of_bits(1, bytes)?;
         let (bytes, rest) = size_of(rest)?;
@@ -41,7 +42,6 @@ impl Item<()> for OutHeader {
 }
 
 /// The headers behind their count, at most 64.
-#[tactic(auto, unfolding(crate::specs::Reading::headers_at))]
 pub fn headers_of(alloc: Global, bytes: &[u8]) -> Read<Sequence<OutHeader>>
     ensures read { Gives (λ x. (x.0, x.1.now)) result (headers_at bytes.now) }
 {

@@ -1,5 +1,7 @@
 //! Lanes.
 
+#![tactic(auto, unfolding(crate::specs::Reading::word_at, crate::specs::Reading::lane_from_at, crate::specs::Reading::lane_at, crate::specs::Reading::lane_of_at))]
+
 ghost use Rattle.rmt_items.specs.Readers.{Gives};
 ghost use Rattle.rmt_items.specs.Reading.{word_at, lane_from_at, lane_at, lane_of_at};
 ghost use Rattle.std.specs.Prelude.{◌≡◌, ◌≤◌, ◌<◌, IfOk};
@@ -12,7 +14,6 @@ use rmt_config::form::lane::lane_fits;
 use std::alloc::Global;
 
 /// A word of the vector, from that one on.
-#[tactic(auto, unfolding(crate::specs::Reading::word_at))]
 pub fn word_of(least: u32, bytes: &[u8]) -> Read<u8>
     ensures there { IfOk result (λ x. x.0 < 224) }
     ensures read { Gives (λ x. (x.0, x.1.now)) result (word_at least bytes.now) }
@@ -22,7 +23,6 @@ pub fn word_of(least: u32, bytes: &[u8]) -> Read<u8>
 }
 
 /// A lane whose word is at least that one.
-#[tactic(auto, unfolding(crate::specs::Reading::lane_from_at))]
 pub fn lane_from(least: u32, bytes: &[u8]) -> Read<Lane>
     ensures read { Gives (λ x. (x.0, x.1.now)) result (lane_from_at least bytes.now) }
     ensures narrow { IfOk result (λ x. x.0.len ≤ 32) }
@@ -35,7 +35,6 @@ pub fn lane_from(least: u32, bytes: &[u8]) -> Read<Lane>
 }
 
 /// A lane.
-#[tactic(auto, unfolding(crate::specs::Reading::lane_at))]
 pub fn lane_of(bytes: &[u8]) -> Read<Lane>
     ensures read { Gives (λ x. (x.0, x.1.now)) result (lane_at bytes.now) }
     ensures narrow { IfOk result (λ x. x.0.len ≤ 32) }
@@ -44,7 +43,6 @@ pub fn lane_of(bytes: &[u8]) -> Read<Lane>
 }
 
 /// A lane of that many bits.
-#[tactic(auto, unfolding(crate::specs::Reading::lane_of_at))]
 pub fn lane_of_bits(len: u8, bytes: &[u8]) -> Read<Lane>
     ensures read { Gives (λ x. (x.0, x.1.now)) result (lane_of_at len bytes.now) }
 {

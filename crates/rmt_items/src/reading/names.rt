@@ -1,5 +1,7 @@
 //! Names, by their grammar alone: whether they keep the rules on names is looked at when all is read.
 
+#![tactic(auto, unfolding(crate::specs::ReadingNames::bytes_at, crate::specs::ReadingNames::name_at, crate::specs::ReadingNames::action_at, crate::specs::ReadingNames::rank_at, crate::specs::ReadingNames::table_kind_at, crate::specs::ReadingNames::table_at, crate::specs::ReadingNames::names_at))]
+
 ghost use Rattle.std.specs.Prelude.{◌≡◌};
 ghost use Rattle.rmt_items.specs.Readers.{Gives, listed, byte_at, number_at};
 ghost use Rattle.rmt_items.specs.ReadingNames.{bytes_at, name_at, action_at, rank_at, table_kind_at, ranks_at, table_at, names_at};
@@ -16,7 +18,6 @@ use std::alloc::Global;
 // ---- bytes
 
 /// That many bytes as they stand. Memory is taken only where they are all there.
-#[tactic(auto, unfolding(crate::specs::ReadingNames::bytes_at))]
 fn bytes_of(alloc: Global, count: usize, bytes: &[u8]) -> Read<Vec<u8>>
     ensures { Gives (λ x. (x.0.items, x.1.now)) result (bytes_at count bytes.now) }
 {
@@ -29,7 +30,6 @@ fn bytes_of(alloc: Global, count: usize, bytes: &[u8]) -> Read<Vec<u8>>
 }
 
 /// A name behind its length.
-#[tactic(auto, unfolding(crate::specs::ReadingNames::name_at))]
 fn name_of(alloc: Global, bytes: &[u8]) -> Read<Name>
     ensures { Gives (λ x. (x.0, x.1.now)) result (name_at bytes.now) }
 {
@@ -63,7 +63,6 @@ impl Item<()> for ActionName {
 
     ghost item_at = { λ _. action_at };
 
-    #[tactic(auto, unfolding(crate::specs::ReadingNames::action_at))]
     fn read(alloc: Global, _given: (), bytes: &[u8]) -> Read<ActionName> {
         let (name, rest) = name_of(alloc, bytes)?;
         let (params, rest) = params_of(alloc, rest)?;
@@ -76,14 +75,12 @@ impl Item<()> for RankOf {
 
     ghost item_at = { λ _. rank_at };
 
-    #[tactic(auto, unfolding(crate::specs::ReadingNames::rank_at))]
     fn read(_alloc: Global, _given: (), bytes: &[u8]) -> Read<RankOf> {
         let ((number, rank), rest) = fours_of(bytes)?;
         Ok((RankOf { number, rank }, rest))
     }
 }
 
-#[tactic(auto, unfolding(crate::specs::ReadingNames::table_kind_at))]
 fn kind_of(bytes: &[u8]) -> Read<Kind>
     ensures { Gives (λ x. (x.0, x.1.now)) result (table_kind_at bytes.now) }
 {
@@ -114,7 +111,6 @@ impl Item<()> for TableName {
 
     ghost item_at = { λ _. table_at };
 
-    #[tactic(auto, unfolding(crate::specs::ReadingNames::table_at))]
     fn read(alloc: Global, _given: (), bytes: &[u8]) -> Read<TableName> {
         let (node, rest) = byte_of(bytes)?;
         let (name, rest) = name_of(alloc, rest)?;
@@ -137,7 +133,6 @@ impl Item<()> for TableName {
 }
 
 /// The names of tables behind their count.
-#[tactic(auto, unfolding(crate::specs::ReadingNames::names_at))]
 pub fn names_of(alloc: Global, bytes: &[u8]) -> Read<Names>
     ensures read { Gives (λ x. (x.0, x.1.now)) result (names_at bytes.now) }
 {

@@ -1,5 +1,7 @@
 //! Numbers at the front of an image's bytes, highest byte first.
 
+#![tactic(auto, unfolding(crate::specs::Readers::byte_at, crate::specs::Readers::number_at, crate::specs::Readers::fours_at, crate::specs::Readers::flag_at))]
+
 ghost use Rattle.std.specs.Prelude.{◌≡◌, ◌≤◌, ◌<◌, ◌*◌, ◌^◌, length, IfOk};
 ghost use Rattle.rmt_bits.specs.Bits.{number_of};
 ghost use Rattle.rmt_items.specs.Readers.{Gives, give, where_, byte_at, number_at, fours_at, flag_at};
@@ -18,7 +20,6 @@ pub fn kept<T: Drop>(passes: bool, item: T, rest: &[u8]) -> Read<T>
 }
 
 /// A byte.
-#[tactic(auto, unfolding(crate::specs::Readers::byte_at))]
 pub fn byte_of(bytes: &[u8]) -> Read<u8>
     ensures read { Gives (λ x. (x.0, x.1.now)) result (byte_at bytes.now) }
 {
@@ -42,7 +43,6 @@ fn number(bytes: &[u8]) -> u128
 }
 
 /// The number that the first `count` bytes are, at most 14.
-#[tactic(auto, unfolding(crate::specs::Readers::number_at))]
 pub fn number_from(count: usize, bytes: &[u8]) -> Read<u128>
     requires { count ≤ 14 }
     ensures read { Gives (λ x. (x.0, x.1.now)) result (number_at count bytes.now) }
@@ -72,7 +72,6 @@ pub fn four_of(bytes: &[u8]) -> Read<u32>
 }
 
 /// Two numbers of four bytes, one behind the other.
-#[tactic(auto, unfolding(crate::specs::Readers::fours_at))]
 pub fn fours_of(bytes: &[u8]) -> Read<(u32, u32)>
     ensures read { Gives (λ x. (x.0, x.1.now)) result (fours_at bytes.now) }
 {
@@ -82,7 +81,6 @@ pub fn fours_of(bytes: &[u8]) -> Read<(u32, u32)>
 }
 
 /// A byte that is 0 or 1.
-#[tactic(auto, unfolding(crate::specs::Readers::flag_at))]
 pub fn flag_of(bytes: &[u8]) -> Read<bool>
     ensures read { Gives (λ x. (x.0, x.1.now)) result (flag_at bytes.now) }
 {

@@ -1,5 +1,7 @@
 //! The parser: its states with their lookups, and its entries.
 
+#![tactic(auto, unfolding(crate::specs::Reading::offset_at, crate::specs::Reading::state_at, crate::specs::Reading::states_at, crate::specs::Reading::entry_state_at, crate::specs::Reading::match_at, crate::specs::Reading::need_at, crate::specs::Reading::entry_head_at, crate::specs::Reading::later_state_at, crate::specs::Reading::next_at, crate::specs::Reading::bits_at, crate::specs::Reading::extract_at, crate::specs::Reading::entry_at, crate::specs::Reading::parser_at))]
+
 ghost use Rattle.std.specs.Prelude.{◌≡◌, ◌-◌, ◌*◌, ◌<◌, ◌^◌};
 ghost use Rattle.rmt_items.specs.Readers.{Gives, kept, listed, list_at, items_at, byte_at, number_at};
 ghost use Rattle.rmt_items.specs.Reading.{offset_at, one_more, state_at, states_at, entry_state_at, match_fits, match_at, need_at, later_state_at, next_at, bits_at, extract_at, entry_head_at, entry_at, state_of, parser_at};
@@ -28,7 +30,6 @@ impl InOrder for Offsets {
 
     ghost after = { λ _. one_more };
 
-    #[tactic(auto, unfolding(crate::specs::Reading::offset_at))]
     fn item<'a>(&self, _alloc: Global, least: u32, bytes: &'a [u8]) -> Read<'a, u8> {
         let (offset, rest) = byte_of(bytes)?;
         kept(offset < 128 && least <= offset as u32, offset, rest)
@@ -44,7 +45,6 @@ impl Item<()> for ParserState {
 
     ghost item_at = { λ _. state_at };
 
-    #[tactic(auto, unfolding(crate::specs::Reading::state_at))]
     fn read(alloc: Global, _given: (), bytes: &[u8]) -> Read<ParserState> {
         let (count, rest) = byte_of(bytes)?;
         let (lookups, rest) = items_of(alloc, &Offsets, count as u64, rest)?;
@@ -52,7 +52,6 @@ impl Item<()> for ParserState {
     }
 }
 
-#[tactic(auto, unfolding(crate::specs::Reading::states_at))]
 fn states_of(alloc: Global, bytes: &[u8]) -> Read<Sequence<ParserState>>
     ensures { Gives (λ x. (x.0, x.1.now)) result (states_at bytes.now) }
 {
@@ -63,7 +62,6 @@ fn states_of(alloc: Global, bytes: &[u8]) -> Read<Sequence<ParserState>>
 
 // ---- when an entry is taken
 
-#[tactic(auto, unfolding(crate::specs::Reading::entry_state_at))]
 fn entry_state_of(states: usize, least: u32, bytes: &[u8]) -> Read<u8>
     ensures { Gives (λ x. (x.0, x.1.now)) result (entry_state_at states least bytes.now) }
 {
@@ -106,7 +104,6 @@ fn is_match(lookups: usize, value: u32, mask: u32) -> bool
     value & mask == value && mask as u64 % absent_bits(lookups) == 0
 }
 
-#[tactic(auto, unfolding(crate::specs::Reading::match_at))]
 fn match_of(lookups: usize, bytes: &[u8]) -> Read<(u32, u32)>
     ensures { Gives (λ x. (x.0, x.1.now)) result (match_at lookups bytes.now) }
 {
@@ -114,7 +111,6 @@ fn match_of(lookups: usize, bytes: &[u8]) -> Read<(u32, u32)>
     kept(is_match(lookups, value, mask), (value, mask), rest)
 }
 
-#[tactic(auto, unfolding(crate::specs::Reading::need_at))]
 fn need_of(bytes: &[u8]) -> Read<(u8, u8)>
     ensures { Gives (λ x. (x.0, x.1.now)) result (need_at bytes.now) }
 {
@@ -133,7 +129,6 @@ struct EntryHead {
     advance: u8,
 }
 
-#[tactic(auto, unfolding(crate::specs::Reading::entry_head_at))]
 fn entry_head_of<'a>(states: &[ParserState], least: u32, bytes: &'a [u8]) -> Read<'a, EntryHead>
     ensures { Gives (λ x. (x.0, x.1.now)) result (entry_head_at states.now least bytes.now) }
 {
@@ -152,7 +147,6 @@ fn entry_head_of<'a>(states: &[ParserState], least: u32, bytes: &'a [u8]) -> Rea
 
 // ---- what an entry does
 
-#[tactic(auto, unfolding(crate::specs::Reading::later_state_at))]
 fn later_state_of(states: usize, state: u8, bytes: &[u8]) -> Read<u8>
     ensures { Gives (λ x. (x.0, x.1.now)) result (later_state_at states state bytes.now) }
 {
@@ -160,7 +154,6 @@ fn later_state_of(states: usize, state: u8, bytes: &[u8]) -> Read<u8>
     kept((to as usize) < states && state < to, to, rest)
 }
 
-#[tactic(auto, unfolding(crate::specs::Reading::next_at))]
 fn next_of(states: usize, state: u8, bytes: &[u8]) -> Read<Next>
     ensures { Gives (λ x. (x.0, x.1.now)) result (next_at states state bytes.now) }
 {
@@ -176,7 +169,6 @@ fn next_of(states: usize, state: u8, bytes: &[u8]) -> Read<Next>
     }
 }
 
-#[tactic(auto, unfolding(crate::specs::Reading::bits_at))]
 fn bits_of(need: u8, bytes: &[u8]) -> Read<(u16, Lane)>
     ensures { Gives (λ x. (x.0, x.1.now)) result (bits_at need bytes.now) }
 {
@@ -195,7 +187,6 @@ impl Item<u8> for Extract {
 
     ghost item_at = { extract_at };
 
-    #[tactic(auto, unfolding(crate::specs::Reading::extract_at))]
     fn read(_alloc: Global, need: u8, bytes: &[u8]) -> Read<Extract> {
         match bytes {
             [] => Err(ReadError::Fault(ReadFault::Short)),
@@ -228,7 +219,6 @@ impl<'s> InOrder for Entries<'s> {
 
     ghost after = { λ _. state_of };
 
-    #[tactic(auto, unfolding(crate::specs::Reading::entry_at))]
     fn item<'a>(&self, alloc: Global, least: u32, bytes: &'a [u8]) -> Read<'a, ParserEntry> {
         let (head, rest) = entry_head_of(self.states, least, bytes)?;
         let (next, rest) = next_of(self.states.len(), head.state, rest)?;
@@ -262,7 +252,6 @@ fn entries_of<'a>(
 }
 
 /// The states behind their count, and the entries behind theirs.
-#[tactic(auto, unfolding(crate::specs::Reading::parser_at))]
 pub fn parser_of(alloc: Global, bytes: &[u8]) -> Read<ParserConfig>
     ensures read { Gives (λ x. (x.0, x.1.now)) result (parser_at bytes.now) }
 {

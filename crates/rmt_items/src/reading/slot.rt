@@ -1,5 +1,7 @@
 //! Slots, and the units of a stage.
 
+#![tactic(auto, unfolding(crate::specs::Reading::marks_at, crate::specs::Reading::slot_head_at, crate::specs::Reading::cell_number_at, crate::specs::Reading::numbers_at, crate::specs::Reading::slot_at, crate::specs::Reading::unit_at))]
+
 ghost use Rattle.std.specs.Prelude.{◌≡◌, ◌<◌, length, IfOk};
 ghost use Rattle.rmt_config.specs.declared.config.Memory.{Memory};
 ghost use Rattle.rmt_items.specs.Readers.{Gives, kept, listed, list_at, byte_at, number_at, at_most};
@@ -31,7 +33,6 @@ struct Marks {
     last: bool,
 }
 
-#[tactic(auto, unfolding(crate::specs::Reading::marks_at))]
 fn marks_of(bytes: &[u8]) -> Read<Marks>
     ensures { Gives (λ x. (x.0, x.1.now)) result (marks_at bytes.now) }
 {
@@ -46,7 +47,6 @@ fn marks_of(bytes: &[u8]) -> Read<Marks>
     Ok((marks, rest))
 }
 
-#[tactic(auto, unfolding(crate::specs::Reading::slot_head_at))]
 fn slot_head_of(alloc: Global, bytes: &[u8]) -> Read<SlotUnit>
     ensures read { Gives (λ x. (x.0, x.1.now)) result (slot_head_at bytes.now) }
     ensures few { IfOk result (λ x. length x.0.keys < 65536) }
@@ -77,7 +77,6 @@ impl Item<()> for CellNumber {
 
     ghost item_at = { λ _. cell_number_at };
 
-    #[tactic(auto, unfolding(crate::specs::Reading::cell_number_at))]
     fn read(_alloc: Global, _given: (), bytes: &[u8]) -> Read<CellNumber> {
         let ((cell, number), rest) = fours_of(bytes)?;
         Ok((CellNumber { cell, number }, rest))
@@ -94,7 +93,6 @@ fn is_count_allowed(memory: &Memory, count: u32) -> bool
     }
 }
 
-#[tactic(auto, unfolding(crate::specs::Reading::numbers_at))]
 fn numbers_of<'a>(alloc: Global, memory: &Memory, bytes: &'a [u8]) -> Read<'a, Sequence<CellNumber>>
     ensures { Gives (λ x. (x.0, x.1.now)) result (numbers_at memory.now bytes.now) }
 {
@@ -105,7 +103,6 @@ fn numbers_of<'a>(alloc: Global, memory: &Memory, bytes: &'a [u8]) -> Read<'a, S
 
 // ---- units
 
-#[tactic(auto, unfolding(crate::specs::Reading::slot_at))]
 fn slot_of(alloc: Global, bytes: &[u8]) -> Read<SlotUnit>
     ensures { Gives (λ x. (x.0, x.1.now)) result (slot_at bytes.now) }
 {
@@ -122,7 +119,6 @@ impl Item<()> for Unit {
 
     ghost item_at = { λ _. unit_at };
 
-    #[tactic(auto, unfolding(crate::specs::Reading::unit_at))]
     fn read(alloc: Global, _given: (), bytes: &[u8]) -> Read<Unit> {
         match bytes {
             [] => Err(ReadError::Fault(ReadFault::Short)),

@@ -1,5 +1,7 @@
 //! Stages, with their rows of memory.
 
+#![tactic(auto, unfolding(crate::specs::Reading::srow_at, crate::specs::Reading::trow_at, crate::specs::Reading::stage_head_at, crate::specs::Reading::stage_at, crate::specs::Reading::stage_tail_at))]
+
 ghost use Rattle.std.specs.Prelude.{◌≡◌};
 ghost use Rattle.rmt_items.specs.Readers.{Gives, kept, listed, list_at, items_at, byte_at, number_at};
 ghost use Rattle.rmt_items.specs.Reading.{srow_at, trow_at, start_fits, stage_head_at, stage_tail_at, stage_at, next_start};
@@ -21,7 +23,6 @@ impl Item<()> for SramRow {
 
     ghost item_at = { λ _. srow_at };
 
-    #[tactic(auto, unfolding(crate::specs::Reading::srow_at))]
     fn read(_alloc: Global, _given: (), bytes: &[u8]) -> Read<SramRow> {
         let (block, rest) = block_of(106, bytes)?;
         let (row, rest) = two_of(rest)?;
@@ -35,7 +36,6 @@ impl Item<()> for TcamRow {
 
     ghost item_at = { λ _. trow_at };
 
-    #[tactic(auto, unfolding(crate::specs::Reading::trow_at))]
     fn read(_alloc: Global, _given: (), bytes: &[u8]) -> Read<TcamRow> {
         let (block, rest) = block_of(16, bytes)?;
         let (row, rest) = two_of(rest)?;
@@ -65,7 +65,6 @@ fn start_of(least: u32, bytes: &[u8]) -> Read<u16>
     kept(fits, start, rest)
 }
 
-#[tactic(auto, unfolding(crate::specs::Reading::stage_head_at))]
 fn stage_head_of(alloc: Global, least: u32, bytes: &[u8]) -> Read<(u16, Sequence<Unit>)>
     ensures { Gives (λ x. ((x.0.0, x.0.1), x.1.now)) result (stage_head_at least bytes.now) }
 {
@@ -86,7 +85,6 @@ impl InOrder for Stages {
 
     ghost after = { λ _. next_start };
 
-    #[tactic(auto, unfolding(crate::specs::Reading::stage_at, crate::specs::Reading::stage_tail_at))]
     fn item<'a>(&self, alloc: Global, least: u32, bytes: &'a [u8]) -> Read<'a, Stage> {
         let ((start, units), rest) = stage_head_of(alloc, least, bytes)?;
         let (code, rest) = code_of(alloc, units.as_slice(), rest)?;

@@ -1,5 +1,7 @@
 //! Tails of the parser's entries, each rule as soon as the last number that it speaks of is read.
 
+#![tactic(auto, unfolding(crate::specs::ReadingTails::tail_entry_at, crate::specs::ReadingTails::field_at, crate::specs::ReadingTails::lengths_at, crate::specs::ReadingTails::tail_at, crate::specs::ReadingTails::tails_at))]
+
 ghost use Rattle.std.specs.Prelude.{◌≡◌, ◌≤◌, slice_get, IfOk};
 ghost use Rattle.rmt_items.specs.Readers.{Gives, kept, below, byte_at};
 ghost use Rattle.rmt_items.specs.ReadingTails.{may_have_tail, need_of, tail_entry_at, field_at, lengths_fit, lengths_at, tail_at, next_entry, tails_at};
@@ -31,7 +33,6 @@ fn need(entries: &[ParserEntry], entry: u16) -> u8
     }
 }
 
-#[tactic(auto, unfolding(crate::specs::ReadingTails::tail_entry_at))]
 fn tail_entry_of<'a>(entries: &[ParserEntry], least: u32, bytes: &'a [u8]) -> Read<'a, u16>
     ensures { Gives (λ x. (x.0, x.1.now)) result (tail_entry_at entries.now least bytes.now) }
 {
@@ -51,7 +52,6 @@ fn header_of(headers: usize, bytes: &[u8]) -> Read<u8>
 }
 
 /// The first bit and the bits of the field that tells a tail's length.
-#[tactic(auto, unfolding(crate::specs::ReadingTails::field_at))]
 fn field_of(need: u8, bytes: &[u8]) -> Read<(u16, u8)>
     ensures few { IfOk result (λ x. x.0.1 ≤ 8) }
     ensures read { Gives (λ x. (x.0, x.1.now)) result (field_at need bytes.now) }
@@ -72,7 +72,6 @@ fn is_length(len: u8, unit: u8, base: u8) -> bool
 }
 
 /// The unit and the base of lengths, which a field of `len` bits tells.
-#[tactic(auto, unfolding(crate::specs::ReadingTails::lengths_at))]
 fn lengths_of(len: u8, bytes: &[u8]) -> Read<(u8, u8)>
     requires { len ≤ 8 }
     ensures { Gives (λ x. (x.0, x.1.now)) result (lengths_at len bytes.now) }
@@ -99,7 +98,6 @@ impl<'s> InOrder for TailsOf<'s> {
 
     ghost after = { λ _. next_entry };
 
-    #[tactic(auto, unfolding(crate::specs::ReadingTails::tail_at))]
     fn item<'a>(&self, _alloc: Global, least: u32, bytes: &'a [u8]) -> Read<'a, TailOf> {
         let (entry, rest) = tail_entry_of(self.entries, least, bytes)?;
         let (header, rest) = header_of(self.headers, rest)?;
@@ -122,7 +120,6 @@ impl<'s> InOrder for TailsOf<'s> {
 }
 
 /// At least one tail, behind their count.
-#[tactic(auto, unfolding(crate::specs::ReadingTails::tails_at))]
 pub fn tails_of<'a>(
     alloc: Global,
     entries: &[ParserEntry],

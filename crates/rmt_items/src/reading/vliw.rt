@@ -1,5 +1,7 @@
 //! Instructions, each at its place in a slot.
 
+#![tactic(auto, unfolding(crate::specs::Reading::source_at, crate::specs::Reading::kind_at, crate::specs::Reading::operation_at, crate::specs::Reading::vliw_at))]
+
 ghost use Rattle.std.specs.Prelude.{◌≡◌, ◌≤◌, ◌<◌, ◌^◌, ◌++◌, OnOk, IfOk};
 ghost use Rattle.rmt_config.specs.CodeForm.{slot_places, places_of};
 ghost use Rattle.rmt_items.specs.Readers.{Gives, kept, where_, each, items_at, byte_at, number_at, below};
@@ -41,7 +43,6 @@ fn constant_of(len: u8, bytes: &[u8]) -> Read<u32>
 }
 
 /// A source of `len` bits, at most 32, of an instruction at a place.
-#[tactic(auto, unfolding(crate::specs::Reading::source_at))]
 fn source_of(place: InstructionRole, len: u8, bytes: &[u8]) -> Read<Source>
     requires { len ≤ 32 }
     ensures { Gives (λ x. (x.0, x.1.now)) result (source_at place len bytes.now) }
@@ -68,7 +69,6 @@ fn source_of(place: InstructionRole, len: u8, bytes: &[u8]) -> Read<Source>
     }
 }
 
-#[tactic(auto, unfolding(crate::specs::Reading::kind_at))]
 fn kind_of(bytes: &[u8]) -> Read<OpKind>
     ensures { Gives (λ x. (x.0, x.1.now)) result (kind_at bytes.now) }
 {
@@ -100,7 +100,6 @@ impl InOrder for Operations {
 
     ghost after = { λ _. next_word };
 
-    #[tactic(auto, unfolding(crate::specs::Reading::operation_at))]
     fn item<'a>(&self, _alloc: Global, least: u32, bytes: &'a [u8]) -> Read<'a, Operation> {
         let (lane, rest) = lane_from(least, bytes)?;
         let (kind, rest) = kind_of(rest)?;
@@ -122,7 +121,6 @@ impl InOrder for Operations {
     }
 }
 
-#[tactic(auto, unfolding(crate::specs::Reading::vliw_at))]
 fn vliw_of(alloc: Global, place: InstructionRole, bytes: &[u8]) -> Read<Vliw>
     ensures { Gives (λ x. (x.0, x.1.now)) result (vliw_at place bytes.now) }
 {

@@ -1,12 +1,11 @@
 //! One entry of the parser.
 
-ghost use Rattle.std.specs.Prelude.{◌≡◌, ◌+◌, ◌*◌, ◌<◌, ◌≤◌, ◌^◌, ℕ, List, length, IfSome, Some};
-ghost use Rattle.rmt_config.specs.declared.config.TailOf.{TailOf};
+ghost use Rattle.std.specs.Prelude.{◌≡◌, ◌+◌, ◌*◌, ◌<◌, ◌≤◌, ◌^◌, ℕ, List, length, Some};
 ghost use Rattle.rmt_config.specs.declared.tails.TailAt.{TailAt};
 ghost use Rattle.rmt_config.specs.Parser.{Parse, Reached, step as step_of, follow as follow_of, past_tail as past_tail_of, tail_length as tail_length_of};
 ghost use Rattle.rmt_bits.specs.Bits.{bits_of_bytes as bits_of};
-ghost use Rattle.rmt_ptcam.specs.Parsing.{standing, StepGives, StaysWithin};
-ghost use Rattle.rmt_ptcam.specs.Fitting.{IsEntry};
+ghost use Rattle.rmt_ptcam.specs.Parsing.{StandsIn, standing, StepGives, StaysWithin};
+ghost use Rattle.rmt_ptcam.specs.Fitting.{IsEntryWith};
 
 use crate::parse::extract::extract_all;
 use rmt_bits::bits::bits_of_bytes;
@@ -82,12 +81,8 @@ pub fn take_entry(
     vector: &mut Vector,
     tails: &mut Tails,
 ) -> Step
-    requires near { cursor ≤ length frame.now }
-    requires short { length frame.now ≤ 9216 }
-    requires fits { IsEntry entry.now }
-    requires header { IfSome tail (λ (t : TailOf). t.header < 64) }
-    requires few_bits { IfSome tail (λ (t : TailOf). t.len ≤ 8) }
-    requires within { IfSome tail (λ (t : TailOf). t.from + t.len ≤ 8 * entry.now.need) }
+    requires stands { StandsIn cursor frame.now }
+    requires fits { IsEntryWith entry.now tail }
     ensures step { (goes : ℕ → Reached → Parse) →
         StepGives goes (step_of goes frame.now tail (Some entry.now) (standing vector.old tails.old cursor)) result vector.new tails.new }
     ensures within { StaysWithin (length frame.now) result }

@@ -53,29 +53,6 @@ fn entry_for(
     })
 }
 
-/// Adds an entry for each case of a header.
-fn push_cases(
-    alloc: Global,
-    entries: &mut Sequence<ParserEntry>,
-    program: &Program,
-    places: &Places,
-    number: u8,
-    header: &Header,
-    state: &ParserState,
-) -> Result<(), AllocError>
-    requires program { IsProgram program.now }
-    requires header { IsHeader program.now number header.now }
-    requires short { bits_of_lanes (high_first places.now header.now.fields) ≤ 512 }
-    requires state { state.now ≡ state_of program.now header.now }
-    ensures { OnOk result (entries.new ≡ entries.old ++ map (entry_of_case program.now places.now number header.now) header.now.cases) }
-{
-    for case in header.cases.as_slice() {
-        let compared = compared_in(alloc, program, header, state, case.tests.as_slice())?;
-        entries.push(entry_for(alloc, places, number, header, compared, case.target)?)?;
-    }
-    Ok(())
-}
-
 /// Adds the entries of a header: those of its cases, and then that of all other packets.
 pub fn push_entries(
     alloc: Global,
@@ -92,7 +69,10 @@ pub fn push_entries(
     requires state { state.now ≡ state_of program.now header.now }
     ensures { OnOk result (entries.new ≡ entries.old ++ entries_of program.now places.now number header.now) }
 {
-    push_cases(alloc, entries, program, places, number, header, state)?;
+    for case in header.cases.as_slice() {
+        let compared = compared_in(alloc, program, header, state, case.tests.as_slice())?;
+        entries.push(entry_for(alloc, places, number, header, compared, case.target)?)?;
+    }
     let all = Compared { value: 0, mask: 0 };
     entries.push(entry_for(alloc, places, number, header, all, header.other)?)?;
     Ok(())

@@ -2,15 +2,11 @@
 
 ghost use Rattle.std.specs.Prelude.{◌≡◌, ◌++◌, ◌∷◌, [], IfOk, IsSome, List, None, OnOk};
 ghost use Rattle.std.specs.List.{AllZip};
-ghost use Rattle.rmt_ast.specs.declared.entry.Entry.{Entry as EntryOf};
-ghost use Rattle.rmt_config.specs.RunCells.{RunCells};
-ghost use Rattle.rmt_config.specs.declared.config.Config.{Config as ConfigOf};
+ghost use Rattle.rmt_update.specs.Types.{BookSpot as SpotOf, Config as ConfigOf, Entry as EntryOf, Kept as KeptOf, RunCells};
 ghost use Rattle.rmt_update.specs.BookIndex.{AreApart, IsBookIndex};
 ghost use Rattle.rmt_update.specs.BookStands.{BookStands};
 ghost use Rattle.rmt_update.specs.IndexCells.{HasGathered, all_cells, part_cells, table_cells};
 ghost use Rattle.rmt_update.specs.RowIndex.{IsIndex, never};
-ghost use Rattle.rmt_book.specs.declared.kept.Kept.{Kept as KeptOf};
-ghost use Rattle.rmt_book.specs.declared.spot.BookSpot.{BookSpot as SpotOf};
 
 use crate::book::Book;
 use crate::book::index::{TableIndex, index_of};

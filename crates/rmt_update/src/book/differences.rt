@@ -8,8 +8,7 @@ ghost use Rattle.std.specs.declared.vec.Vec.{Vec as VecOf};
 ghost use Rattle.rmt_update.specs.Changing.{ChangeKey};
 ghost use Rattle.rmt_update.specs.Differences.{AllPut, AreDifferences, AreMore, AreSome, CanChange, Goal, IsGoal, Puts, all_pairs, change_in, changes_in, is_exact, write_at};
 ghost use Rattle.rmt_update.specs.declared.book.changing.CellChange.{CellChange as ChangeOf};
-ghost use Rattle.rmt_book.specs.declared.kept.Kept.{Kept as KeptOf};
-ghost use Rattle.rmt_book.specs.declared.table.PartCells.{PartCells as PartOf};
+ghost use Rattle.rmt_update.specs.Types.{Kept as KeptOf, PartCells as PartOf};
 
 use crate::book::changing::{CellChanges, in_order, put_empty, put_kept};
 use crate::book::same::is_same_kept;

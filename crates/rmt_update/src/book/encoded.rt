@@ -4,9 +4,8 @@ ghost use Rattle.std.specs.Prelude.{◌≡◌, slice_index, ℕ, ◌+◌, ◌*�
 ghost use Rattle.std.specs.List.{AllZip};
 ghost use Rattle.rmt_bits.specs.Bits.{number_of};
 ghost use Rattle.rmt_ast.specs.WellFormed.{Fits, IsTest};
-ghost use Rattle.rmt_config.specs.Rooms.{args_as_one, tests_as_one};
 ghost use Rattle.rmt_config.specs.BlockCounts.{divided_up as divided_up_of};
-ghost use Rattle.rmt_config.specs.Rooms.{mask_or_value};
+ghost use Rattle.rmt_config.specs.Rooms.{args_as_one, mask_or_value, tests_as_one};
 
 use rmt_ast::program::Test;
 use rmt_bits::bits::bytes_of_bits;
@@ -17,11 +16,7 @@ fn width_sum(widths: &[u8]) -> u32
     requires { sum widths.now < 2 ^ 32 }
     ensures { result ≡ sum widths.now }
 {
-    let mut sum = 0;
-    for width in widths {
-        sum += *width as u32;
-    }
-    sum
+    widths.iter().map(|width| *width as u32).sum()
 }
 
 /// How many bytes hold so many bits.

@@ -5,9 +5,8 @@ ghost use Rattle.std.specs.BTreeMap.{get};
 ghost use Rattle.std.specs.Ordering.{nat_cmp};
 ghost use Rattle.rmt_book.specs.BookSpots.{kept_at};
 ghost use Rattle.rmt_update.specs.Turning.{HaveCells, IsSpotIn, LeadBack, PartWith, PartsWith, TablesWith, cell_at, come_to, turn_to};
-ghost use Rattle.rmt_book.specs.declared.kept.Kept.{Kept as KeptOf};
+ghost use Rattle.rmt_update.specs.Types.{Kept as KeptOf, TableCells as TableOf};
 ghost use Rattle.rmt_update.specs.declared.book.placing.Coming.{Coming as ComingOf};
-ghost use Rattle.rmt_book.specs.declared.table.TableCells.{TableCells as TableOf};
 
 use crate::book::placing::Coming;
 use crate::book::turning::{CellTurn, Turn, turn_all, turn_cell};

@@ -7,8 +7,7 @@ ghost use Rattle.rmt_book.specs.BookSpots.{kept_at as kept_at_of};
 ghost use Rattle.rmt_update.specs.RowIndex.{IsIndex, IsRowGone, kept_key, never, or_is};
 ghost use Rattle.rmt_lists.specs.Running.{is_among};
 ghost use Rattle.rmt_update.specs.Turning.{IsSpotIn};
-ghost use Rattle.rmt_book.specs.declared.kept.Kept.{Kept as KeptOf};
-ghost use Rattle.rmt_book.specs.declared.table.TableCells.{TableCells as TableOf};
+ghost use Rattle.rmt_update.specs.Types.{Kept as KeptOf, TableCells as TableOf};
 
 use crate::book::book_index::BookIndex;
 use crate::book::index::TableIndex;

@@ -8,8 +8,7 @@ ghost use Rattle.rmt_update.specs.Differences.{Puts, changes_in};
 ghost use Rattle.rmt_lists.specs.Running.{is_among};
 ghost use Rattle.rmt_update.specs.TurnWrites.{AreOnWay, AreSmall, HaveOwnSlots, MoreChanged, PutsLeft, shown_write};
 ghost use Rattle.rmt_update.specs.Turning.{left_kept, part_of};
-ghost use Rattle.rmt_book.specs.declared.kept.Kept.{Kept as KeptOf};
-ghost use Rattle.rmt_book.specs.declared.spot.BookSpot.{BookSpot as SpotOf};
+ghost use Rattle.rmt_update.specs.Types.{BookSpot as SpotOf, Kept as KeptOf};
 
 use crate::book::changing::{CellChanges, put_empty, put_kept};
 use crate::book::seen::is_seen;

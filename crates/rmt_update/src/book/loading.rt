@@ -5,15 +5,13 @@ ghost use Rattle.std.specs.List.{AllZip};
 ghost use Rattle.rmt_ast.specs.Changes.{list_of};
 ghost use Rattle.rmt_ast.specs.NameRules.{AreEntriesOf, table_is_formed, terms_of_name};
 ghost use Rattle.rmt_ast.specs.WellFormed.{IsTest};
-ghost use Rattle.rmt_ast.specs.declared.entry.Entry.{Entry as EntryOf};
-ghost use Rattle.rmt_ast.specs.declared.names.Names.{Names as NamesOf};
+ghost use Rattle.rmt_update.specs.Types.{Config as ConfigOf, Entry as EntryOf, Names as NamesOf};
 ghost use Rattle.rmt_ast.specs.declared.program.Kind.TheVariants as kind;
-ghost use Rattle.rmt_config.specs.declared.config.Config.{Config as ConfigOf};
 ghost use Rattle.rmt_cuckoo.specs.declared.layout.Ways.{Ways as WaysOf};
 ghost use Rattle.rmt_cuckoo.specs.Loading.{cells_in, cells_of};
 ghost use Rattle.rmt_book.specs.Coming.{key_bytes};
 ghost use Rattle.rmt_update.specs.FirstFull.{keys_of as keys_as_bytes};
-ghost use Rattle.rmt_update.specs.Loads.{AreLoadedKeys, AreTables, AreTried, CanFill, IsLoaded, IsNotLoaded, IsTried, IsTriedAt, layout_in, table_of, ways_for};
+ghost use Rattle.rmt_update.specs.Loads.{AreLoadedKeys, AreTables, AreTried, CanFill, CanLoad, IsLoaded, IsNotLoaded, IsTried, IsTriedAt, layout_in, table_of, ways_for};
 
 use crate::book::encoded::tests_bytes;
 use crate::book::in_rows::rows_of;
@@ -147,10 +145,7 @@ fn load_keys(
     keys: &Keys,
     seed: u8,
 ) -> Result<TableTried, AllocError>
-    requires parts { length layout.now ≤ 64 }
-    requires rows { All (λ (w : WaysOf). 1 ≤ w.rows) layout.now }
-    requires few_cells { cells_of layout.now < 2 ^ 32 }
-    requires few_keys { length keys.now < 2 ^ 32 }
+    requires { CanLoad layout.now keys.now }
     ensures { IfOk result (AreLoadedKeys parts.now layout.now seed keys.now) }
 {
     match load(alloc, layout, keys, seed) {

@@ -4,21 +4,13 @@ ghost use Rattle.std.specs.Prelude.{◌≡◌, ◌<◌, ◌++◌, ◌^◌, ℕ, 
 ghost use Rattle.std.specs.List.{AllZip, filter_map};
 ghost use Rattle.std.specs.BTreeMap.{get};
 ghost use Rattle.std.specs.Ordering.{nat_cmp};
-ghost use Rattle.rmt_ast.specs.declared.entry.Entry.{Entry as EntryOf};
-ghost use Rattle.rmt_ast.specs.declared.names.Names.{Names as NamesOf};
-ghost use Rattle.rmt_config.specs.RunCells.{RunCells};
-ghost use Rattle.rmt_config.specs.declared.config.Config.{Config as ConfigOf};
-ghost use Rattle.rmt_update.specs.BookIndex.{IsBookIndex};
-ghost use Rattle.rmt_update.specs.BookStands.{BookStands};
-ghost use Rattle.rmt_update.specs.ComeIndex.{HasPlaced};
+ghost use Rattle.rmt_update.specs.Types.{Config as ConfigOf, Entry as EntryOf, Names as NamesOf, RunCells, TableCells as TableOf};
+ghost use Rattle.rmt_update.specs.Plans.{ArePlaced, BookStands, HasPlaced, IsBookIndex, MayChange};
 ghost use Rattle.rmt_update.specs.NextIndex.{AreAllFreed, AreSeenSpots, HasFewRows, IsFewRow, IsRenewed, IsRowFreed, spot_behind};
-ghost use Rattle.rmt_update.specs.Placing.{ArePlaced};
-ghost use Rattle.rmt_update.specs.Planned.{MayChange};
 ghost use Rattle.rmt_update.specs.RowIndex.{IsNone, row_number};
 ghost use Rattle.rmt_update.specs.Turning.{AreNext, IsSpotIn};
 ghost use Rattle.rmt_update.specs.declared.book.index.TableIndex.{TableIndex as IndexOf};
 ghost use Rattle.rmt_update.specs.declared.book.placing.Coming.{Coming as ComingOf};
-ghost use Rattle.rmt_book.specs.declared.table.TableCells.{TableCells as TableOf};
 
 use crate::book::Book;
 use crate::book::book_index::BookIndex;

@@ -1,10 +1,7 @@
 //! How a commit changes the cells of a run.
 
 ghost use Rattle.std.specs.Prelude.{◌≡◌, ◌+◌, ◌≤◌, IfErr, IfOk, List, OnErr, Some, false, length};
-ghost use Rattle.rmt_ast.specs.declared.entry.Entry.{Entry as EntryOf};
-ghost use Rattle.rmt_ast.specs.declared.names.Names.{Names as NamesOf};
-ghost use Rattle.rmt_config.specs.RunCells.{RunCells};
-ghost use Rattle.rmt_config.specs.declared.config.Config.{Config as ConfigOf};
+ghost use Rattle.rmt_update.specs.Types.{Config as ConfigOf, Entry as EntryOf, Names as NamesOf, RunCells};
 ghost use Rattle.rmt_update.specs.BookStands.{BookStands};
 ghost use Rattle.rmt_update.specs.Planned.{IsPlanned, IsUnplanned, MayChange, changed_lists};
 ghost use Rattle.rmt_update.specs.Recent.{recent};

@@ -1,26 +1,18 @@
 //! A commit that moves no cell.
 
 ghost use Rattle.std.specs.Prelude.{◌≡◌, ◌+◌, ◌<◌, ◌≤◌, ◌++◌, ℕ, All, AllPairs, IfOk, List, OnErr, OnOk, Option, Some, length, map, reverse, vec_capacity};
-ghost use Rattle.rmt_ast.specs.declared.entry.Entry.{Entry as EntryOf};
-ghost use Rattle.rmt_ast.specs.declared.names.Names.{Names as NamesOf};
+ghost use Rattle.rmt_update.specs.Types.{BookSpot as SpotOf, Config as ConfigOf, Entry as EntryOf, Kept as KeptOf, Names as NamesOf, RunCells};
 ghost use Rattle.rmt_config.specs.Commits.{AreWrites, settled};
-ghost use Rattle.rmt_config.specs.RunCells.{RunCells, with_version};
-ghost use Rattle.rmt_config.specs.declared.config.Config.{Config as ConfigOf};
-ghost use Rattle.rmt_update.specs.BookIndex.{FindsCells};
+ghost use Rattle.rmt_config.specs.RunCells.{with_version};
+ghost use Rattle.rmt_update.specs.Plans.{ArePlaced, BookStands, FindsCells, HasLengths, HasPlaced, MayChange, changed_lists};
 ghost use Rattle.rmt_book.specs.BookSpots.{kept_at};
-ghost use Rattle.rmt_update.specs.BookStands.{BookStands};
 ghost use Rattle.rmt_update.specs.Changing.{ChangeKey};
-ghost use Rattle.rmt_update.specs.ComeIndex.{HasPlaced};
 ghost use Rattle.rmt_update.specs.Differences.{changes_in};
-ghost use Rattle.rmt_update.specs.Placing.{ArePlaced};
-ghost use Rattle.rmt_update.specs.Planned.{HasLengths, MayChange, changed_lists};
 ghost use Rattle.rmt_update.specs.Recent.{recent};
 ghost use Rattle.rmt_update.specs.TurnWrites.{AreChanged, AreSmall, HaveOwnSlots, IsFresh, IsOfTables, cell_turn, turn_of as turn_of_bits};
 ghost use Rattle.rmt_update.specs.Turning.{HaveCells, IsSpotIn, come_to, left_kept, turned};
 ghost use Rattle.rmt_update.specs.declared.book.changing.CellChange.{CellChange as ChangeOf};
-ghost use Rattle.rmt_book.specs.declared.kept.Kept.{Kept as KeptOf};
 ghost use Rattle.rmt_update.specs.declared.book.placing.Coming.{Coming as ComingOf};
-ghost use Rattle.rmt_book.specs.declared.spot.BookSpot.{BookSpot as SpotOf};
 
 use crate::book::Book;
 use crate::book::book_index::BookIndex;

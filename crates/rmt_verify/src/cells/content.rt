@@ -14,7 +14,7 @@ ghost use Rattle.rmt_config.specs.declared.config.Memory.TheVariants.{Exact};
 ghost use Rattle.rmt_verify.specs.Wanted.{IsWanted, Matches};
 
 use crate::cells::fields::{are_arguments, are_tests};
-use crate::cells::sram::{data_bytes, entry_bytes, head_of};
+use crate::cells::sram::{CellAt, data_bytes, entry_bytes, head_of};
 use crate::cells::tcam::are_words;
 use crate::fault::VerifyFault;
 use rmt_ast::entry::Entry;
@@ -39,9 +39,19 @@ pub struct ExactMemory<'a> {
     pub records: &'a [u8],
 }
 
+/// The memory of a ternary part: the TCAM blocks of its keys, and the SRAM blocks of its entries' data.
+#[derive(Clone, Copy)]
+pub struct TernaryMemory<'a> {
+    pub quanta: u8,
+    pub keys: &'a [u8],
+    pub records: &'a [u8],
+}
+
 /// An entry that is looked for in a cell.
 #[derive(Clone, Copy)]
 pub struct WantedEntry<'a> {
+    /// The number of the cell.
+    pub cell: u32,
     pub entry: &'a Entry,
     /// The widths of its key's fields.
     pub widths: &'a Bytes,
@@ -74,15 +84,13 @@ fn exact_data(
         return vec![in alloc; 0u8; 256];
     }
     let layout = exact_records(memory.per, memory.quanta, held);
-    data_bytes(
-        alloc,
-        &layout,
-        memory.records,
+    let at = CellAt {
+        layout: &layout,
+        blocks: memory.records,
         rows,
-        cell as u64,
-        0,
-        held as u64,
-    )
+        cell: cell as u64,
+    };
+    data_bytes(alloc, &at, 0, held as u64)
 }
 
 /// Whether a cell of an exact part is one in which a key may stand, which is as its bytes.
@@ -107,28 +115,32 @@ pub fn exact_holds(
     rows: &[SramRow],
     slot: &SlotUnit,
     memory: &ExactMemory,
-    cell: u32,
     wanted: &WantedEntry,
 ) -> Result<bool, VerifyFault>
     requires rows { SramRows rows.now }
     requires fits { ExactFits slot.now memory.now.width memory.now.per memory.now.quanta memory.now.keys.now memory.now.records.now }
     requires ways { memory.now.first_way + 3 < 256 }
-    requires cell { cell < 4096 * memory.now.quanta * memory.now.per }
+    requires cell { wanted.now.cell < 4096 * memory.now.quanta * memory.now.per }
     requires wanted { IsWanted wanted.now.widths.now wanted.now.params.now wanted.now.entry.now }
     requires bits { bits_of_lanes slot.now.keys ≡ sum wanted.now.widths.now }
     requires whole { tests_as_one (λ (t : Test). t.mask) wanted.now.widths.now wanted.now.entry.now.tests ≡ 2 ^ sum wanted.now.widths.now - 1 }
     ensures { IfOk result (λ holds. (cs : List ℕ) → IsTrue holds ↔
         Matches wanted.now.widths.now wanted.now.params.now wanted.now.code wanted.now.entry.now
-        (exact_content (sram_row rows.now) slot.now memory.now.width memory.now.per memory.now.keys.now memory.now.records.now (cell_of (1024 * memory.now.quanta) memory.now.per cell))
+        (exact_content (sram_row rows.now) slot.now memory.now.width memory.now.per memory.now.keys.now memory.now.records.now (cell_of (1024 * memory.now.quanta) memory.now.per wanted.now.cell))
         × Contains (candidates seed (bits_of_lanes slot.now.keys) (Exact memory.now.width memory.now.per memory.now.quanta memory.now.first_way memory.now.keys.now memory.now.records.now cs)
-        (tests_as_one (λ (t : Test). t.value) wanted.now.widths.now wanted.now.entry.now.tests)) cell) }
+        (tests_as_one (λ (t : Test). t.value) wanted.now.widths.now wanted.now.entry.now.tests)) wanted.now.cell) }
 {
     let bits = key_bits(slot.keys.as_slice());
     let layout = exact_keys(memory.width, memory.per, memory.quanta, bits);
-    let at = cell as u64;
-    let head = head_of(alloc, &layout, memory.keys, rows, at)?;
-    let key = entry_bytes(alloc, &layout, memory.keys, rows, at, 8, bits)?;
-    let data = exact_data(alloc, rows, memory, slot.held, cell)?;
+    let at = CellAt {
+        layout: &layout,
+        blocks: memory.keys,
+        rows,
+        cell: wanted.cell as u64,
+    };
+    let head = head_of(alloc, &at)?;
+    let key = entry_bytes(alloc, &at, 8, bits)?;
+    let data = exact_data(alloc, rows, memory, slot.held, wanted.cell)?;
     let runs = (head / 8) as u128 == wanted.code;
     let has_key = are_tests(
         &key,
@@ -136,7 +148,7 @@ pub fn exact_holds(
         wanted.entry.tests.as_slice(),
         false,
     );
-    let stands = stands_at(seed, memory, &key, cell);
+    let stands = stands_at(seed, memory, &key, wanted.cell);
     let has_data = are_arguments(
         &data,
         wanted.params.as_slice(),
@@ -150,30 +162,36 @@ pub fn ternary_holds(
     alloc: Global,
     stage: &Stage,
     slot: &SlotUnit,
-    quanta: u8,
-    keys: &[u8],
-    records: &[u8],
-    cell: u32,
+    memory: &TernaryMemory,
     wanted: &WantedEntry,
 ) -> Result<bool, VerifyFault>
     requires rows { FormedRows stage.now }
     requires values { PrefixRows stage.now.trows }
-    requires fits { TernaryFits slot.now quanta keys.now records.now }
-    requires cell { cell < 2048 * quanta }
+    requires fits { TernaryFits slot.now memory.now.quanta memory.now.keys.now memory.now.records.now }
+    requires cell { wanted.now.cell < 2048 * memory.now.quanta }
     requires wanted { IsWanted wanted.now.widths.now wanted.now.params.now wanted.now.entry.now }
     requires bits { bits_of_lanes slot.now.keys ≡ sum wanted.now.widths.now }
-    ensures { IfOk result (λ holds. IsTrue holds ↔ Matches wanted.now.widths.now wanted.now.params.now wanted.now.code wanted.now.entry.now (ternary_content stage.now slot.now keys.now records.now cell)) }
+    ensures { IfOk result (λ holds. IsTrue holds ↔ Matches wanted.now.widths.now wanted.now.params.now wanted.now.code wanted.now.entry.now (ternary_content stage.now slot.now memory.now.keys.now memory.now.records.now wanted.now.cell)) }
 {
     let bits = key_bits(slot.keys.as_slice());
-    let rows = stage.srows.as_slice();
-    let at = cell as u64;
-    let layout = ternary_records(quanta, slot.held);
-    let head = head_of(alloc, &layout, records, rows, at)?;
-    let data = data_bytes(alloc, &layout, records, rows, at, 8, slot.held as u64)?;
+    let layout = ternary_records(memory.quanta, slot.held);
+    let at = CellAt {
+        layout: &layout,
+        blocks: memory.records,
+        rows: stage.srows.as_slice(),
+        cell: wanted.cell as u64,
+    };
+    let head = head_of(alloc, &at)?;
+    let data = data_bytes(alloc, &at, 8, slot.held as u64)?;
     let words = words_of(alloc, &wanted.entry.tests, wanted.widths)?;
-    let blocks = piece_at(keys, divided_up(bits, 40), at / 2048);
+    let blocks = piece_at(memory.keys, divided_up(bits, 40), at.cell / 2048);
     let runs = (head / 8) as u128 == wanted.code;
-    let has_key = are_words(stage.trows.as_slice(), blocks, at % 2048, words.as_slice());
+    let has_key = are_words(
+        stage.trows.as_slice(),
+        blocks,
+        at.cell % 2048,
+        words.as_slice(),
+    );
     let has_data = are_arguments(
         &data,
         wanted.params.as_slice(),

@@ -6,10 +6,10 @@ ghost use Rattle.rmt_config.specs.PartsTold.{part_at, parts_at};
 ghost use Rattle.rmt_config.specs.Rooms.{PartAt, parts_of as parts_of_node};
 ghost use Rattle.rmt_refine.specs.declared.map.CellOf.{CellOf as CellOfMap};
 ghost use Rattle.rmt_verify.specs.CellsHeld.{CellHeld, TableHeld, told_at};
-ghost use Rattle.rmt_verify.specs.TableKnown.{PartKnown, TableKnown};
+ghost use Rattle.rmt_verify.specs.TableKnown.{CellKnown, PartKnown, TableKnown};
 ghost use Rattle.rmt_verify.specs.Told.{AreTold};
 
-use crate::cells::content::{ExactMemory, WantedEntry, exact_holds, ternary_holds};
+use crate::cells::content::{ExactMemory, TernaryMemory, WantedEntry, exact_holds, ternary_holds};
 use crate::cells::entries::{entry_of, keep_order};
 use crate::cells::told::is_told;
 use crate::fault::VerifyFault;
@@ -54,9 +54,7 @@ fn holds_entry(
     own: &CellNumber,
     entry: &Entry,
 ) -> Result<bool, VerifyFault>
-    requires known { TableKnown at.now.program.now at.now.config.now at.now.node at.now.table.now at.now.widths.now at.now.entries.now }
-    requires part { PartKnown at.now.config.now at.now.table.now (sum at.now.widths.now) (part_at part.now) }
-    requires own { Contains part.now.slot.now.numbers own.now }
+    requires known { CellKnown at.now.program.now at.now.config.now at.now.node at.now.table.now at.now.widths.now at.now.entries.now (part_at part.now) own.now }
     requires entry { Contains at.now.entries.now entry.now }
     requires number { entry.now.number ≡ own.now.number }
     ensures { IfOk result (λ holds. (cells : List CellOfMap) → Contains cells (told_at (part_at part.now) own.now)
@@ -67,6 +65,7 @@ fn holds_entry(
     let code = part.first + entry.action as u128;
     let stage = stage_of(at.config, part);
     let wanted = WantedEntry {
+        cell: own.cell,
         entry,
         widths: at.widths,
         params,
@@ -95,7 +94,6 @@ fn holds_entry(
                 keys: keys.as_slice(),
                 records: records.as_slice(),
             },
-            own.cell,
             &wanted,
         ),
         Memory::Ternary {
@@ -107,10 +105,11 @@ fn holds_entry(
             alloc,
             stage,
             part.slot,
-            *quanta,
-            keys.as_slice(),
-            records.as_slice(),
-            own.cell,
+            &TernaryMemory {
+                quanta: *quanta,
+                keys: keys.as_slice(),
+                records: records.as_slice(),
+            },
             &wanted,
         ),
     }
@@ -123,9 +122,7 @@ fn cell_holds(
     part: &Part,
     own: &CellNumber,
 ) -> Result<bool, VerifyFault>
-    requires known { TableKnown at.now.program.now at.now.config.now at.now.node at.now.table.now at.now.widths.now at.now.entries.now }
-    requires part { PartKnown at.now.config.now at.now.table.now (sum at.now.widths.now) (part_at part.now) }
-    requires own { Contains part.now.slot.now.numbers own.now }
+    requires known { CellKnown at.now.program.now at.now.config.now at.now.node at.now.table.now at.now.widths.now at.now.entries.now (part_at part.now) own.now }
     ensures { IfOk result (λ holds. (cells : List CellOfMap) → AreTold cells at.now.told.now
         → (IsTrue holds ↔ CellHeld at.now.program.now at.now.config.now cells at.now.table.now at.now.entries.now (part_at part.now) own.now)) }
 {

@@ -1,8 +1,8 @@
 //! The actions of a program, all of them folded.
 
 ghost use Rattle.std.specs.Prelude.{IfOk, MatchOption};
-ghost use Rattle.rmt_ast.specs.WellFormed.{IsProgram};
 ghost use Rattle.rmt_vliw.specs.Coded.{ActionsFold};
+ghost use Rattle.rmt_verify.specs.Given.{IsProgram};
 ghost use Rattle.rmt_verify.specs.StageCode.{AreFoldings};
 
 use crate::fault::VerifyFault;

@@ -2,14 +2,13 @@
 
 ghost use Rattle.std.specs.Prelude.{◌↔◌, ℕ, [], IfOk, IsTrue, map};
 ghost use Rattle.std.specs.List.{AllZip};
-ghost use Rattle.rmt_ast.specs.WellFormed.{Fits, IsProgram};
-ghost use Rattle.rmt_phv.specs.Places.{KeepsApart};
-ghost use Rattle.rmt_vliw.specs.Folding.{IsFolding};
+ghost use Rattle.rmt_ast.specs.WellFormed.{Fits};
 ghost use Rattle.rmt_vliw.specs.Operations.{IsInstruction, given, operations_of};
+ghost use Rattle.rmt_verify.specs.StageCode.{CodingKnown, IsFolding};
 ghost use Rattle.rmt_verify.specs.WordsRise.{WordsRise};
 
 use crate::fault::VerifyFault;
-use crate::same::{Same, are_same};
+use crate::same::are_equal;
 use rmt_ast::program::Program;
 use rmt_bits::sequence::Sequence;
 use rmt_config::config::Operation;
@@ -18,46 +17,46 @@ use rmt_vliw::folded::Folded;
 use rmt_vliw::{default_instruction, instruction};
 use std::alloc::Global;
 
-impl Same for Operation {
-    fn is_same(&self, other: &Operation) -> bool {
-        *self == *other
-    }
+/// What the instructions of a stage are looked at with.
+#[derive(Drop)]
+pub struct Coding<'a> {
+    pub program: &'a Program,
+    /// What each of its actions folds to.
+    pub folded: &'a [Folded],
+    /// The places of its fields.
+    pub places: &'a Places,
 }
 
-/// Whether operations, which stand by rising word, are those of an action.
+/// Whether operations, which stand by rising word, are those of an action that folds so.
 pub fn is_of_action(
     alloc: Global,
-    program: &Program,
+    coding: &Coding,
     folded: &Folded,
-    places: &Places,
     ops: &[Operation],
 ) -> Result<bool, VerifyFault>
-    requires program { IsProgram program.now }
-    requires folded { (n : ℕ) × IsFolding program.now n folded.now }
-    requires places { KeepsApart program.now places.now }
+    requires coding { CodingKnown coding.now.program.now coding.now.folded.now coding.now.places.now }
+    requires folded { (n : ℕ) × IsFolding coding.now.program.now n folded.now }
     requires rise { WordsRise ops.now }
-    ensures { IfOk result (λ is. IsTrue is ↔ IsInstruction (operations_of places.now folded.now.params folded.now.values) ops.now) }
+    ensures { IfOk result (λ is. IsTrue is ↔ IsInstruction (operations_of coding.now.places.now folded.now.params folded.now.values) ops.now) }
 {
-    let own = instruction(alloc, program, folded, places)?;
-    Ok(are_same(own.ops.as_slice(), ops))
+    let own = instruction(alloc, coding.program, folded, coding.places)?;
+    Ok(are_equal(own.ops.as_slice(), ops))
 }
 
-/// Whether operations, which stand by rising word, are those of a default with these arguments.
+/// Whether operations, which stand by rising word, are those of a default with these arguments, whose action folds so.
 pub fn is_of_default(
     alloc: Global,
-    program: &Program,
+    coding: &Coding,
     folded: &Folded,
     args: &Sequence<u128>,
-    places: &Places,
     ops: &[Operation],
 ) -> Result<bool, VerifyFault>
-    requires program { IsProgram program.now }
-    requires folded { (n : ℕ) × IsFolding program.now n folded.now }
+    requires coding { CodingKnown coding.now.program.now coding.now.folded.now coding.now.places.now }
+    requires folded { (n : ℕ) × IsFolding coding.now.program.now n folded.now }
     requires args { AllZip Fits folded.now.params args.now }
-    requires places { KeepsApart program.now places.now }
     requires rise { WordsRise ops.now }
-    ensures { IfOk result (λ is. IsTrue is ↔ IsInstruction (operations_of places.now [] (map (given args.now) folded.now.values)) ops.now) }
+    ensures { IfOk result (λ is. IsTrue is ↔ IsInstruction (operations_of coding.now.places.now [] (map (given args.now) folded.now.values)) ops.now) }
 {
-    let own = default_instruction(alloc, program, folded, args, places)?;
-    Ok(are_same(own.ops.as_slice(), ops))
+    let own = default_instruction(alloc, coding.program, folded, args, coding.places)?;
+    Ok(are_equal(own.ops.as_slice(), ops))
 }

@@ -11,21 +11,17 @@ ghost use Rattle.rmt_verify.specs.WordsRise.{CodeRises};
 
 use crate::cells::table_at;
 use crate::fault::VerifyFault;
-use crate::instructions::one::{is_of_action, is_of_default};
-use rmt_ast::program::{Program, Table};
+use crate::instructions::one::{Coding, is_of_action, is_of_default};
+use rmt_ast::program::Table;
 use rmt_config::config::{Operation, Stage, Unit};
-use rmt_phv::places::Places;
-use rmt_vliw::folded::Folded;
 use std::alloc::Global;
 
-/// What the instructions of a stage are looked at with.
+/// Instructions of a stage that are looked at, from the number `first` on.
 #[derive(Drop)]
-pub struct Coding<'a> {
-    pub program: &'a Program,
-    /// What each of its actions folds to.
-    pub folded: &'a [Folded],
-    /// The places of its fields.
-    pub places: &'a Places,
+struct CodeFrom<'a> {
+    coding: &'a Coding<'a>,
+    stage: &'a Stage,
+    first: u64,
 }
 
 /// The operations of an instruction of a stage, by its number; none of one that there isn't.
@@ -39,26 +35,21 @@ fn code_at(stage: &Stage, at: u64) -> &[Operation]
 }
 
 /// Whether the instructions from one on are those of the actions of a table's list.
-fn actions_hold(
-    alloc: Global,
-    coding: &Coding,
-    actions: &[u32],
-    stage: &Stage,
-    first: u64,
-) -> Result<bool, VerifyFault>
-    requires coding { CodingKnown coding.now.program.now coding.now.folded.now coding.now.places.now }
-    requires actions { All (λ a. a < length coding.now.program.now.actions) actions.now }
+fn actions_hold(alloc: Global, from: &CodeFrom, actions: &[u32]) -> Result<bool, VerifyFault>
+    requires coding { CodingKnown from.now.coding.now.program.now from.now.coding.now.folded.now from.now.coding.now.places.now }
+    requires actions { All (λ a. a < length from.now.coding.now.program.now.actions) actions.now }
     requires few { length actions.now ≤ 14 }
-    requires rises { CodeRises stage.now }
-    requires first { first < 2 ^ 32 }
+    requires rises { CodeRises from.now.stage.now }
+    requires first { from.now.first < 2 ^ 32 }
     ensures { IfOk result (λ holds. IsTrue holds ↔
-        ((i action : ℕ) → slice_get actions.now i ≡ Some action → IsCodeOf coding.now.program.now coding.now.places.now action (code_at_of stage.now (first + i)))) }
+        ((i action : ℕ) → slice_get actions.now i ≡ Some action → IsCodeOf from.now.coding.now.program.now from.now.coding.now.places.now action (code_at_of from.now.stage.now (from.now.first + i)))) }
 {
+    let coding = from.coding;
     let folded = coding.folded;
     for (at, action) in actions.iter().enumerate() {
         let own = &folded[*action as usize];
-        let ops = code_at(stage, first + at as u64);
-        if !is_of_action(alloc, coding.program, own, coding.places, ops)? {
+        let ops = code_at(from.stage, from.first + at as u64);
+        if !is_of_action(alloc, coding, own, ops)? {
             return Ok(false);
         }
     }
@@ -66,46 +57,35 @@ fn actions_hold(
 }
 
 /// Whether the instructions from one on are those of a table.
-fn table_holds(
-    alloc: Global,
-    coding: &Coding,
-    table: &Table,
-    stage: &Stage,
-    first: u64,
-) -> Result<bool, VerifyFault>
-    requires coding { CodingKnown coding.now.program.now coding.now.folded.now coding.now.places.now }
-    requires table { IsTable coding.now.program.now table.now }
-    requires rises { CodeRises stage.now }
-    requires first { first < 2 ^ 32 }
-    ensures { IfOk result (λ holds. IsTrue holds ↔ TableCoded coding.now.program.now coding.now.places.now table.now first stage.now) }
+fn table_holds(alloc: Global, from: &CodeFrom, table: &Table) -> Result<bool, VerifyFault>
+    requires coding { CodingKnown from.now.coding.now.program.now from.now.coding.now.folded.now from.now.coding.now.places.now }
+    requires table { IsTable from.now.coding.now.program.now table.now }
+    requires rises { CodeRises from.now.stage.now }
+    requires first { from.now.first < 2 ^ 32 }
+    ensures { IfOk result (λ holds. IsTrue holds ↔ TableCoded from.now.coding.now.program.now from.now.coding.now.places.now table.now from.now.first from.now.stage.now) }
 {
     let actions = table.actions.as_slice();
-    if !actions_hold(alloc, coding, actions, stage, first)? {
+    if !actions_hold(alloc, from, actions)? {
         return Ok(false);
     }
+    let coding = from.coding;
     let folded = coding.folded;
     let own = &folded[table.default as usize];
-    let ops = code_at(stage, first + actions.len() as u64);
-    is_of_default(alloc, coding.program, own, &table.args, coding.places, ops)
+    let ops = code_at(from.stage, from.first + actions.len() as u64);
+    is_of_default(alloc, coding, own, &table.args, ops)
 }
 
 /// Whether the instructions from one on are those of a unit's table, where the unit is of one.
-fn unit_holds(
-    alloc: Global,
-    coding: &Coding,
-    unit: &Unit,
-    stage: &Stage,
-    first: u64,
-) -> Result<bool, VerifyFault>
-    requires coding { CodingKnown coding.now.program.now coding.now.folded.now coding.now.places.now }
-    requires rises { CodeRises stage.now }
-    requires first { first < 2 ^ 32 }
-    ensures { IfOk result (λ holds. IsTrue holds ↔ UnitCoded coding.now.program.now coding.now.places.now stage.now first unit.now) }
+fn unit_holds(alloc: Global, from: &CodeFrom, unit: &Unit) -> Result<bool, VerifyFault>
+    requires coding { CodingKnown from.now.coding.now.program.now from.now.coding.now.folded.now from.now.coding.now.places.now }
+    requires rises { CodeRises from.now.stage.now }
+    requires first { from.now.first < 2 ^ 32 }
+    ensures { IfOk result (λ holds. IsTrue holds ↔ UnitCoded from.now.coding.now.program.now from.now.coding.now.places.now from.now.stage.now from.now.first unit.now) }
 {
     match unit {
         Unit::Gate(_) => Ok(true),
-        Unit::Slot(slot) => match table_at(coding.program, slot.node as usize) {
-            Some(table) => table_holds(alloc, coding, table, stage, first),
+        Unit::Slot(slot) => match table_at(from.coding.program, slot.node as usize) {
+            Some(table) => table_holds(alloc, from, table),
             None => Ok(true),
         },
     }
@@ -130,7 +110,12 @@ pub fn stage_code_holds(alloc: Global, coding: &Coding, stage: &Stage) -> Result
 {
     let mut first: u64 = 0;
     for unit in stage.units.as_slice() {
-        if !unit_holds(alloc, coding, unit, stage, first)? {
+        let from = CodeFrom {
+            coding,
+            stage,
+            first,
+        };
+        if !unit_holds(alloc, &from, unit)? {
             return Ok(false);
         }
         first += instructions_of(unit);

@@ -16,13 +16,14 @@ pub fn byte_of(bytes: &[u8]) -> Read<u8>
 }
 
 /// A number of two bytes.
-#[tactic(auto, unfolding(crate::specs::Readers::two_at))]
+#[tactic(auto, unfolding(crate::specs::Readers::two_at, crate::specs::Readers::byte_at))]
 pub fn two_of(bytes: &[u8]) -> Read<u16>
     ensures { Gives (λ x. (x.0, x.1.now)) result (two_at bytes.now) }
 {
-    let (high, rest) = byte_of(bytes)?;
-    let (low, rest) = byte_of(rest)?;
-    Ok((256 * high as u16 + low as u16, rest))
+    match bytes {
+        [high, low, rest @ ..] => Ok((256 * *high as u16 + *low as u16, rest)),
+        _ => Err(MapFault::Form),
+    }
 }
 
 /// A number of four bytes.

@@ -1,15 +1,11 @@
 //! The units of stages.
 
-ghost use Rattle.std.specs.Prelude.{◌≡◌, ◌<◌, ◌↔◌, ℕ, All, IfOk, IsSomeAnd, IsTrue, length, slice_get, slice_index_or};
+ghost use Rattle.std.specs.Prelude.{◌<◌, ◌↔◌, ℕ, IfOk, IsSomeAnd, IsTrue, length, slice_get};
 ghost use Rattle.std.specs.List.{AllZip};
-ghost use Rattle.rmt_ast.specs.WellFormed.{IsProgram};
 ghost use Rattle.rmt_config.specs.declared.config.Stage.{Stage};
-ghost use Rattle.rmt_pack.specs.declared.placement.Part.{Part};
-ghost use Rattle.rmt_pack.specs.Starts.{stages_of};
-ghost use Rattle.rmt_phv.specs.Places.{KeepsApart};
 ghost use Rattle.rmt_refine.specs.Units.{UnitCarried, nodes_in};
-ghost use Rattle.rmt_verify.specs.EdgeSpans.{no_span, span_of};
-ghost use Rattle.rmt_verify.specs.Standing.{IsKnown};
+ghost use Rattle.rmt_verify.specs.Given.{IsProgram, KeepsApart};
+ghost use Rattle.rmt_verify.specs.Standing.{ArePlaced, IsKnown};
 
 use crate::edges::spans::Span;
 use crate::units::quanta::{quanta_at, standing};
@@ -38,31 +34,37 @@ fn units_are(at: &Standing, nodes: &[u32], units: &[Unit]) -> bool
     true
 }
 
+/// A program whose nodes are placed.
+#[derive(Clone, Copy)]
+pub struct Placed<'a> {
+    pub program: &'a Program,
+    /// The places of its fields.
+    pub places: &'a Places,
+    /// The parts of its nodes.
+    pub parts: &'a [Part],
+    /// The first and the last stage of each node, by its number.
+    pub spans: &'a [Option<Span>],
+}
+
 /// Whether the units of a stage are those of the nodes that stand there.
 fn stage_holds(
     alloc: Global,
-    program: &Program,
-    places: &Places,
-    parts: &[Part],
-    spans: &[Option<Span>],
+    placed: &Placed,
     stage: u32,
     units: &[Unit],
 ) -> Result<bool, AllocError>
-    requires program { IsProgram program.now }
-    requires places { KeepsApart program.now places.now }
-    requires parts { All (λ (x : Part). x.node < length program.now.nodes) parts.now }
-    requires spans { (n : ℕ) → slice_index_or spans.now n no_span ≡ span_of (stages_of parts.now n) }
+    requires placed { ArePlaced placed.now.program.now placed.now.places.now placed.now.parts.now placed.now.spans.now }
     ensures { IfOk result (λ holds. IsTrue holds ↔
-        AllZip (UnitCarried program.now places.now parts.now stage) (nodes_in program.now parts.now stage) units.now) }
+        AllZip (UnitCarried placed.now.program.now placed.now.places.now placed.now.parts.now stage) (nodes_in placed.now.program.now placed.now.parts.now stage) units.now) }
 {
-    let quanta = quanta_at(alloc, program.nodes.len(), parts, stage)?;
+    let quanta = quanta_at(alloc, placed.program.nodes.len(), placed.parts, stage)?;
     let quanta = quanta.as_slice();
     let nodes = standing(alloc, quanta)?;
     let at = Standing {
-        program,
-        places,
-        parts,
-        spans,
+        program: placed.program,
+        places: placed.places,
+        parts: placed.parts,
+        spans: placed.spans,
         stage,
         quanta,
     };
@@ -70,25 +72,15 @@ fn stage_holds(
 }
 
 /// Whether the units of each stage are those of the nodes that stand there.
-pub fn all_stages(
-    alloc: Global,
-    program: &Program,
-    places: &Places,
-    parts: &[Part],
-    spans: &[Option<Span>],
-    stages: &[Stage],
-) -> Result<bool, AllocError>
-    requires program { IsProgram program.now }
-    requires places { KeepsApart program.now places.now }
-    requires parts { All (λ (x : Part). x.node < length program.now.nodes) parts.now }
-    requires spans { (n : ℕ) → slice_index_or spans.now n no_span ≡ span_of (stages_of parts.now n) }
+pub fn all_stages(alloc: Global, placed: &Placed, stages: &[Stage]) -> Result<bool, AllocError>
+    requires placed { ArePlaced placed.now.program.now placed.now.places.now placed.now.parts.now placed.now.spans.now }
     requires few { length stages.now < 256 }
     ensures { IfOk result (λ hold. IsTrue hold ↔ ((k : ℕ) → k < length stages.now → IsSomeAnd (slice_get stages.now k)
-        (λ (s : Stage). AllZip (UnitCarried program.now places.now parts.now k) (nodes_in program.now parts.now k) s.units))) }
+        (λ (s : Stage). AllZip (UnitCarried placed.now.program.now placed.now.places.now placed.now.parts.now k) (nodes_in placed.now.program.now placed.now.parts.now k) s.units))) }
 {
     for k in 0..stages.len() {
         let units = stages[k].units.as_slice();
-        if !stage_holds(alloc, program, places, parts, spans, k as u32, units)? {
+        if !stage_holds(alloc, placed, k as u32, units)? {
             return Ok(false);
         }
     }

@@ -95,14 +95,12 @@ ternary_cell-requires-clause-fits c =
 pub ternary_cell-requires-clause-ends : goal.ternary_cell-requires-clause-ends
 ternary_cell-requires-clause-ends c =
     let a = c.in-Ternary in
-    let config = c.args.config.now in
-    let part = part_at c.args.part.now in
     let st = c.requires.stands in
-    let bits = bits_of_lanes part.slot.keys in
+    let bits = bits_of_lanes c.args.part.now.slot.now.keys in
     let stage = stage_is (goal.at.ternary_cell-requires-clause-ends c).After-index-stages-part in
-    let read = mask-read config part st a.quanta a.keys a.records a.counters a.is c.args.number.cell (divided_up bits 40) c.index-stages-part.result.trows
+    let read = mask-read c.args.config.now (part_at c.args.part.now) st a.quanta a.keys a.records a.counters a.is c.args.number.cell (divided_up bits 40) c.index-stages-part.result.trows
     (blocks_at c.as_slice-in-Ternary.result.now (divided_up bits 40) (c.args.number.cell / 2048)) c.as_slice-in-Ternary.result.now (ap (λ (s : Stage). s.trows) stage) refl c.as_slice-in-Ternary.ensures refl in
-    subst (λ x. x < 2 ^ bits) (sym read) (mask-small config part st a.quanta a.keys a.records a.counters a.is c.args.number.cell)
+    subst (λ x. x < 2 ^ bits) (sym read) (mask-small c.args.config.now (part_at c.args.part.now) st a.quanta a.keys a.records a.counters a.is c.args.number.cell)
 
 pub returns-in-Exact-clause-kept : goal.returns-in-Exact-clause-kept
 returns-in-Exact-clause-kept c =

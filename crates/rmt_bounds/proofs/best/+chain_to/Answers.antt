@@ -7,9 +7,9 @@ use Rattle.rmt_bounds.proofs.best.+chain_to.Goals.{then-number_at-node_stages, e
 
 pub returns : goal.returns
 returns t c =
-    let p = c.args.program.now in
-    let edges = c.args.edges.now in
-    let bs = c.args.bests.now in
+    let p = c.args.chains.now.program.now in
+    let edges = c.args.chains.now.edges.now in
+    let bs = c.args.chains.now.bests.now in
     let n = c.args.node in
     let chain = c.if-number_at-node_stages.chain in
     let some : 0 < c.args.nodes = omega arith in

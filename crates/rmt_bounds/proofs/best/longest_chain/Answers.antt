@@ -6,10 +6,10 @@ use Rattle.rmt_bounds.proofs.best.longest_chain.Goals as goal
 pub returns-in-None : goal.returns-in-None
 returns-in-None c =
     c.new.ensures
-    ∙ longest_is c.args.program.now c.args.edges.now c.args.bests.now c.greatest-most.result None c.requires.bests c.greatest-most.ensures c.in-None.ensures.value
+    ∙ longest_is c.args.chains.now.program.now c.args.chains.now.edges.now c.args.chains.now.bests.now c.greatest-most.result None c.requires.bests c.greatest-most.ensures c.in-None.ensures.value
 
 pub returns-in-Some : goal.returns-in-Some
 returns-in-Some c =
     subst (λ (ns : List ℕ). IfOk c.chain_to.result (λ chain. chain ≡ ns))
-    (longest_is c.args.program.now c.args.edges.now c.args.bests.now c.greatest-most.result (Some c.in-Some.node) c.requires.bests c.greatest-most.ensures c.in-Some.ensures.value)
+    (longest_is c.args.chains.now.program.now c.args.chains.now.edges.now c.args.chains.now.bests.now c.greatest-most.result (Some c.in-Some.node) c.requires.bests c.greatest-most.ensures c.in-Some.ensures.value)
     c.chain_to.ensures

@@ -8,4 +8,4 @@ use Rattle.rmt_bounds.proofs.best.node_before.Given as goal
 abbrev pub invariant-loop-edge : goal.invariant-loop-edge
 invariant-loop-edge l =
     l.least
-    ≡ least_of (map (λ (e : Edge). e.from) (filter (λ (e : Edge). through l.program l.bests e == slice_index l.bests l.node) (edges_into (take l.edge-index l.edges) l.node)))
+    ≡ least_of (map (λ (e : Edge). e.from) (filter (λ (e : Edge). through l.chains.program.now l.chains.bests.now e == slice_index l.chains.bests.now l.node) (edges_into (take l.edge-index l.chains.edges.now) l.node)))

@@ -9,9 +9,9 @@ use Rattle.rmt_bounds.proofs.find.bound.Goals.{In_ok-proof}
 -- the number of stages that is found
 found : (c : In_ok-proof) → c.greatest_of_four-stages.result ≡ (stage_bound c.args.program.now c.args.deps.now.field).stages
 found c =
-    stages_is c.args.program.now c.args.deps.now.field c.as_slice.result.now c.block_sums-blocks.result.sram c.block_sums-blocks.result.tcam c.table_count.result c.greatest_of_four-stages.result
+    stages_is c.args.program.now c.args.deps.now.field c.as_slice.result.now c.block_sums-blocks.result.sram c.block_sums-blocks.result.tcam c.table_count-tables.result c.greatest_of_four-stages.result
     (c.as_slice.ensures ∙ (c.in_ok-bests.ensures.value ∙ ap (all_bests c.args.program.now) c.as_slice-edges.ensures))
-    c.block_sums-blocks.ensures.sram c.block_sums-blocks.ensures.tcam c.table_count.ensures.value c.greatest_of_four-stages.ensures
+    c.block_sums-blocks.ensures.sram c.block_sums-blocks.ensures.tcam c.table_count-tables.ensures.value c.greatest_of_four-stages.ensures
 
 pub returns-clause-proved : goal.returns-clause-proved
 returns-clause-proved c =

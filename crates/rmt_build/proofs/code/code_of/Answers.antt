@@ -11,19 +11,19 @@ use Rattle.rmt_build.proofs.code.code_of.Goals as goal
 
 pub push_unit-requires-clause-unit : goal.push_unit-requires-clause-unit
 push_unit-requires-clause-unit c =
-    let p = c.args.program.now in
-    let plan = c.args.plan.now in
+    let p = c.args.planned.now.program.now in
+    let plan = c.args.planned.now.plan.now in
     let units = c.args.units.now in
-    let k = c.requires.units.0 in
+    let k = c.args.planned.now.stage in
     let i = c.loop-unit.unit-index in
-    let found = zip_item (UnitCarried p plan.places plan.placement.parts k) (nodes_in p plan.placement.parts k) units c.requires.units.1 i c.unit-item.result
+    let found = zip_item (UnitCarried p plan.places plan.placement.parts k) (nodes_in p plan.placement.parts k) units c.requires.units i c.unit-item.result
     (slice_get_read units (length units) i c.unit-item.result refl c.loop-unit-test.true c.unit-item.is) in
-    (k, found.0, found.1)
+    (found.0, found.1)
 
 pub loop-unit-preserved : goal.loop-unit-preserved
 loop-unit-preserved c =
-    let p = c.args.program.now in
-    let places = c.args.plan.now.places in
+    let p = c.args.planned.now.program.now in
+    let places = c.args.planned.now.plan.now.places in
     let units = c.args.units.now in
     let i = c.loop-unit.unit-index in
     let u = c.unit-item.result in

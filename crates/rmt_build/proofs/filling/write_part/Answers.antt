@@ -4,6 +4,7 @@ use Rattle.rmt_build.specs.Types.{Memory}
 use Rattle.rmt_config.specs.StageForm.{memory_sram_blocks, memory_tcam_blocks}
 use Rattle.rmt_pack.specs.Placements.{data_bits, key_bits}
 use Rattle.rmt_pack.specs.Rows.{blocks_of}
+use Rattle.rmt_filling.specs.declared.entries.PartEntries.{PartEntries}
 use Rattle.rmt_filling.specs.Holding.{Held}
 use Rattle.rmt_build.specs.HeldParts.{PartHolds}
 use Rattle.rmt_filling.specs.Listing.{masks_of, values_of}
@@ -23,17 +24,21 @@ write_ternary_part-requires-clause-zero_values c = subst (λ (m : Memory). (b r 
 pub write_ternary_part-requires-clause-zero_masks : goal.write_ternary_part-requires-clause-zero_masks
 write_ternary_part-requires-clause-zero_masks c = subst (λ (m : Memory). (b r : ℕ) → Contains (memory_tcam_blocks m) b → masks_of c.args.tcam.now b r ≡ 0) c.in-Ternary.is c.requires.zero_masks
 
+-- what a part holds with this memory
+abbrev Holds : PartEntries → Held → Memory → Type 0
+Holds part h m =
+    let p = part.program.now in
+    let t = part.table.now in
+    PartHolds p t part.entries.now part.stands.now part.first (key_bits p t) (data_bits p t) h m
+
 pub returns-in_ok-write_exact_part-in-Exact : goal.returns-in_ok-write_exact_part-in-Exact
 returns-in_ok-write_exact_part-in-Exact c =
-    let p = c.args.part.now.program.now in
-    let t = c.args.part.now.table.now in
-    let es = c.args.part.now.entries.now in
-    let stands = c.args.part.now.stands.now in
+    let part = c.args.part.now in
     let h : Held = record { sram = blocks_of c.write_exact_part.new.sram; values = values_of c.args.tcam.now; masks = masks_of c.args.tcam.now } in
-    let blocks = subst (HasBlocks p t) c.in-Exact.is c.requires.blocks in
+    let blocks = subst (HasBlocks part.program.now part.table.now) c.in-Exact.is c.requires.blocks in
     record {
-      holds = subst (PartHolds p t es stands c.args.part.now.first (key_bits p t) (data_bits p t) h) (sym c.in-Exact.is)
-          (exact-holds p t c.requires.part.entries.0 es c.args.part.now.first c.requires.part.entries.1 c.requires.part.few h (key_bits p t) (data_bits p t) c.in-Exact.quanta c.in-Exact.keys c.in-Exact.records c.in-Exact.counters stands
+      holds = subst (Holds part h) (sym c.in-Exact.is)
+          (exact-holds part.program.now part.table.now c.requires.part.entries.0 part.entries.now part.first c.requires.part.entries.1 c.requires.part.few h (key_bits part.program.now part.table.now) (data_bits part.program.now part.table.now) c.in-Exact.quanta c.in-Exact.keys c.in-Exact.records c.in-Exact.counters part.stands.now
           c.in-Exact.width c.in-Exact.per c.in-Exact.first_way blocks.0 refl c.in_ok-write_exact_part-in-Exact.ensures.holds);
       others = subst (λ (m : Memory). (b r : ℕ) → (Contains (memory_sram_blocks m) b → ⊥) → blocks_of c.write_exact_part.new.sram b r ≡ blocks_of c.args.sram.now b r) (sym c.in-Exact.is)
           c.in_ok-write_exact_part-in-Exact.ensures.others;
@@ -43,14 +48,11 @@ returns-in_ok-write_exact_part-in-Exact c =
 
 pub returns-in_ok-write_ternary_part-in-Ternary : goal.returns-in_ok-write_ternary_part-in-Ternary
 returns-in_ok-write_ternary_part-in-Ternary c =
-    let p = c.args.part.now.program.now in
-    let t = c.args.part.now.table.now in
-    let es = c.args.part.now.entries.now in
-    let stands = c.args.part.now.stands.now in
+    let part = c.args.part.now in
     let h : Held = record { sram = blocks_of c.write_ternary_part.new.sram; values = values_of c.write_ternary_part.new.tcam; masks = masks_of c.write_ternary_part.new.tcam } in
     record {
-      holds = subst (PartHolds p t es stands c.args.part.now.first (key_bits p t) (data_bits p t) h) (sym c.in-Ternary.is)
-          (ternary-holds p t c.requires.part.entries.0 es c.args.part.now.first c.requires.part.entries.1 c.requires.part.few h (key_bits p t) (data_bits p t) c.in-Ternary.quanta c.in-Ternary.keys c.in-Ternary.records c.in-Ternary.counters stands
+      holds = subst (Holds part h) (sym c.in-Ternary.is)
+          (ternary-holds part.program.now part.table.now c.requires.part.entries.0 part.entries.now part.first c.requires.part.entries.1 c.requires.part.few h (key_bits part.program.now part.table.now) (data_bits part.program.now part.table.now) c.in-Ternary.quanta c.in-Ternary.keys c.in-Ternary.records c.in-Ternary.counters part.stands.now
           c.in_ok-write_ternary_part-in-Ternary.ensures.holds);
       others = subst (λ (m : Memory). (b r : ℕ) → (Contains (memory_sram_blocks m) b → ⊥) → blocks_of c.write_ternary_part.new.sram b r ≡ blocks_of c.args.sram.now b r) (sym c.in-Ternary.is)
           c.in_ok-write_ternary_part-in-Ternary.ensures.others;

@@ -37,7 +37,7 @@ returns-clause-placement c =
     let p = c.args.program.now in
     let front = c.in_ok-front.front in
     let placed : placement p front.places (dependencies_of p front.places) ≡ Ok c.in_ok-placement.placement.parts = ap (placement p front.places) (sym c.in_ok-front.ensures.front.deps) ∙ c.in_ok-placement.ensures.placed in
-    placed_there p front.places c.in_ok-placement.placement c.built_on.result placed c.built_on.ensures.places c.built_on.ensures.placement
+    placed_there p front.places c.in_ok-placement.placement c.built_on.result placed c.built_on.ensures.laid
 
 pub returns-clause-refused : goal.returns-clause-refused
 returns-clause-refused c fault first other =

@@ -24,7 +24,7 @@ returns-clause-load c node members cells is =
     subst (λ (ps : List Part). AreNotLoaded c.args.program.now c.args.entries.now ps node members cells) c.in_ok-same.ensures (c.built_on.ensures.load node members cells is)
 
 pub returns-clause-placement : goal.returns-clause-placement
-returns-clause-placement c = parts_there c.in_ok-same.same c.args.placement.now.parts c.built_on.result c.in_ok-same.ensures c.built_on.ensures.placement
+returns-clause-placement c = parts_there c.in_ok-front.front.places c.in_ok-same.same c.args.placement.now.parts c.built_on.result c.in_ok-same.ensures c.built_on.ensures.laid
 
 pub returns-clause-refused : goal.returns-clause-refused
 returns-clause-refused c fault first unstuck other =

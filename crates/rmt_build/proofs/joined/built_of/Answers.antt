@@ -49,8 +49,8 @@ returns c =
     let made = c.in_ok-config.ensures in
     let told = c.in_ok-map.ensures in
     let named = c.in_ok-names.ensures in
-    let program = c.requires.program in
-    let entries = c.requires.entries in
+    let program = c.requires.given.program in
+    let entries = c.requires.given.entries in
     let is = c.requires.plan in
     let of_stages = c.in_ok-stages.ensures.stages in
     let parser : AgreesWith config.parser plan.places p = subst (λ x. AgreesWith x plan.places p) (sym made.parser) c.requires.agrees in
@@ -58,7 +58,7 @@ returns c =
     let same = same_map m.places plan.places m.placement plan.placement m.starts plan.starts m.cells (cells_told (length p.nodes) config.stages) told.places told.placement told.starts cells in
     let own = joined_carries p lists plan config program entries is stages made.stages of_stages made.seed made.places parser in
     let names : config.names ≡ Some (names_of p lists) = made.names ∙ ap Some named.names in
-    let formed = joined_formed p lists plan config program entries is stages made.stages of_stages made.seed c.requires.named made.places c.requires.fits (made.parser ∙ c.requires.parser) names
+    let formed = joined_formed p lists plan config program entries is stages made.stages of_stages made.seed c.requires.given.named made.places c.requires.fits (made.parser ∙ c.requires.parser) names
     (subst (λ (x : Names). names_have_counts x ≡ true) named.names named.counts) c.requires.seed.few in
     let seed = subst (IsFirstSeed p lists plan.placement.parts) (sym made.seed) c.requires.seed in
     let rows = joined_rows p lists plan config program entries is stages made.stages of_stages made.seed in
@@ -94,7 +94,6 @@ returns c =
         bound = of_deps.bound ∙ ap (λ (d : Deps). stage_bound p d.field) c.requires.deps ∙ ap (λ (ps : List (List Lane)). stage_bound p (field_edges p ps)) (sym told.places);
         least = subst (λ (ps : List (List Lane)). (other : Placement) → IsLegal p (field_edges p ps) other → b.stages ≤ stages_used p other) (sym told.places) least;
       };
-      places = told.places;
-      placement = told.placement;
+      laid = (told.places, told.placement);
       memory = search rules;
     }

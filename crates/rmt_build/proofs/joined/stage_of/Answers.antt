@@ -12,28 +12,28 @@ use Rattle.rmt_build.proofs.joined.stage_of.Goals as goal
 
 pub write_units-requires-clause-units : goal.write_units-requires-clause-units
 write_units-requires-clause-units c =
-    subst (All (UnitFits c.args.program.now c.args.entries.now c.args.plan.now c.args.stage)) (sym c.as_slice-2.ensures)
-    (units_fit c.args.program.now c.args.entries.now c.args.plan.now c.args.stage c.requires.planned.program c.requires.planned.entries c.requires.planned.is_plan c.requires.planned.stage c.in_ok-units.units
+    subst (All (UnitFits c.args.planned.now.program.now c.args.planned.now.entries.now c.args.planned.now.plan.now c.args.planned.now.stage)) (sym c.as_slice-2.ensures)
+    (units_fit c.args.planned.now.program.now c.args.planned.now.entries.now c.args.planned.now.plan.now c.args.planned.now.stage c.requires.planned.program c.requires.planned.entries c.requires.planned.is_plan c.requires.planned.stage c.in_ok-units.units
     c.in_ok-units.ensures.units c.in_ok-units.ensures.parts)
 
 pub write_units-requires-clause-apart : goal.write_units-requires-clause-apart
 write_units-requires-clause-apart c =
     subst (AllPairs UnitsApart) (sym c.as_slice-2.ensures)
-    (units_apart c.args.program.now c.args.entries.now c.args.plan.now c.args.stage c.requires.planned.program c.requires.planned.entries c.requires.planned.is_plan c.requires.planned.stage c.in_ok-units.units
+    (units_apart c.args.planned.now.program.now c.args.planned.now.entries.now c.args.planned.now.plan.now c.args.planned.now.stage c.requires.planned.program c.requires.planned.entries c.requires.planned.is_plan c.requires.planned.stage c.in_ok-units.units
     c.in_ok-units.ensures.units c.in_ok-units.ensures.parts)
 
 pub write_units-requires-clause-few : goal.write_units-requires-clause-few
 write_units-requires-clause-few c =
     subst (λ (us : List Unit). sum_by unit_instructions us ≤ 32) (sym c.as_slice-2.ensures)
-    (few_code c.args.program.now c.args.entries.now c.args.plan.now c.args.stage c.requires.planned.program c.requires.planned.entries c.requires.planned.is_plan c.requires.planned.stage c.in_ok-units.units
+    (few_code c.args.planned.now.program.now c.args.planned.now.entries.now c.args.planned.now.plan.now c.args.planned.now.stage c.requires.planned.program c.requires.planned.entries c.requires.planned.is_plan c.requires.planned.stage c.in_ok-units.units
     c.in_ok-units.ensures.units c.in_ok-units.ensures.parts c.requires.limits)
 
 pub returns-clause-stage : goal.returns-clause-stage
 returns-clause-stage c =
-    let p = c.args.program.now in
-    let lists = c.args.entries.now in
-    let plan = c.args.plan.now in
-    let k = c.args.stage in
+    let p = c.args.planned.now.program.now in
+    let lists = c.args.planned.now.entries.now in
+    let plan = c.args.planned.now.plan.now in
+    let k = c.args.planned.now.stage in
     let h : Held = record { sram = blocks_of c.write_units.new.sram; values = values_of c.write_units.new.tcam; masks = masks_of c.write_units.new.tcam } in
     let stage : Stage = record { start = c.args.start; units = c.in_ok-units.units; code = c.in_ok-code.code; srows = c.in_ok-srows.srows; trows = c.in_ok-trows.trows } in
     let written = subst (λ (us : List Unit). UnitsWritten p lists plan k us (length us) h) c.as_slice-2.ensures c.in_ok-write_units.ensures in

@@ -21,7 +21,7 @@ loop-number-preserved c =
     let so_far = c.loop-number.invariant.so_far in
     record {
       so_far = omega (arith, long, more, so_far);
-      each = subst (AllNumbered (IsBuiltStage c.args.program.now c.args.entries.now c.args.plan.now)) (sym pushed)
-          (AllNumbered-push (IsBuiltStage c.args.program.now c.args.entries.now c.args.plan.now) c.loop-number.stages stage c.loop-number.invariant.each
-          (subst (λ n. IsBuiltStage c.args.program.now c.args.entries.now c.args.plan.now n stage) (sym so_far) c.in_ok-stage_of.ensures.stage));
+      each = subst (AllNumbered (IsBuiltStage c.args.whole.now.program.now c.args.whole.now.entries.now c.args.whole.now.plan.now)) (sym pushed)
+          (AllNumbered-push (IsBuiltStage c.args.whole.now.program.now c.args.whole.now.entries.now c.args.whole.now.plan.now) c.loop-number.stages stage c.loop-number.invariant.each
+          (subst (λ n. IsBuiltStage c.args.whole.now.program.now c.args.whole.now.entries.now c.args.whole.now.plan.now n stage) (sym so_far) c.in_ok-stage_of.ensures.stage));
     }

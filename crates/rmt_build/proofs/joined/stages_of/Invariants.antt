@@ -6,5 +6,5 @@ use Rattle.rmt_build.proofs.joined.stages_of.Given as goal
 abbrev pub invariant-loop-number : goal.invariant-loop-number
 invariant-loop-number l = record {
   so_far : length l.stages ≡ l.number;
-  each : AllNumbered (IsBuiltStage l.fn.program l.fn.entries l.fn.plan) l.stages;
+  each : AllNumbered (IsBuiltStage l.whole.program.now l.whole.entries.now l.whole.plan.now) l.stages;
 }

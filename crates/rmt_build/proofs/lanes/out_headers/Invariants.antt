@@ -5,4 +5,4 @@ use Rattle.rmt_build.proofs.lanes.out_headers.Given as goal
 
 -- the headers so far
 abbrev pub invariant-loop-header : goal.invariant-loop-header
-invariant-loop-header l = AllZip (HeaderCarried l.places) (take l.header-index l.program.headers) l.headers
+invariant-loop-header l = AllZip (HeaderCarried l.places) (take l.header-index l.headers) l.sent

@@ -10,43 +10,33 @@ use Rattle.rmt_build.proofs.TriedLaws.{tried_stands}
 use Rattle.rmt_build.proofs.loading.try_exact.Goals as goal
 
 pub layout_of-requires-clause-few : goal.layout_of-requires-clause-few
-layout_of-requires-clause-few c = few_quanta_in c.args.placed.now.program.now c.requires.placed.program c.args.own.now.node c.args.own.now.table.now c.requires.own.table c.requires.exact c.args.placed.now.parts.now c.requires.placed.are_parts
+layout_of-requires-clause-few c = few_quanta_in c.args.own.now.placed.now.program.now c.requires.placed.program c.args.own.now.node c.args.own.now.table.now c.requires.own.table c.requires.exact c.args.own.now.placed.now.parts.now c.requires.placed.are_parts
 
 pub keys_of-requires-clause-table : goal.keys_of-requires-clause-table
 keys_of-requires-clause-table c =
-    subst (λ kind. HasKey c.args.placed.now.program.now kind c.args.own.now.table.now) c.requires.exact (is_table c.args.placed.now.program.now c.requires.placed.program c.args.own.now.node c.args.own.now.table.now c.requires.own.table).key
+    subst (λ kind. HasKey c.args.own.now.placed.now.program.now kind c.args.own.now.table.now) c.requires.exact (is_table c.args.own.now.placed.now.program.now c.requires.placed.program c.args.own.now.node c.args.own.now.table.now c.requires.own.table).key
 
-pub load_exact-requires-clause-parts : goal.load_exact-requires-clause-parts
-load_exact-requires-clause-parts c =
-    let same : c.in_ok-layout.layout ≡ layout_of c.args.placed.now.program.now c.args.placed.now.parts.now c.args.own.now.node = c.in_ok-layout.ensures ∙ ap (λ f. layout_in f.per c.args.placed.now.parts.now c.args.own.now.node) c.requires.own.by_rule in
-    let small = small_exact c.args.placed.now.program.now c.requires.placed.program c.args.own.now.node c.args.own.now.table.now c.requires.own.table c.requires.exact c.args.placed.now.parts.now c.requires.placed.are_parts in
-    subst (λ ws. length ws ≤ 64) (sym same) small.long
-
-pub load_exact-requires-clause-rows : goal.load_exact-requires-clause-rows
-load_exact-requires-clause-rows c =
-    let same : c.in_ok-layout.layout ≡ layout_of c.args.placed.now.program.now c.args.placed.now.parts.now c.args.own.now.node = c.in_ok-layout.ensures ∙ ap (λ f. layout_in f.per c.args.placed.now.parts.now c.args.own.now.node) c.requires.own.by_rule in
-    let small = small_exact c.args.placed.now.program.now c.requires.placed.program c.args.own.now.node c.args.own.now.table.now c.requires.own.table c.requires.exact c.args.placed.now.parts.now c.requires.placed.are_parts in
-    subst (All (λ (part : Ways). 1 ≤ part.rows)) (sym same) small.rows
-
-pub load_exact-requires-clause-few_cells : goal.load_exact-requires-clause-few_cells
-load_exact-requires-clause-few_cells c =
-    let same : c.in_ok-layout.layout ≡ layout_of c.args.placed.now.program.now c.args.placed.now.parts.now c.args.own.now.node = c.in_ok-layout.ensures ∙ ap (λ f. layout_in f.per c.args.placed.now.parts.now c.args.own.now.node) c.requires.own.by_rule in
-    let small = small_exact c.args.placed.now.program.now c.requires.placed.program c.args.own.now.node c.args.own.now.table.now c.requires.own.table c.requires.exact c.args.placed.now.parts.now c.requires.placed.are_parts in
+pub load_exact-requires : goal.load_exact-requires
+load_exact-requires c =
+    let p = c.args.own.now.placed.now.program.now in
+    let parts = c.args.own.now.placed.now.parts.now in
+    let n = c.args.own.now.node in
+    let same : layout_of p parts n ≡ c.in_ok-layout.layout = sym (c.in_ok-layout.ensures ∙ ap (λ f. layout_in f.per parts n) c.requires.own.by_rule) in
+    let small = small_exact p c.requires.placed.program n c.args.own.now.table.now c.requires.own.table c.requires.exact parts c.requires.placed.are_parts in
+    let few = few_entries p c.requires.placed.program n c.args.own.now.table.now c.requires.own.table c.requires.exact c.args.own.now.entries.now c.requires.own.entries in
     let cells = small.cells in
-    let e = ap cells_of same in
-    omega (arith, cells, e)
-
-pub load_exact-requires-clause-few_keys : goal.load_exact-requires-clause-few_keys
-load_exact-requires-clause-few_keys c =
-    let few = few_entries c.args.placed.now.program.now c.requires.placed.program c.args.own.now.node c.args.own.now.table.now c.requires.own.table c.requires.exact c.args.own.now.entries.now c.requires.own.entries in
-    let e = ap length c.in_ok-keys.ensures in
-    omega (arith, few, e)
+    record {
+      parts = subst (λ ws. length ws ≤ 64) same small.long;
+      rows = subst (All (λ (part : Ways). 1 ≤ part.rows)) same small.rows;
+      few_cells = omega (arith, cells, ap cells_of same);
+      few_keys = omega (arith, few, ap length c.in_ok-keys.ensures);
+    }
 
 pub returns : goal.returns
 returns c =
-    let p = c.args.placed.now.program.now in
+    let p = c.args.own.now.placed.now.program.now in
     let t = c.args.own.now.table.now in
-    let same : c.in_ok-layout.layout ≡ layout_of p c.args.placed.now.parts.now c.args.own.now.node = c.in_ok-layout.ensures ∙ ap (λ f. layout_in f.per c.args.placed.now.parts.now c.args.own.now.node) c.requires.own.by_rule in
-    tried_stands p c.args.placed.now.parts.now c.args.seed c.args.own.now.node t c.args.own.now.entries.now c.requires.exact c.in_ok-tried.tried
-    (subst (λ ks. IsTried (layout_of p c.args.placed.now.parts.now c.args.own.now.node) c.args.seed ks c.in_ok-tried.tried) c.in_ok-keys.ensures
+    let same : c.in_ok-layout.layout ≡ layout_of p c.args.own.now.placed.now.parts.now c.args.own.now.node = c.in_ok-layout.ensures ∙ ap (λ f. layout_in f.per c.args.own.now.placed.now.parts.now c.args.own.now.node) c.requires.own.by_rule in
+    tried_stands p c.args.own.now.placed.now.parts.now c.args.seed c.args.own.now.node t c.args.own.now.entries.now c.requires.exact c.in_ok-tried.tried
+    (subst (λ ks. IsTried (layout_of p c.args.own.now.placed.now.parts.now c.args.own.now.node) c.args.seed ks c.in_ok-tried.tried) c.in_ok-keys.ensures
     (subst (λ ws. IsTried ws c.args.seed c.in_ok-keys.keys c.in_ok-tried.tried) same c.in_ok-tried.ensures))

@@ -1,8 +1,5 @@
 use Rattle.std.proofs.Common.{◌+◌, ◌<◌, arith, length, subst, sym}
-use Rattle.rmt_refine.specs.Outcomes.{entries_at}
-use Rattle.rmt_refine.specs.Units.{table_at}
-use Rattle.rmt_build.specs.Tries.{StandOrFull}
-use Rattle.rmt_build.proofs.TriedLaws.{LoadedUpto, is_full, loaded_before, loaded_push}
+use Rattle.rmt_build.proofs.TriedLaws.{ComesOf, LoadedUpto, is_full, loaded_before, loaded_push}
 use Rattle.rmt_build.proofs.loading.try_seed.Goals as goal
 
 pub returns-in-Overfull : goal.returns-in-Overfull
@@ -14,14 +11,12 @@ returns-in-Overfull c =
     let test = c.loop-node-test.true in
     let end = c.len-node-end.ensures in
     let within : n < length p.nodes = omega (arith, test, end) in
-    let h = subst (StandOrFull p parts c.args.seed n (entries_at lists n) (table_at p n)) c.in-Overfull.is c.in_ok-own.ensures in
+    let h = subst (ComesOf p lists parts c.args.seed n) c.in-Overfull.is c.in_ok-own.ensures in
     (is_full p lists parts c.args.seed n c.in-Overfull.members c.in-Overfull.cells c.requires.placed.entries within h, loaded_before p lists parts c.args.seed n c.loop-node.stands c.loop-node.invariant)
 
 pub loop-node-preserved : goal.loop-node-preserved
 loop-node-preserved c =
-    let p = c.args.placed.now.program.now in
-    let lists = c.args.placed.now.entries.now in
-    let parts = c.args.placed.now.parts.now in
-    let n = c.loop-node.node in
-    let here = subst (StandOrFull p parts c.args.seed n (entries_at lists n) (table_at p n)) c.in-Stand.is c.in_ok-own.ensures in
-    subst (LoadedUpto p lists parts c.args.seed (n + 1)) (sym c.in_ok-push-in-Stand.ensures.ok) (loaded_push p lists parts c.args.seed n c.loop-node.stands c.in-Stand.own c.loop-node.invariant here)
+    let placed = c.args.placed.now in
+    let here = subst (ComesOf placed.program.now placed.entries.now placed.parts.now c.args.seed c.loop-node.node) c.in-Stand.is c.in_ok-own.ensures in
+    subst (LoadedUpto placed.program.now placed.entries.now placed.parts.now c.args.seed (c.loop-node.node + 1)) (sym c.in_ok-push-in-Stand.ensures.ok)
+    (loaded_push placed.program.now placed.entries.now placed.parts.now c.args.seed c.loop-node.node c.loop-node.stands c.in-Stand.own c.loop-node.invariant here)

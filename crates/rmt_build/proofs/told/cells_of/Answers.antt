@@ -5,6 +5,6 @@ use Rattle.rmt_build.proofs.told.cells_of.Goals as goal
 
 pub loop-node-preserved : goal.loop-node-preserved
 loop-node-preserved c =
-    let own = node_planned c.args.program.now c.args.entries.now c.args.plan.now in
+    let own = node_planned c.args.whole.now.program.now c.args.whole.now.entries.now c.args.whole.now.plan.now in
     let n = c.loop-node.node in
     c.in_ok-push_node.ensures ∙ (ap (λ xs. xs ++ own n) c.loop-node.invariant ∙ sym (flat_range_more own n))

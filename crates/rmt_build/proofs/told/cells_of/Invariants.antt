@@ -5,4 +5,4 @@ use Rattle.rmt_build.proofs.told.cells_of.Given as goal
 
 -- those of the nodes so far
 abbrev pub invariant-loop-node : goal.invariant-loop-node
-invariant-loop-node l = l.cells ≡ flat_map (node_planned l.program l.entries l.plan) (range_with_len 0 l.node)
+invariant-loop-node l = l.cells ≡ flat_map (node_planned l.whole.program.now l.whole.entries.now l.whole.plan.now) (range_with_len 0 l.node)

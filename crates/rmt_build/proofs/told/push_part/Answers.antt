@@ -14,21 +14,21 @@ use Rattle.rmt_build.proofs.told.push_part.Goals as goal
 
 pub returns-then-quanta_in-eq0 : goal.returns-then-quanta_in-eq0
 returns-then-quanta_in-eq0 c =
-    let planned = c.args.planned.now in
-    let n = c.args.node in
+    let planned = c.args.own.now.planned.now in
+    let n = c.args.own.now.node in
     let k = planned.stage in
     let found = c.quanta_in.ensures ∙ ap (λ ps. quanta_in ps n k) c.as_slice-parts.ensures in
     let none : quanta_in planned.plan.now.placement.parts n k ≡ 0 = omega (arith, found, c.if-quanta_in-eq0.true) in
-    sym (ap (λ xs. c.args.cells.now ++ xs) (part_absent planned.program.now planned.entries.now planned.plan.now c.args.table.now n k none) ∙ append-nil c.args.cells.now)
+    sym (ap (λ xs. c.args.cells.now ++ xs) (part_absent planned.program.now planned.entries.now planned.plan.now c.args.own.now.table.now n k none) ∙ append-nil c.args.cells.now)
 
 pub numbers_of-requires : goal.numbers_of-requires
 numbers_of-requires c =
-    let p = c.args.planned.now.program.now in
-    let lists = c.args.planned.now.entries.now in
-    let plan = c.args.planned.now.plan.now in
-    let n = c.args.node in
-    let k = c.args.planned.now.stage in
-    let t = c.args.table.now in
+    let p = c.args.own.now.planned.now.program.now in
+    let lists = c.args.own.now.planned.now.entries.now in
+    let plan = c.args.own.now.planned.now.plan.now in
+    let n = c.args.own.now.node in
+    let k = c.args.own.now.planned.now.stage in
+    let t = c.args.own.now.table.now in
     let es = c.index-as_slice-node.result in
     let terms = length-map p.nodes (λ (x : Node). terms_at p x.what) in
     let all = c.requires.planned.entries.for_each_node in

@@ -21,26 +21,26 @@ use Rattle.rmt_build.proofs.units.slot_of.Goals as goal
 
 pub numbers_of-requires : goal.numbers_of-requires
 numbers_of-requires c =
-    let p = c.args.planned.now.program.now in
-    let plan = c.args.planned.now.plan.now in
-    let n = c.args.node in
+    let p = c.args.own.now.planned.now.program.now in
+    let plan = c.args.own.now.planned.now.plan.now in
+    let n = c.args.own.now.node in
     let es = c.index-as_slice-node.result in
     let lists = c.as_slice-2.ensures in
     let terms = length-map p.nodes (λ (x : Node). terms_at p x.what) in
     let all = c.requires.planned.entries.for_each_node in
-    let at : slice_get c.args.planned.now.entries.now n ≡ Some es =
-    slice_get_read c.args.planned.now.entries.now (length c.args.planned.now.entries.now) n es refl (omega (arith, all, terms, c.requires.node)) (c.index-as_slice-node.is ∙ ap (λ xs. get_or xs n es) lists) in
-    let t = c.args.table.now in
-    let k = c.args.planned.now.stage in
-    let those = entries_of_part p c.args.planned.now.entries.now plan t n k es c.requires.planned.entries c.requires.planned.is_plan c.requires.node at in
+    let at : slice_get c.args.own.now.planned.now.entries.now n ≡ Some es =
+    slice_get_read c.args.own.now.planned.now.entries.now (length c.args.own.now.planned.now.entries.now) n es refl (omega (arith, all, terms, c.requires.node)) (c.index-as_slice-node.is ∙ ap (λ xs. get_or xs n es) lists) in
+    let t = c.args.own.now.table.now in
+    let k = c.args.own.now.planned.now.stage in
+    let those = entries_of_part p c.args.own.now.planned.now.entries.now plan t n k es c.requires.planned.entries c.requires.planned.is_plan c.requires.node at in
     subst (λ (xs : List Stand). All (λ (s : Stand). s.entry < length c.as_slice-list.result.now) xs) (sym (c.as_slice-3.ensures ∙ c.in_ok-stands.ensures))
     (subst (λ (xs : List Entry). All (λ (s : Stand). s.entry < length xs) (stands_of_part p plan t n k)) (sym c.as_slice-list.ensures) those)
 
 pub guard_of-requires : goal.guard_of-requires
 guard_of-requires c =
-    let p = c.args.planned.now.program.now in
-    let n = c.args.node in
-    let a = node_applies p n c.args.table.now c.requires.table in
+    let p = c.args.own.now.planned.now.program.now in
+    let n = c.args.own.now.node in
+    let a = node_applies p n c.args.own.now.table.now c.requires.table in
     let few = c.requires.planned.program.counts.nodes in
     let zero : Node = record { guard = None; what = Apply 0 } in
     let same : get_or c.as_slice-4.result.now n zero ≡ a.node = ap (λ xs. get_or xs n zero) c.as_slice-4.ensures ∙ get_or_from_slice_get p.nodes n a.node zero a.at in
@@ -48,17 +48,17 @@ guard_of-requires c =
 
 pub overflow_cast-result-2 : goal.overflow_cast-result-2
 overflow_cast-result-2 c =
-    let few = (is_table c.args.planned.now.program.now c.requires.planned.program c.args.node c.args.table.now c.requires.table).few_actions in
+    let few = (is_table c.args.own.now.planned.now.program.now c.requires.planned.program c.args.own.now.node c.args.own.now.table.now c.requires.table).few_actions in
     omega (arith, few, c.len.ensures)
 
 pub returns-clause-unit : goal.returns-clause-unit
 returns-clause-unit c =
-    let p = c.args.planned.now.program.now in
-    let plan = c.args.planned.now.plan.now in
+    let p = c.args.own.now.planned.now.program.now in
+    let plan = c.args.own.now.planned.now.plan.now in
     let parts = plan.placement.parts in
-    let n = c.args.node in
-    let k = c.args.planned.now.stage in
-    let t = c.args.table.now in
+    let n = c.args.own.now.node in
+    let k = c.args.own.now.planned.now.stage in
+    let t = c.args.own.now.table.now in
     let a = node_applies p n t c.requires.table in
     let zero : Node = record { guard = None; what = Apply 0 } in
     let same : get_or c.as_slice-4.result.now n zero ≡ a.node = ap (λ xs. get_or xs n zero) c.as_slice-4.ensures ∙ get_or_from_slice_get p.nodes n a.node zero a.at in
@@ -74,17 +74,17 @@ returns-clause-unit c =
 
 pub returns-clause-parts : goal.returns-clause-parts
 returns-clause-parts c =
-    let p = c.args.planned.now.program.now in
-    let plan = c.args.planned.now.plan.now in
-    let n = c.args.node in
-    let t = c.args.table.now in
+    let p = c.args.own.now.planned.now.program.now in
+    let plan = c.args.own.now.planned.now.plan.now in
+    let n = c.args.own.now.node in
+    let t = c.args.own.now.table.now in
     let es = c.index-as_slice-node.result in
     let terms = length-map p.nodes (λ (x : Node). terms_at p x.what) in
     let all = c.requires.planned.entries.for_each_node in
-    let at : slice_get c.args.planned.now.entries.now n ≡ Some es =
-    slice_get_read c.args.planned.now.entries.now (length c.args.planned.now.entries.now) n es refl (omega (arith, all, terms, c.requires.node)) (c.index-as_slice-node.is ∙ ap (λ xs. get_or xs n es) c.as_slice-2.ensures) in
-    slot_part p c.args.planned.now.entries.now plan c.args.planned.now.stage _ t es c.requires.table at (record {
-      memory = c.in_ok-memory.ensures.memory ∙ ap (memory_for t.kind (need_in p plan.placement.parts t n c.args.planned.now.stage)) c.requires.taken;
+    let at : slice_get c.args.own.now.planned.now.entries.now n ≡ Some es =
+    slice_get_read c.args.own.now.planned.now.entries.now (length c.args.own.now.planned.now.entries.now) n es refl (omega (arith, all, terms, c.requires.node)) (c.index-as_slice-node.is ∙ ap (λ xs. get_or xs n es) c.as_slice-2.ensures) in
+    slot_part p c.args.own.now.planned.now.entries.now plan c.args.own.now.planned.now.stage _ t es c.requires.table at (record {
+      memory = c.in_ok-memory.ensures.memory ∙ ap (memory_for t.kind (need_in p plan.placement.parts t n c.args.own.now.planned.now.stage)) c.requires.taken;
       held = c.held_bits.ensures.bits;
       numbers = c.in_ok-numbers.ensures.numbers ∙ (ap (λ (xs : List Entry). map (number_at xs) c.as_slice-3.result.now) c.as_slice-list.ensures ∙ ap (map (number_at es)) (c.as_slice-3.ensures ∙ c.in_ok-stands.ensures));
     })

@@ -24,7 +24,7 @@ returns-then-is_accepted-clause-looked c = λ stage found cells look held seed l
     let here : slice_get ps k ≡ Some q = slice_get-get_or ps k q inside ∙ ap Some (sym c.index_mut-pending.ensures.value) in
     let p : Pending = record q { looked = with_items q.looked c.look_all.new.into } in
     let items : p.looked.items ≡ c.look_all.new.into = with_items_is q.looked c.look_all.new.into (let same = c.look_all.auto.into in let lent = c.deref_mut.ensures.len in omega arith) in
-    looked_by look k stage place _ p q inside here refl (record { taken = refl; number = refl; version = refl; size = refl; parsed = refl; tails = refl }) refl refl refl refl
+    looked_by look k stage place _ p q inside here refl (record { same = record { taken = refl; number = refl; version = refl; size = refl; parsed = refl; tails = refl }; vector = refl; outcomes = refl }) refl refl
     (subst (λ (x : Stage). AllLooked look k (λ v. slice_index place.vector v) x p.looked.items) (sym is)
     (subst (λ (xs : List Looked). AllLooked look k (λ v. slice_index place.vector v) c.index-stages-k.result xs) (sym items)
     (c.look_all.ensures.looked cells look k (subst (λ (x : Stage). StageHeld cells k x c.args.memories.now) is held) seed (subst (λ (x : Stage). LooksInto c.args.sight.named c.args.sight.version cells x look k) is looks))))

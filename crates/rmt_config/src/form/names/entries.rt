@@ -10,7 +10,7 @@ ghost use Rattle.rmt_config.specs.NamesForm.{has_parts, is_filled_so, is_made_so
 
 use crate::config::Config;
 use crate::form::names::exact::exact_fits;
-use crate::form::names::part_list::{listed_numbers, parts_of};
+use crate::form::names::part_list::{TableParts, listed_numbers, parts_of};
 use crate::form::names::prefix::prefix_fits;
 use crate::form::names::ternary::ternary_fits;
 use rmt_ast::names::{Names, TableName};
@@ -29,10 +29,16 @@ fn table_fits(alloc: Global, config: &Config, table: &TableName) -> Result<bool,
 {
     let parts = parts_of(alloc, config, table.node)?;
     let numbers = listed_numbers(alloc, parts.as_slice())?;
+    let of = TableParts {
+        config,
+        table,
+        parts: parts.as_slice(),
+        numbers: numbers.as_slice(),
+    };
     match table.kind {
         Kind::Keyless => Ok(false),
-        Kind::Exact => exact_fits(alloc, config, table, parts.as_slice(), numbers.as_slice()),
-        Kind::Prefix => prefix_fits(alloc, config, table, parts.as_slice(), numbers.as_slice()),
+        Kind::Exact => exact_fits(alloc, &of),
+        Kind::Prefix => prefix_fits(alloc, &of),
         Kind::Ternary => Ok(ternary_fits(config, table, numbers.as_slice())),
     }
 }

@@ -1,23 +1,37 @@
 //! The rules on the keys in a part of an exact table.
 
-ghost use Rattle.std.specs.Prelude.{◌≡◌, ℕ, ◌+◌, ◌*◌, ◌/◌, ◌%◌, ◌^◌, ◌<◌, ◌≤◌, ◌==◌, ◌++◌, length, IfOk, OnOk, All};
+ghost use Rattle.std.specs.Prelude.{◌≡◌, ℕ, ◌+◌, ◌*◌, ◌/◌, ◌%◌, ◌^◌, ◌<◌, ◌≤◌, ◌==◌, ◌++◌, length, IfOk, OnOk};
 ghost use Rattle.rmt_bits.specs.Bits.{bytes_of, number_of};
 ghost use Rattle.rmt_bits.specs.Hash.{hash_row as hash_row_of};
-ghost use Rattle.rmt_config.specs.Cells.{cell_of, entry_at, sram_row};
-ghost use Rattle.rmt_config.specs.KeyPrints.{KeysAdded};
-ghost use Rattle.rmt_config.specs.KeysSeen.{key_in, stands_there};
+ghost use Rattle.rmt_config.specs.Cells.{blocks_at, cell_of, entry_at, sram_row};
+ghost use Rattle.rmt_config.specs.ExactCells.{CellsAdded, CellsRead};
 ghost use Rattle.rmt_config.specs.MemoryRules.{SramRows};
 ghost use Rattle.rmt_config.specs.BlockCounts.{divided_up as divided_up_of};
-ghost use Rattle.rmt_config.specs.declared.config.CellNumber.{CellNumber};
 
 use crate::config::{CellNumber, SramRow};
 pub use crate::form::lane::key_bits;
 use crate::form::layout::divided_up;
-use crate::form::names::key_bytes::{bits_at, lowest, piece_at, push_bits};
-use crate::form::names::key_prints::{put_long, put_short};
+use crate::form::names::key_bytes::{UnitRow, bits_at, lowest, piece_at, push_bits};
+use crate::form::names::key_prints::put_kept;
 use crate::form::sram::Near;
 use rmt_bits::hash::hash_row;
-use std::alloc::{AllocError, Global};
+use std::alloc::AllocError;
+
+/// The listed cells of an exact part, and what they are read from: the rows of its stage, and its blocks, `width` of them
+/// side by side. A row has `per` cells, each a head of 8 bits and a key of `bits` bits, and each of the four ways from the
+/// first on has `quanta` times 1,024 rows.
+#[derive(Clone, Copy)]
+pub struct ExactCells<'a> {
+    pub seed: u8,
+    pub numbers: &'a [CellNumber],
+    pub rows: &'a [SramRow],
+    pub blocks: &'a [u8],
+    pub width: u8,
+    pub per: u16,
+    pub quanta: u8,
+    pub first_way: u8,
+    pub bits: u64,
+}
 
 /// Where a cell of a part lies: its way, its row in the way, and its position in the row.
 #[derive(Clone, Copy)]
@@ -100,189 +114,118 @@ fn stands_at(seed: u8, first_way: u8, quanta: u8, key: &[u8], place: Place) -> b
     hash_row(seed, way, key, 1024 * quanta as u32) == place.row
 }
 
+/// The row of blocks side by side in which a place lies.
+fn unit_at<'a>(cells: &ExactCells<'a>, place: Place) -> UnitRow<'a>
+    requires cells { CellsRead cells.now }
+    requires four { place.way < 4 }
+    requires low { place.row < 1024 * cells.now.quanta }
+    ensures rows { result.rows.now ≡ cells.now.rows.now }
+    ensures rise { SramRows result.rows.now }
+    ensures blocks { result.blocks.now ≡ blocks_at cells.now.blocks.now cells.now.width (place.row / 1024 * 4 + place.way) }
+    ensures row { result.row ≡ place.row % 1024 }
+    ensures size { length result.blocks.now ≡ cells.now.width }
+{
+    let unit = place.row / 1024 * 4 + place.way;
+    UnitRow {
+        rows: cells.rows,
+        blocks: piece_at(cells.blocks, cells.width as u64, unit as u64),
+        row: place.row as u64 % 1024,
+    }
+}
+
 /// Adds the key of a cell as bytes, the highest first.
 fn put_key(
     keys: &mut Vec<u8>,
-    blocks: &[u8],
-    rows: &[SramRow],
-    width: u8,
-    quanta: u8,
-    bits: u64,
+    cells: &ExactCells,
     place: Place,
     near: &mut Near,
 ) -> Result<(), AllocError>
-    requires rows { SramRows rows.now }
-    requires short { bits ≤ 640 }
+    requires cells { CellsRead cells.now }
     requires four { place.way < 4 }
-    requires low { place.row < 1024 * quanta }
-    requires fits { place.position * (bits + 8) + (bits + 8) ≤ 112 * width }
-    requires blocks { length blocks.now ≡ quanta * (4 * width) }
-    ensures { OnOk result (keys.new.items ≡ keys.old.items ++ bytes_of (divided_up_of bits 8)
-        (entry_at (sram_row rows.now) blocks.now width bits (record { way = place.way; row = place.row; position = place.position }) / 256)) }
+    requires low { place.row < 1024 * cells.now.quanta }
+    requires fits { place.position * (cells.now.bits + 8) + (cells.now.bits + 8) ≤ 112 * cells.now.width }
+    ensures { OnOk result (keys.new.items ≡ keys.old.items ++ bytes_of (divided_up_of cells.now.bits 8)
+        (entry_at (sram_row cells.now.rows.now) cells.now.blocks.now cells.now.width cells.now.bits (record { way = place.way; row = place.row; position = place.position }) / 256)) }
 {
-    let unit = place.row / 1024 * 4 + place.way;
-    let blocks = piece_at(blocks, width as u64, unit as u64);
-    let low = place.position as u64 * (bits + 8) + 8;
-    push_bits(keys, rows, blocks, place.row as u64 % 1024, low, bits, near)
+    let unit = unit_at(cells, place);
+    let low = place.position as u64 * (cells.bits + 8) + 8;
+    push_bits(keys, &unit, low, cells.bits, near)
 }
 
 /// The key of a cell, of at most 64 bits.
-fn short_key(
-    blocks: &[u8],
-    rows: &[SramRow],
-    width: u8,
-    quanta: u8,
-    bits: u64,
-    place: Place,
-    near: &mut Near,
-) -> u64
-    requires rows { SramRows rows.now }
-    requires short { bits ≤ 64 }
+fn short_key(cells: &ExactCells, place: Place, near: &mut Near) -> u64
+    requires cells { CellsRead cells.now }
+    requires short { cells.now.bits ≤ 64 }
     requires four { place.way < 4 }
-    requires low { place.row < 1024 * quanta }
-    requires fits { place.position * (bits + 8) + (bits + 8) ≤ 112 * width }
-    requires blocks { length blocks.now ≡ quanta * (4 * width) }
-    ensures value { result
-        ≡ entry_at (sram_row rows.now) blocks.now width bits (record { way = place.way; row = place.row; position = place.position }) / 256 }
-    ensures bytes { number_of (bytes_of (divided_up_of bits 8) result) ≡ result }
+    requires low { place.row < 1024 * cells.now.quanta }
+    requires fits { place.position * (cells.now.bits + 8) + (cells.now.bits + 8) ≤ 112 * cells.now.width }
+    ensures value { let p = cells.now in result
+        ≡ entry_at (sram_row p.rows.now) p.blocks.now p.width p.bits (record { way = place.way; row = place.row; position = place.position }) / 256 }
+    ensures bytes { number_of (bytes_of (divided_up_of cells.now.bits 8) result) ≡ result }
 {
-    if bits == 0 {
+    if cells.bits == 0 {
         return 0;
     }
-    let unit = place.row / 1024 * 4 + place.way;
-    let blocks = piece_at(blocks, width as u64, unit as u64);
-    let low = place.position as u64 * (bits + 8) + 8;
-    bits_at(rows, blocks, place.row as u64 % 1024, low, bits, near)
+    let unit = unit_at(cells, place);
+    let low = place.position as u64 * (cells.bits + 8) + 8;
+    bits_at(&unit, low, cells.bits, near)
 }
 
 /// Whether each cell of a part with keys of at most 64 bits is one in which its key may stand; where it is, what is kept
 /// of their keys is added. Each key is read as one number.
-fn put_short_keys(
-    seed: u8,
-    numbers: &[CellNumber],
-    rows: &[SramRow],
-    width: u8,
-    per: u16,
-    quanta: u8,
-    first_way: u8,
-    bits: u64,
-    blocks: &[u8],
-    whole: bool,
-    kept: &mut Vec<u64>,
-) -> Result<bool, AllocError>
-    requires rows { SramRows rows.now }
-    requires width { 0 < width }
-    requires per { 0 < per }
-    requires quanta { 0 < quanta }
-    requires few { quanta ≤ 106 }
-    requires short { bits ≤ 64 }
-    requires fits { per * (bits + 8) ≤ 112 * width }
-    requires blocks { length blocks.now ≡ quanta * (4 * width) }
-    requires ways { first_way + 3 < 256 }
-    requires within { All (λ (n : CellNumber). n.cell < 4096 * quanta * per) numbers.now }
-    ensures { IfOk result (λ stand.
-        KeysAdded whole (divided_up_of bits 8) (stands_there seed first_way per quanta (divided_up_of bits 8) (key_in rows.now blocks.now width per quanta bits))
-        (key_in rows.now blocks.now width per quanta bits) numbers.now kept.old.items kept.new.items stand) }
+fn put_short_keys(cells: &ExactCells, whole: bool, kept: &mut Vec<u64>) -> Result<bool, AllocError>
+    requires cells { CellsRead cells.now }
+    requires short { cells.now.bits ≤ 64 }
+    ensures { IfOk result (CellsAdded cells.now whole cells.now.numbers.now kept.old.items kept.new.items) }
 {
     let mut near = Near::new();
     let mut near_row = 0;
-    let size = divided_up(bits, 8);
+    let size = divided_up(cells.bits, 8);
+    let numbers = cells.numbers;
     for number in numbers {
-        let place = place_of(per, quanta, number.cell, &mut near_row);
-        let key = short_key(blocks, rows, width, quanta, bits, place, &mut near);
+        let place = place_of(cells.per, cells.quanta, number.cell, &mut near_row);
+        let key = short_key(cells, place, &mut near);
         let all = key.to_be_bytes();
         let bytes = lowest(&all, size);
-        if !stands_at(seed, first_way, quanta, bytes, place) {
+        if !stands_at(cells.seed, cells.first_way, cells.quanta, bytes, place) {
             return Ok(false);
         }
-        put_short(kept, whole, bytes, key)?;
+        put_kept(kept, whole, bytes, Some(key))?;
     }
     Ok(true)
 }
 
 /// The same of keys of more than 64 bits, which are read piece by piece.
-fn put_long_keys(
-    alloc: Global,
-    seed: u8,
-    numbers: &[CellNumber],
-    rows: &[SramRow],
-    width: u8,
-    per: u16,
-    quanta: u8,
-    first_way: u8,
-    bits: u64,
-    blocks: &[u8],
-    whole: bool,
-    kept: &mut Vec<u64>,
-) -> Result<bool, AllocError>
-    requires rows { SramRows rows.now }
-    requires width { 0 < width }
-    requires per { 0 < per }
-    requires quanta { 0 < quanta }
-    requires few { quanta ≤ 106 }
-    requires long { 64 < bits }
-    requires short { bits ≤ 640 }
-    requires fits { per * (bits + 8) ≤ 112 * width }
-    requires blocks { length blocks.now ≡ quanta * (4 * width) }
-    requires ways { first_way + 3 < 256 }
-    requires within { All (λ (n : CellNumber). n.cell < 4096 * quanta * per) numbers.now }
-    ensures { IfOk result (λ stand.
-        KeysAdded whole (divided_up_of bits 8) (stands_there seed first_way per quanta (divided_up_of bits 8) (key_in rows.now blocks.now width per quanta bits))
-        (key_in rows.now blocks.now width per quanta bits) numbers.now kept.old.items kept.new.items stand) }
+fn put_long_keys(cells: &ExactCells, whole: bool, kept: &mut Vec<u64>) -> Result<bool, AllocError>
+    requires cells { CellsRead cells.now }
+    requires long { 64 < cells.now.bits }
+    ensures { IfOk result (CellsAdded cells.now whole cells.now.numbers.now kept.old.items kept.new.items) }
 {
     let mut near = Near::new();
     let mut near_row = 0;
-    let mut key = Vec::new(alloc);
+    let mut key = Vec::new(*kept.allocator());
+    let numbers = cells.numbers;
     for number in numbers {
-        let place = place_of(per, quanta, number.cell, &mut near_row);
+        let place = place_of(cells.per, cells.quanta, number.cell, &mut near_row);
         key.clear();
-        put_key(
-            &mut key, blocks, rows, width, quanta, bits, place, &mut near,
-        )?;
-        if !stands_at(seed, first_way, quanta, key.as_slice(), place) {
+        put_key(&mut key, cells, place, &mut near)?;
+        let bytes = key.as_slice();
+        if !stands_at(cells.seed, cells.first_way, cells.quanta, bytes, place) {
             return Ok(false);
         }
-        put_long(kept, whole, key.as_slice())?;
+        put_kept(kept, whole, bytes, None)?;
     }
     Ok(true)
 }
 
 /// Whether each cell of a part is one in which its key may stand; where it is, what is kept of their keys is added.
-pub fn put_keys(
-    alloc: Global,
-    seed: u8,
-    numbers: &[CellNumber],
-    rows: &[SramRow],
-    width: u8,
-    per: u16,
-    quanta: u8,
-    first_way: u8,
-    bits: u64,
-    blocks: &[u8],
-    whole: bool,
-    kept: &mut Vec<u64>,
-) -> Result<bool, AllocError>
-    requires rows { SramRows rows.now }
-    requires width { 0 < width }
-    requires per { 0 < per }
-    requires quanta { 0 < quanta }
-    requires few { quanta ≤ 106 }
-    requires short { bits ≤ 640 }
-    requires fits { per * (bits + 8) ≤ 112 * width }
-    requires blocks { length blocks.now ≡ quanta * (4 * width) }
-    requires ways { first_way + 3 < 256 }
-    requires within { All (λ (n : CellNumber). n.cell < 4096 * quanta * per) numbers.now }
-    ensures { IfOk result (λ stand.
-        KeysAdded whole (divided_up_of bits 8) (stands_there seed first_way per quanta (divided_up_of bits 8) (key_in rows.now blocks.now width per quanta bits))
-        (key_in rows.now blocks.now width per quanta bits) numbers.now kept.old.items kept.new.items stand) }
+pub fn put_keys(cells: &ExactCells, whole: bool, kept: &mut Vec<u64>) -> Result<bool, AllocError>
+    requires { CellsRead cells.now }
+    ensures { IfOk result (CellsAdded cells.now whole cells.now.numbers.now kept.old.items kept.new.items) }
 {
-    if bits <= 64 {
-        put_short_keys(
-            seed, numbers, rows, width, per, quanta, first_way, bits, blocks, whole, kept,
-        )
+    if cells.bits <= 64 {
+        put_short_keys(cells, whole, kept)
     } else {
-        put_long_keys(
-            alloc, seed, numbers, rows, width, per, quanta, first_way, bits, blocks, whole, kept,
-        )
+        put_long_keys(cells, whole, kept)
     }
 }

@@ -43,31 +43,39 @@ pub fn spot_of(layout: &CellLayout, cell: u64) -> Spot
     }
 }
 
+/// A row of blocks side by side, whose bits are read from the rows of the stage.
+#[derive(Clone, Copy)]
+pub struct UnitRow<'a> {
+    pub rows: &'a [SramRow],
+    pub blocks: &'a [u8],
+    pub row: u64,
+}
+
 /// The `len` bits from one on, 1 to 64, of a row of blocks side by side. The rows are looked for first near the places
 /// where the last ones were found.
-pub fn bits_at(
-    rows: &[SramRow],
-    blocks: &[u8],
-    row: u64,
-    bit: u64,
-    len: u64,
-    near: &mut Near,
-) -> u64
-    requires rows { SramRows rows.now }
-    requires row { row < 1024 }
+pub fn bits_at(unit: &UnitRow, bit: u64, len: u64, near: &mut Near) -> u64
+    requires rows { SramRows unit.now.rows.now }
+    requires row { unit.now.row < 1024 }
     requires some { 0 < len }
     requires most { len ≤ 64 }
-    requires within { bit + len ≤ 112 * length blocks.now }
-    ensures { result ≡ slice_of (unit_row 112 (sram_row rows.now) row blocks.now) bit len }
+    requires within { bit + len ≤ 112 * length unit.now.blocks.now }
+    ensures { result ≡ slice_of (unit_row 112 (sram_row unit.now.rows.now) unit.now.row unit.now.blocks.now) bit len }
 {
     let block = bit / 112;
     let low = bit % 112;
-    let first = row_bits(rows, blocks[block as usize], block, row, near);
+    let first = row_bits(
+        unit.rows,
+        unit.blocks[block as usize],
+        block,
+        unit.row,
+        near,
+    );
     if low + len <= 112 {
         return slice(first, low as u8, len as u8) as u64;
     }
     let here = 112 - low;
-    let second = row_bits(rows, blocks[block as usize + 1], block + 1, row, near);
+    let next = unit.blocks[block as usize + 1];
+    let second = row_bits(unit.rows, next, block + 1, unit.row, near);
     let high = slice(second, 0, (len - here) as u8) as u64;
     (high << here) + slice(first, low as u8, here as u8) as u64
 }
@@ -93,18 +101,16 @@ fn push_bytes(into: &mut Vec<u8>, bits: u64, count: u64) -> Result<(), AllocErro
 /// Adds `len` bits of a row of blocks side by side as bytes, the highest first, with zero bits on top.
 pub fn push_bits(
     into: &mut Vec<u8>,
-    rows: &[SramRow],
-    blocks: &[u8],
-    row: u64,
+    unit: &UnitRow,
     low: u64,
     len: u64,
     near: &mut Near,
 ) -> Result<(), AllocError>
-    requires rows { SramRows rows.now }
-    requires row { row < 1024 }
-    requires within { low + len ≤ 112 * length blocks.now }
+    requires rows { SramRows unit.now.rows.now }
+    requires row { unit.now.row < 1024 }
+    requires within { low + len ≤ 112 * length unit.now.blocks.now }
     requires few { low + len < 2 ^ 32 }
-    ensures { OnOk result (into.new.items ≡ into.old.items ++ bytes_of (divided_up len 8) (slice_of (unit_row 112 (sram_row rows.now) row blocks.now) low len)) }
+    ensures { OnOk result (into.new.items ≡ into.old.items ++ bytes_of (divided_up len 8) (slice_of (unit_row 112 (sram_row unit.now.rows.now) unit.now.row unit.now.blocks.now) low len)) }
 {
     let mut left = (len + 7) / 8;
     while left > 0 {
@@ -112,7 +118,7 @@ pub fn push_bits(
         left -= count;
         let up = 8 * left;
         let some = (len - up).min(8 * count);
-        let bits = bits_at(rows, blocks, row, low + up, some, near);
+        let bits = bits_at(unit, low + up, some, near);
         push_bytes(into, bits, count)?;
     }
     Ok(())
@@ -148,6 +154,10 @@ pub fn push_entry(
         (slice_of (entry_in layout.now (sram_row rows.now) blocks.now (quantum_of layout.now cell) (local_of layout.now cell)) from len)) }
 {
     let spot = spot_of(layout, cell);
-    let unit = piece_at(blocks, layout.side, spot.unit);
-    push_bits(into, rows, unit, spot.row, spot.low + from, len, near)
+    let unit = UnitRow {
+        rows,
+        blocks: piece_at(blocks, layout.side, spot.unit),
+        row: spot.row,
+    };
+    push_bits(into, &unit, spot.low + from, len, near)
 }

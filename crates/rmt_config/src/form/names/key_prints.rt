@@ -1,9 +1,8 @@
 //! That no key of a list stands twice: by prints of the keys, and key by key only where two prints are the same.
 
-ghost use Rattle.std.specs.Prelude.{◌≡◌, ◌+◌, ◌*◌, ◌<◌, ◌≤◌, ◌++◌, ℕ, List, [], IfOk, OnOk, length, true};
-ghost use Rattle.rmt_bits.specs.Bits.{number_of};
+ghost use Rattle.std.specs.Prelude.{◌≡◌, ◌+◌, ◌*◌, ◌≤◌, ◌++◌, ℕ, List, [], IfOk, OnOk, length, true};
 ghost use Rattle.rmt_config.specs.Cells.{blocks_at};
-ghost use Rattle.rmt_config.specs.KeyPrints.{kept_of, kept_of_keys, spread as spread_of};
+ghost use Rattle.rmt_config.specs.KeyPrints.{NumberKnown, kept_of, kept_of_keys, print, spread as spread_of};
 ghost use Rattle.rmt_config.specs.KeysSeen.{news};
 ghost use Rattle.rmt_config.specs.Order.{are_new, rises_from};
 
@@ -54,34 +53,32 @@ fn spread(number: u64) -> u64
     (product % (1 << 64)) as u64 ^ (product >> 64) as u64
 }
 
-/// Adds what is kept of a key of these bytes, at most 8, which are those of this number: all of them, or their print.
-pub fn put_short(
+/// The print of a key of these bytes, of which the number is known exactly where they are at most 8.
+fn print_of(bytes: &[u8], number: Option<u64>) -> u64
+    requires { NumberKnown bytes.now number }
+    ensures { result ≡ print bytes.now }
+{
+    match number {
+        Some(number) => spread(number),
+        None => fnv(bytes),
+    }
+}
+
+/// Adds what is kept of a key of these bytes, of which the number is known exactly where they are at most 8: all of them,
+/// or their print.
+pub fn put_kept(
     into: &mut Vec<u64>,
     whole: bool,
     bytes: &[u8],
-    number: u64,
+    number: Option<u64>,
 ) -> Result<(), AllocError>
-    requires few { length bytes.now ≤ 8 }
-    requires same { number_of bytes.now ≡ number }
+    requires { NumberKnown bytes.now number }
     ensures { OnOk result (into.new.items ≡ into.old.items ++ kept_of whole bytes.now) }
 {
     if whole {
         put_bytes(into, bytes)?;
     } else {
-        into.push(spread(number))?;
-    }
-    Ok(())
-}
-
-/// Adds what is kept of a key of these bytes, more than 8: all of them, or their print.
-pub fn put_long(into: &mut Vec<u64>, whole: bool, bytes: &[u8]) -> Result<(), AllocError>
-    requires { 8 < length bytes.now }
-    ensures { OnOk result (into.new.items ≡ into.old.items ++ kept_of whole bytes.now) }
-{
-    if whole {
-        put_bytes(into, bytes)?;
-    } else {
-        into.push(fnv(bytes))?;
+        into.push(print_of(bytes, number))?;
     }
     Ok(())
 }

@@ -6,6 +6,7 @@ ghost use Rattle.rmt_config.specs.PartsTold.{parts_at, listed_numbers as listed_
 
 use crate::config::{Config, SlotUnit, Unit};
 use crate::form::numbers::put_numbers;
+use rmt_ast::names::TableName;
 use std::alloc::{AllocError, Global};
 
 /// A part of a table: the number of its stage, the place of its slot there, and the number of the slot's first
@@ -16,6 +17,16 @@ pub struct Part<'a> {
     pub place: usize,
     pub first: u128,
     pub slot: &'a SlotUnit,
+}
+
+/// A table of a configuration, its parts in the order of their stages, and the numbers of the entries in them, by part
+/// and cell.
+#[derive(Clone, Copy)]
+pub struct TableParts<'a> {
+    pub config: &'a Config,
+    pub table: &'a TableName,
+    pub parts: &'a [Part<'a>],
+    pub numbers: &'a [u32],
 }
 
 /// Adds the parts of a node's table among the units of a stage.

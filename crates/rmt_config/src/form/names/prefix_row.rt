@@ -3,11 +3,7 @@
 ghost use Rattle.std.specs.Prelude.{◌≡◌, ◌+◌, ◌*◌, ◌^◌, ◌<◌, ◌≤◌, IsTrue, length};
 ghost use Rattle.rmt_ast.specs.declared.program.Kind.TheVariants as kind;
 ghost use Rattle.rmt_config.specs.Cells.{cells_in, tcam_row, unit_row};
-ghost use Rattle.rmt_config.specs.LaneForm.{bits_of_lanes};
-ghost use Rattle.rmt_config.specs.MemoryRules.{MemoryIsFormed};
-ghost use Rattle.rmt_config.specs.NamesForm.{is_of_kind};
-ghost use Rattle.rmt_config.specs.PartStands.{PartStands};
-ghost use Rattle.rmt_config.specs.PartsTold.{part_at};
+ghost use Rattle.rmt_config.specs.FilledTables.{MemoryIsFormed, PartStands, bits_of_lanes, is_of_kind, part_at};
 ghost use Rattle.rmt_config.specs.PrefixRow.{PrefixRows};
 ghost use Rattle.rmt_config.specs.RunCells.{own_content};
 ghost use Rattle.rmt_config.specs.declared.config.TcamRow.{TcamRow};
@@ -26,6 +22,14 @@ pub struct Held {
     pub mask: u128,
 }
 
+/// A word of 40 bits below those above it.
+fn with_word(above: u128, word: u64) -> u128
+    requires { above * 2 ^ 40 + word < 2 ^ 128 }
+    ensures { result ≡ above * 2 ^ 40 + word }
+{
+    above * 0x100_0000_0000 + word as u128
+}
+
 /// The values and the masks of a row of blocks side by side, the first lowest.
 fn unit_held(rows: &[TcamRow], blocks: &[u8], row: u64, near: &mut usize) -> Held
     requires rows { PrefixRows rows.now }
@@ -40,8 +44,8 @@ fn unit_held(rows: &[TcamRow], blocks: &[u8], row: u64, near: &mut usize) -> Hel
     while left > 0 {
         left -= 1;
         let word = row_compared(rows, blocks[left], row, near);
-        key = key * 0x100_0000_0000 + word.value as u128;
-        mask = mask * 0x100_0000_0000 + word.mask as u128;
+        key = with_word(key, word.value);
+        mask = with_word(mask, word.mask);
     }
     Held { key, mask }
 }

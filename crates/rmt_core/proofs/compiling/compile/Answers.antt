@@ -21,7 +21,7 @@ use Rattle.rmt_core.specs.WantedNames.{names_of}
 use Rattle.rmt_core.proofs.CallLaws.{ends_at_once, ends_told, told_quiet, writes_as, writes_none}
 use Rattle.rmt_core.proofs.DeliverLaws.{delivers}
 use Rattle.rmt_core.proofs.GivenOnce.{OneMeaning}
-use Rattle.rmt_core.proofs.GoingOn.{understood_answered}
+use Rattle.rmt_core.proofs.GoingOn.{said_by, understood_answered}
 use Rattle.rmt_core.proofs.TextFileLaws.{texts_then, texts_unread}
 use Rattle.rmt_core.proofs.TextLaws.{is_fault_of, line_answered, printed_tells, text_fault_answered, text_fault_short, text_fault_unread}
 use Rattle.rmt_core.proofs.compiling.compile.Goals as goal
@@ -44,14 +44,8 @@ is_wanted f None = refl
 is_wanted f (Some x) = refl
 
 pub make-requires-clause-said : goal.make-requires-clause-said
-make-requires-clause-said g c = record {
-  text = c.in-Ok.texts.program.items;
-  entry_text = c.in-Ok.texts.entries.items;
-  means = rw c.as_slice.ensures.value at c.in-Ok-understand.ensures.means;
-  says = rw c.as_slice-2.ensures.value at c.in-Ok-understand.ensures.says;
-  is_short = c.in-Ok.ensures.program;
-  has_short_entries = c.in-Ok.ensures.entries;
-}
+make-requires-clause-said g c =
+    said_by _ _ _ _ (rw c.as_slice.ensures.value at c.in-Ok-understand.ensures.means) (rw c.as_slice-2.ensures.value at c.in-Ok-understand.ensures.says) c.in-Ok.ensures.program c.in-Ok.ensures.entries
 
 pub returns-in-Err-clause-call : goal.returns-in-Err-clause-call
 returns-in-Err-clause-call g c =

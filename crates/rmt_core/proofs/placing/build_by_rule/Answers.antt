@@ -17,13 +17,9 @@ build-requires-clause-named c =
 pub returns-clause-built : goal.returns-clause-built
 returns-clause-built c =
     let p = c.args.program.now in
-    let lists = c.args.entries.now in
-    let said = c.requires.said in
     let b = c.build.ensures in
-    is_built ByRule p lists c.build.result c.requires.program said (c.one_meaning.ensures.short said.text p said.means)
-    (λ m config carries formed. c.packet_lists.ensures p lists m config c.requires.program c.requires.entries carries)
-    (not_refused (first_refusal p) c.build.result b.refused)
-    b.carries b.config b.rules b.placement b.layout b.bounded
+    is_built ByRule p c.args.entries.now c.build.result c.requires.program c.requires.entries c.requires.said c.one_meaning.ensures.short c.packet_lists.ensures
+    (not_refused (first_refusal p) c.build.result b.refused) b.carries b.config b.rules b.placement b.layout b.bounded
 
 cause : (c : After-build) (fault : NoFit) → c.build.result ≡ Err fault → HasCause ByRule c.args.program.now c.args.entries.now fault
 cause c no_fit.NoMemory e = tt

@@ -58,10 +58,8 @@ returns-clause-built c =
     let placer = ByTries c.args.budget in
     let p = c.args.program.now in
     let lists = c.args.entries.now in
-    let said = c.requires.said in
     let b = c.build_from.ensures in
-    is_built placer p lists c.build_from.result c.requires.program said (c.one_meaning.ensures.short said.text p said.means)
-    (λ m config carries formed. c.packet_lists.ensures p lists m config c.requires.program c.requires.entries carries)
+    is_built placer p lists c.build_from.result c.requires.program c.requires.entries c.requires.said c.one_meaning.ensures.short c.packet_lists.ensures
     (not_refused (refusal_by placer p) c.build_from.result (refused here))
     b.carries b.config b.rules (placed_so placer p lists c.args.placement.now.parts c.requires.placed c.build_from.result b.rules b.placement) b.layout b.bounded
 

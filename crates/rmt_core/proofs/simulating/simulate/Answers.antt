@@ -8,14 +8,13 @@ use Rattle.rmt_core.specs.Types.{Config}
 use Rattle.rmt_drive.specs.declared.status.Status.{Status}
 use Rattle.rmt_drive.specs.declared.status.Status.TheVariants.{BadImage}
 use Rattle.rmt_drive.specs.declared.watch.Watch.{Watch}
-use Rattle.rmt_drive.specs.declared.watch.Watch.TheVariants as watch
 use Rattle.rmt_drive.specs.ChipRuns.{RunsChip}
 use Rattle.rmt_drive.specs.Ends.{Outside, ReadsAndPrints, outside}
 use Rattle.rmt_drive.specs.Files.{image_limit, packets_limit}
 use Rattle.rmt_drive.specs.Loading.{IsFound}
 use Rattle.rmt_core.specs.Simulating.{OfImage, OfOpen, GivesRun}
 use Rattle.rmt_core.specs.ImageFaults.{bad_image_line}
-use Rattle.rmt_core.proofs.CallLaws.{ends_at_once, ends_told, ends_unopened, ends_unread, goes_on_as, opens_then, reads_then}
+use Rattle.rmt_core.proofs.CallLaws.{ends_at_once, ends_told, ends_unopened, ends_unread, goes_on_as, opens_then, reads_then, runs_on}
 use Rattle.rmt_core.proofs.GoingOn.{bad_image_answered, spelled_answered}
 use Rattle.rmt_core.proofs.simulating.simulate.Goals as goal
 
@@ -39,9 +38,6 @@ module _ (w : Watch) (before : Outside) (image packets bytes : List ℕ) (read :
         opened_then after s
         (goes_on_as (outside opening before.sink) after (λ files. RunsChip w files k packets_limit opening.rest) (λ files. OfOpen w files bytes opening.rest) s
         (λ answered. spelled_answered (outside opening before.sink) after bytes (λ x. RunsChip w opening.files x packets_limit opening.rest) k s spells answers answered) h)
-
-pub run_chip-requires-clause-stands : goal.run_chip-requires-clause-stands
-run_chip-requires-clause-stands g c = (c.in-Ok-read_image.config, c.in-Ok-open.ensures, tt)
 
 pub run_watched-requires-clause-stands : goal.run_watched-requires-clause-stands
 run_watched-requires-clause-stands g c = (c.in-Ok-read_image.config, c.in-Ok-open.ensures, tt)
@@ -82,39 +78,13 @@ returns-in_default-clause-call g c =
     c.read_file.ensures.only_read c.in-Ok.ensures.found opening c.open_file.ensures.only_read c.in-Ok-open_file.ensures.opened (outside opening out) _
     (ends_at_once (outside opening out) (λ files. OfOpen c.args.watch files bytes opening.rest))
 
-pub returns-in-Answers-clause-call : goal.returns-in-Answers-clause-call
-returns-in-Answers-clause-call g c =
-    let bytes = c.in-Ok.bytes.items in
-    let opening = g.F.Shelf.state c.open_file.new.shelf in
-    let k = c.in-Ok-read_image.config in
-    let e = c.run_chip.ensures in
-    rw c.in-Answers.is
-    (spelled_then watch.Answers (outside (g.F.Shelf.state c.args.shelf.now) (g.O.Sink.state c.args.out.now)) (string_bytes c.args.image.now) (string_bytes c.args.packets.now) bytes (g.F.Shelf.state c.read_file.new.shelf)
-    c.read_file.ensures.only_read c.in-Ok.ensures.found opening c.open_file.ensures.only_read c.in-Ok-open_file.ensures.opened
-    (outside (g.F.Shelf.state c.run_chip.new.shelf) (g.O.Sink.state c.run_chip.new.out)) c.run_chip.result k
-    (rw c.as_slice.ensures.value at c.in-Ok-read_image.ensures.found) (rw c.as_slice.ensures.value at (c.in-Ok-read_image.ensures.exact (λ e. cc)))
-    (record {
-      answered = λ tells. e.answered tells k c.in-Ok-open.ensures tt;
-      read_fault = e.read_fault;
-      write_fault = e.write_fault;
-      only_read = e.only_read;
-      only_printed = e.only_printed;
-    }))
-
 pub returns-clause-call : goal.returns-clause-call
 returns-clause-call g c =
     let bytes = c.in-Ok.bytes.items in
     let opening = g.F.Shelf.state c.open_file.new.shelf in
     let k = c.in-Ok-read_image.config in
-    let e = c.run_watched.ensures in
     spelled_then c.args.watch (outside (g.F.Shelf.state c.args.shelf.now) (g.O.Sink.state c.args.out.now)) (string_bytes c.args.image.now) (string_bytes c.args.packets.now) bytes (g.F.Shelf.state c.read_file.new.shelf)
     c.read_file.ensures.only_read c.in-Ok.ensures.found opening c.open_file.ensures.only_read c.in-Ok-open_file.ensures.opened
     (outside (g.F.Shelf.state c.run_watched.new.shelf) (g.O.Sink.state c.run_watched.new.out)) c.run_watched.result k
     (rw c.as_slice.ensures.value at c.in-Ok-read_image.ensures.found) (rw c.as_slice.ensures.value at (c.in-Ok-read_image.ensures.exact (λ e. cc)))
-    (record {
-      answered = λ tells. e.answered tells k c.in-Ok-open.ensures tt;
-      read_fault = e.read_fault;
-      write_fault = e.write_fault;
-      only_read = e.only_read;
-      only_printed = e.only_printed;
-    })
+    (runs_on c.run_watched.ensures.befalls (λ tells. c.run_watched.ensures.answered tells k c.in-Ok-open.ensures tt))

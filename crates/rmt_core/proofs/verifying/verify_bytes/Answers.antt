@@ -1,13 +1,15 @@
 -- The texts are understood, the image and the map are read, and the answer is told; or the call ends at one of these steps.
-use Rattle.std.proofs.Common.{◌≡◌, ◌⊎◌, List, [], ℕ, Ok, Err, inl, inr, refl, ap, ◌∙◌}
-use Rattle.rmt_ast.specs.declared.entry.Entry.{Entry}
+use Rattle.std.proofs.Common.{◌≡◌, ◌⊎◌, [], ℕ, Vec, Ok, Err, inl, inr, refl, ap, ◌∙◌}
+use Rattle.std.specs.Global.{Global}
 use Rattle.rmt_check.specs.Means.{Means}
 use Rattle.rmt_config.specs.Spells.{Spells}
 use Rattle.rmt_entries.specs.Entries.{entries_of}
 use Rattle.rmt_image.specs.Reading.{Answers}
 use Rattle.rmt_verify.specs.Spells.{Spells as SpellsMap}
 use Rattle.rmt_verify.specs.declared.map_file.MapFile.{MapFile}
-use Rattle.rmt_core.specs.Types.{Program, Config}
+use Rattle.rmt_core.specs.Types.{Config}
+use Rattle.rmt_core.specs.declared.text_files.TextFiles.{TextFiles}
+use Rattle.rmt_core.specs.declared.texts.Meant.{Meant}
 use Rattle.rmt_drive.specs.declared.status.Status.{Status}
 use Rattle.rmt_drive.specs.declared.status.Status.TheVariants.{BadImage, Done, NoMemory, WriteFault}
 use Rattle.rmt_core.specs.Commands.{IsPossible, Verify}
@@ -33,24 +35,26 @@ done_possible s (inr (inl e)) = inr (inr (inr e))
 done_possible s (inr (inr e)) = inr (inl e)
 
 -- a call that goes on with what the texts mean, with the configuration of the image, and with the map
-module _ (before after : Outside) (text entry_text image map : List ℕ) (s : Status) where
-  meant_then : OneMeaning → (p : Program) (lists : List (List Entry)) → Means text (Ok p) → entries_of p entry_text ≡ Ok lists
-      → ReadsAndPrints before after (λ files. ChecksBytes files image map p lists) s → ReadsAndPrints before after (λ files. ChecksTexts files text entry_text image map) s
-  meant_then one p lists means says =
-      goes_on_as before after (λ files. ChecksBytes files image map p lists) (λ files. ChecksTexts files text entry_text image map) s
-      (λ answered. understood_answered one before after text entry_text (ChecksBytes before.shelf.files image map) p lists s means says answered)
+module _ (before after : Outside) (texts : TextFiles) (image map : Vec ℕ Global) (s : Status) (meant : Meant) where
+  meant_then : OneMeaning → Means texts.program.items (Ok meant.program) → entries_of meant.program texts.entries.items ≡ Ok meant.entries
+      → ReadsAndPrints before after (λ files. ChecksBytes files image.items map.items meant.program meant.entries) s
+      → ReadsAndPrints before after (λ files. ChecksTexts files texts.program.items texts.entries.items image.items map.items) s
+  meant_then one means says =
+      goes_on_as before after (λ files. ChecksBytes files image.items map.items meant.program meant.entries) (λ files. ChecksTexts files texts.program.items texts.entries.items image.items map.items) s
+      (λ answered. understood_answered one before after texts.program.items texts.entries.items (ChecksBytes before.shelf.files image.items map.items) meant.program meant.entries s means says answered)
 
-  spelled_then : (p : Program) (lists : List (List Entry)) (k : Config) → Spells image k → Answers image (Ok k)
-      → ReadsAndPrints before after (λ files. HasMap files map (Checks files p lists k)) s → ReadsAndPrints before after (λ files. ChecksBytes files image map p lists) s
-  spelled_then p lists k spells answers =
-      goes_on_as before after (λ files. HasMap files map (Checks files p lists k)) (λ files. ChecksBytes files image map p lists) s
-      (λ answered. spelled_answered before after image (λ x. HasMap before.shelf.files map (Checks before.shelf.files p lists x)) k s spells answers answered)
+  spelled_then : (k : Config) → Spells image.items k → Answers image.items (Ok k)
+      → ReadsAndPrints before after (λ files. HasMap files map.items (Checks files meant.program meant.entries k)) s
+      → ReadsAndPrints before after (λ files. ChecksBytes files image.items map.items meant.program meant.entries) s
+  spelled_then k spells answers =
+      goes_on_as before after (λ files. HasMap files map.items (Checks files meant.program meant.entries k)) (λ files. ChecksBytes files image.items map.items meant.program meant.entries) s
+      (λ answered. spelled_answered before after image.items (λ x. HasMap before.shelf.files map.items (Checks before.shelf.files meant.program meant.entries x)) k s spells answers answered)
 
-  mapped_then : OneMap → (p : Program) (lists : List (List Entry)) (k : Config) (m : MapFile) → SpellsMap map m
-      → ReadsAndPrints before after (λ files. Checks files p lists k m) s → ReadsAndPrints before after (λ files. HasMap files map (Checks files p lists k)) s
-  mapped_then one p lists k m spells =
-      goes_on_as before after (λ files. Checks files p lists k m) (λ files. HasMap files map (Checks files p lists k)) s
-      (λ answered. map_answered one before after map (Checks before.shelf.files p lists k) m s spells answered)
+  mapped_then : OneMap → (k : Config) (m : MapFile) → SpellsMap map.items m → ReadsAndPrints before after (λ files. Checks files meant.program meant.entries k m) s
+      → ReadsAndPrints before after (λ files. HasMap files map.items (Checks files meant.program meant.entries k)) s
+  mapped_then one k m spells =
+      goes_on_as before after (λ files. Checks files meant.program meant.entries k m) (λ files. HasMap files map.items (Checks files meant.program meant.entries k)) s
+      (λ answered. map_answered one before after map.items (Checks before.shelf.files meant.program meant.entries k) m s spells answered)
 
 -- ---- the texts mean nothing
 
@@ -76,17 +80,13 @@ returns-in-Err-clause-quiet g c =
 
 pub returns-in-Err-read_image-clause-call : goal.returns-in-Err-read_image-clause-call
 returns-in-Err-read_image-clause-call g c = λ shelf.
-    let texts = c.args.texts.now in
-    let image = c.args.image_bytes.now.items in
-    let map = c.args.map_bytes.now.items in
-    let p = c.in-Ok.meant.program in
-    let lists = c.in-Ok.meant.entries in
+    let meant = c.in-Ok.meant in
     let fault = c.in-Err-read_image.fault in
-    meant_then _ _ texts.program.items texts.entries.items image map c.tell_bad_image.result c.one_meaning.ensures.alone p lists
+    meant_then _ _ c.args.texts.now c.args.image_bytes.now c.args.map_bytes.now c.tell_bad_image.result meant c.one_meaning.ensures.alone
     (rw c.as_slice.ensures.value at c.in-Ok.ensures.means) (rw c.as_slice-2.ensures.value at c.in-Ok.ensures.says)
-    (ends_told shelf _ _ (λ files. ChecksBytes files image map p lists) BadImage c.tell_bad_image.result (bad_image_line fault) (λ e. cc)
+    (ends_told shelf _ _ (λ files. ChecksBytes files c.args.image_bytes.now.items c.args.map_bytes.now.items meant.program meant.entries) BadImage c.tell_bad_image.result (bad_image_line fault) (λ e. cc)
     c.tell_bad_image.ensures.line c.tell_bad_image.ensures.only_printed
-    (bad_image_answered _ _ image (λ k. HasMap shelf.files map (Checks shelf.files p lists k)) fault c.tell_bad_image.result
+    (bad_image_answered _ _ c.args.image_bytes.now.items (λ k. HasMap shelf.files c.args.map_bytes.now.items (Checks shelf.files meant.program meant.entries k)) fault c.tell_bad_image.result
     (rw c.as_slice-3.ensures.value at c.in-Err-read_image.ensures.exact) c.tell_bad_image.ensures.no_memory (λ _. refl) c.tell_bad_image.ensures.line))
 
 pub returns-in-Err-read_image-clause-quiet : goal.returns-in-Err-read_image-clause-quiet
@@ -104,20 +104,15 @@ returns-in-Err-Form-clause-possible g c = bad_possible c.tell_bad_map.result c.t
 
 pub returns-in-Err-Form-clause-call : goal.returns-in-Err-Form-clause-call
 returns-in-Err-Form-clause-call g c = λ shelf.
-    let texts = c.args.texts.now in
-    let image = c.args.image_bytes.now.items in
-    let map = c.args.map_bytes.now.items in
-    let p = c.in-Ok.meant.program in
-    let lists = c.in-Ok.meant.entries in
+    let meant = c.in-Ok.meant in
     let k = c.in-Ok-read_image.config in
-    let s = c.tell_bad_map.result in
     let line = c.tell_bad_map.ensures.line in
-    meant_then _ _ texts.program.items texts.entries.items image map s c.one_meaning.ensures.alone p lists
+    meant_then _ _ c.args.texts.now c.args.image_bytes.now c.args.map_bytes.now c.tell_bad_map.result meant c.one_meaning.ensures.alone
     (rw c.as_slice.ensures.value at c.in-Ok.ensures.means) (rw c.as_slice-2.ensures.value at c.in-Ok.ensures.says)
-    (spelled_then _ _ texts.program.items texts.entries.items image map s p lists k
+    (spelled_then _ _ c.args.texts.now c.args.image_bytes.now c.args.map_bytes.now c.tell_bad_map.result meant k
     (rw c.as_slice-3.ensures.value at c.in-Ok-read_image.ensures.found) (rw c.as_slice-3.ensures.value at (c.in-Ok-read_image.ensures.exact (λ e. cc)))
-    (ends_told shelf _ _ (λ files. HasMap files map (Checks files p lists k)) BadImage s bad_map_line (λ e. cc) line c.tell_bad_map.ensures.only_printed
-    (line_answered _ _ (HasMap shelf.files map (Checks shelf.files p lists k)) BadImage s bad_map_line
+    (ends_told shelf _ _ (λ files. HasMap files c.args.map_bytes.now.items (Checks files meant.program meant.entries k)) BadImage c.tell_bad_map.result bad_map_line (λ e. cc) line c.tell_bad_map.ensures.only_printed
+    (line_answered _ _ (HasMap shelf.files c.args.map_bytes.now.items (Checks shelf.files meant.program meant.entries k)) BadImage c.tell_bad_map.result bad_map_line
     (inr (rw c.as_slice-4.ensures.value at (no_map c.as_slice-4.result.now c.read_map.result (c.in-Err-Form.is ∙ ap Err c.in-Err-Form.field-0-is) c.read_map.ensures.only), refl)) (λ _. refl) (inr (inr (inr (inr (inl refl))))) line)))
 
 pub returns-in-Err-Form-clause-quiet : goal.returns-in-Err-Form-clause-quiet
@@ -132,23 +127,18 @@ returns-in-Ok-check_map-clause-possible g c = done_possible c.tell.result (c.tel
 
 pub returns-in-Ok-check_map-clause-call : goal.returns-in-Ok-check_map-clause-call
 returns-in-Ok-check_map-clause-call g c = λ shelf.
-    let texts = c.args.texts.now in
-    let image = c.args.image_bytes.now.items in
-    let map = c.args.map_bytes.now.items in
-    let p = c.in-Ok.meant.program in
-    let lists = c.in-Ok.meant.entries in
+    let meant = c.in-Ok.meant in
     let k = c.in-Ok-read_image.config in
     let m = c.in-Ok-read_map.map in
-    let s = c.tell.result in
     let failing = c.in-Ok-check_map.failing in
     let line = c.tell.ensures.line (answer_line failing) c.answer_text.ensures in
-    meant_then _ _ texts.program.items texts.entries.items image map s c.one_meaning.ensures.alone p lists
+    meant_then _ _ c.args.texts.now c.args.image_bytes.now c.args.map_bytes.now c.tell.result meant c.one_meaning.ensures.alone
     (rw c.as_slice.ensures.value at c.in-Ok.ensures.means) (rw c.as_slice-2.ensures.value at c.in-Ok.ensures.says)
-    (spelled_then _ _ texts.program.items texts.entries.items image map s p lists k
+    (spelled_then _ _ c.args.texts.now c.args.image_bytes.now c.args.map_bytes.now c.tell.result meant k
     (rw c.as_slice-3.ensures.value at c.in-Ok-read_image.ensures.found) (rw c.as_slice-3.ensures.value at (c.in-Ok-read_image.ensures.exact (λ e. cc)))
-    (mapped_then _ _ texts.program.items texts.entries.items image map s c.spells_one.ensures p lists k m (rw c.as_slice-4.ensures.value at c.in-Ok-read_map.ensures.found)
-    (ends_told shelf _ _ (λ files. Checks files p lists k m) Done s (answer_line failing) (λ e. cc) line c.tell.ensures.only_printed
-    (line_answered _ _ (Checks shelf.files p lists k m) Done s (answer_line failing) (failing, c.in-Ok-check_map.ensures.exact, refl) (λ _. refl) (inl refl) line))))
+    (mapped_then _ _ c.args.texts.now c.args.image_bytes.now c.args.map_bytes.now c.tell.result meant c.spells_one.ensures k m (rw c.as_slice-4.ensures.value at c.in-Ok-read_map.ensures.found)
+    (ends_told shelf _ _ (λ files. Checks files meant.program meant.entries k m) Done c.tell.result (answer_line failing) (λ e. cc) line c.tell.ensures.only_printed
+    (line_answered _ _ (Checks shelf.files meant.program meant.entries k m) Done c.tell.result (answer_line failing) (failing, c.in-Ok-check_map.ensures.exact, refl) (λ _. refl) (inl refl) line))))
 
 pub returns-in-Ok-check_map-clause-quiet : goal.returns-in-Ok-check_map-clause-quiet
 returns-in-Ok-check_map-clause-quiet g c =

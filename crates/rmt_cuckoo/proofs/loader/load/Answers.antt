@@ -19,14 +19,11 @@ within layout seed keys c few cells rows are le is =
 
 pub place-requires-clause-within : goal.place-requires-clause-within
 place-requires-clause-within c =
-    let count : c.cell_count-count.result ≡ cells_of c.args.layout.now = c.cell_count-count.ensures ∙ ap cells_of c.as_slice.ensures in
     within c.args.layout.now c.args.seed c.args.keys.now c.in_ok-choices.choices (vec_len c.loop.loading.cells + 1) (vec_len c.loop.loading.holders)
-    c.requires.rows c.in_ok-choices.ensures (omega (arith, c.loop.invariant.loaded.count, c.loop-test.true, c.len-end.ensures)) (c.loop.invariant.holders ∙ count)
+    c.requires.rows c.in_ok-choices.ensures (omega (arith, c.loop.invariant.loaded.count, c.loop-test.true, c.len-end.ensures)) (c.loop.invariant.holders ∙ c.in_ok-choices.ensures.cells)
 
 pub place-requires-clause-few : goal.place-requires-clause-few
-place-requires-clause-few c =
-    let count : c.cell_count-count.result ≡ cells_of c.args.layout.now = c.cell_count-count.ensures ∙ ap cells_of c.as_slice.ensures in
-    omega (arith, c.loop.invariant.holders, count, c.requires.few_cells)
+place-requires-clause-few c = omega (arith, c.loop.invariant.holders, c.in_ok-choices.ensures.cells, c.requires.few_cells)
 
 pub place-requires-clause-loaded : goal.place-requires-clause-loaded
 place-requires-clause-loaded c =
@@ -34,23 +31,21 @@ place-requires-clause-loaded c =
     subst (λ (n : ℕ). IsLoaded (choices_at c.in_ok-choices.choices) n c.loop.loading) (sym count) c.loop.invariant.loaded
 
 pub count_taken-requires-clause-few : goal.count_taken-requires-clause-few
-count_taken-requires-clause-few c =
-    let count : c.cell_count-count.result ≡ cells_of c.args.layout.now = c.cell_count-count.ensures ∙ ap cells_of c.as_slice.ensures in
-    omega (arith, c.in_ok-place.ensures.holders, c.loop.invariant.holders, count, c.requires.few_cells)
+count_taken-requires-clause-few c = omega (arith, c.in_ok-place.ensures.holders, c.loop.invariant.holders, c.in_ok-choices.ensures.cells, c.requires.few_cells)
 
 pub loop-init : goal.loop-init
 loop-init c = record {
-  loaded = none_loaded (choices_at c.in_ok-choices.choices) c.cell_count-count.result c.in_ok-loading.loading c.in_ok-loading.ensures.holders c.in_ok-loading.ensures.cells;
+  loaded = none_loaded (choices_at c.in_ok-choices.choices) c.in_ok-choices.choices.cells c.in_ok-loading.loading c.in_ok-loading.ensures.holders c.in_ok-loading.ensures.cells;
   holders =
-      let size : length c.in_ok-loading.loading.holders.items ≡ c.cell_count-count.result =
-      ap length c.in_ok-loading.ensures.holders ∙ length-replicate c.cell_count-count.result 0 in
+      let size : length c.in_ok-loading.loading.holders.items ≡ c.in_ok-choices.choices.cells =
+      ap length c.in_ok-loading.ensures.holders ∙ length-replicate c.in_ok-choices.choices.cells 0 in
       omega (arith, size);
   seen =
-      let size : length c.in_ok-search.search.seen.items ≡ c.cell_count-count.result =
-      ap length c.in_ok-search.ensures.seen ∙ length-replicate c.cell_count-count.result false in
+      let size : length c.in_ok-search.search.seen.items ≡ c.in_ok-choices.choices.cells =
+      ap length c.in_ok-search.ensures.seen ∙ length-replicate c.in_ok-choices.choices.cells false in
       omega (arith, size);
   steps = c.in_ok-search.ensures.steps;
-  marks = none_seen c.cell_count-count.result c.in_ok-search.search.seen.items c.in_ok-search.ensures.seen;
+  marks = none_seen c.in_ok-choices.choices.cells c.in_ok-search.search.seen.items c.in_ok-search.ensures.seen;
   taken = λ x lt. absurd (omega (arith, lt, c.in_ok-loading.ensures.taken));
 }
 
@@ -120,7 +115,7 @@ exact_err layout seed keys members count over =
 
 pub returns-then-not-branch-clause-fault : goal.returns-then-not-branch-clause-fault
 returns-then-not-branch-clause-fault c =
-    let steps = c.as_slice-then-not-branch.ensures.value in
+    let steps = c.as_slice.ensures.value in
     failed c.args.layout.now c.args.seed c.args.keys.now c.in_ok-choices.choices (vec_len c.loop.loading.cells) c.place.new.loading c.place.new.self c.in_ok-place.field-0
     c.from_vec.result c.len.result c.in_ok-choices.ensures (omega (arith, c.loop.invariant.loaded.count, c.len-end.ensures)) c.if-not-branch.true c.in_ok-place.ensures.searched
     (c.from_vec.ensures ∙ c.in_ok-members.ensures ∙ ap (λ ss. members_of (vec_len c.place.new.loading.cells) ss c.place.new.loading.holders.items) steps)

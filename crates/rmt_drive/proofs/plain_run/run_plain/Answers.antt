@@ -1,5 +1,5 @@
 -- A run that ended early, and one that came to the end of what may be read.
-use Rattle.std.proofs.Common.{Err, ap, refl, arith}
+use Rattle.std.proofs.Common.{Err, ap, refl, arith, rules}
 use Rattle.rmt_io.proofs.OutsideLaws.{only_printed_trans, printing_failed_later}
 use Rattle.rmt_drive.specs.EventText.{with_changes}
 use Rattle.rmt_drive.specs.PlainRunning.{ended_at}
@@ -33,5 +33,11 @@ returns-in-Ok-clause-answered g c = λ t p lists goes.
     (λ w. e.some w p lists r.0 before r.2) (λ d. e.printed d p lists r.0 before r.2) (e.front p lists r.0 before r.2)
     (λ w. printing_failed_later (g.O.Sink.state c.finish.new.out) c.take_all.ensures.only_printed (e.failed w))
 
-pub returns-in-Ok-clause-only_printed : goal.returns-in-Ok-clause-only_printed
-returns-in-Ok-clause-only_printed g c = only_printed_trans c.take_all.ensures.only_printed c.finish.ensures.only_printed
+pub returns-in-Ok-clause-befalls : goal.returns-in-Ok-clause-befalls
+returns-in-Ok-clause-befalls g c = record {
+  read_fault = search rules;
+  never_fails = search rules;
+  write_fault = λ e. printing_failed_later (g.O.Sink.state c.finish.new.out) c.take_all.ensures.only_printed (c.finish.ensures.failed e);
+  only_read = c.take_all.ensures.only_read;
+  only_printed = only_printed_trans c.take_all.ensures.only_printed c.finish.ensures.only_printed;
+}

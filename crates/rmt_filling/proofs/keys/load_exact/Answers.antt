@@ -17,11 +17,7 @@ as_loaded-requires-clause-few c =
 pub overflow_cast-result : goal.overflow_cast-result
 overflow_cast-result c =
     let full = subst (Explains c.args.layout.now c.args.seed c.args.keys.now) c.in-Err-Overfull.field-0-is c.in-Err-Overfull.ensures.fault in
-    let few = members_few c.args.layout.now c.args.seed c.args.keys.now c.in-Err-Overfull.members c.in-Err-Overfull.cells full in
-    let keys = c.requires.few_keys in
-    let same = c.len.ensures in
-    let members = ap length c.in-Err-Overfull.members-is in
-    omega (arith, few, keys, same, members)
+    omega (arith, members_few c.args.layout.now c.args.seed c.args.keys.now c.in-Err-Overfull.members c.in-Err-Overfull.cells full, ap length c.in-Err-Overfull.members-is)
 
 pub returns-in_ok-stands-in-Ok : goal.returns-in_ok-stands-in-Ok
 returns-in_ok-stands-in-Ok c =

@@ -20,7 +20,7 @@ use Rattle.rmt_config.specs.Rooms.{args_as_one, tests_as_one}
 use Rattle.rmt_filling.specs.declared.stands.Stand.{Stand}
 use Rattle.rmt_filling.specs.Holding.{Held, PutsRow, TernarySo, data_for, head_for, mask_for, value_for}
 use Rattle.rmt_filling.specs.Listing.{masks_of, values_of}
-use Rattle.rmt_filling.proofs.EntryLaws.{above-lt, before-one, data-fits, data-small, entry-of, tests_mask-lt, widths-small, entry-action, entry-fits}
+use Rattle.rmt_filling.proofs.EntryLaws.{above-lt, before-one, data-small, entry-there, tests_mask-lt, widths-small}
 use Rattle.rmt_filling.proofs.ExactLaws.{record-elsewhere, unit-listed}
 use Rattle.rmt_filling.proofs.TernaryLaws.{ternary-start, ternary-step}
 use Rattle.rmt_filling.proofs.ternary.write_rows.Goals as goal
@@ -43,7 +43,7 @@ write_tests-requires c =
     let i = c.loop-stand.stand-index in
     let x = get_or c.args.part.now.stands.now i no_stand in
     let e = c.placed_entry-placed.result.entry.now in
-    let is = entry-of p t c.args.part.now.entries.now c.requires.part.entries x.entry e c.placed_entry-placed.ensures.entry in
+    let own = entry-there p t c.args.part.now.entries.now c.args.part.now.first c.requires.part x.entry e c.placed_entry-placed.ensures.entry in
     let blocks = c.requires.blocks in
     let bits : key_bits p t ≡ sum c.args.widths.now = ap sum (sym c.requires.widths) in
     let below : x.cell < 2048 * c.args.shape.now.quanta = subst (λ k. x.cell < k) (ternary-cells c.args.shape.now (λ one. let two = c.requires.ternary in omega (arith, one, two))) (c.requires.stands.cells i no_stand c.loop-stand-test.true) in
@@ -52,7 +52,7 @@ write_tests-requires c =
       apart = blocks.apart;
       widths = subst (All (λ w. w ≤ 128)) (sym c.requires.widths) (widths-small p c.requires.part.program t.key);
       narrow = let most = c.requires.shape.most_key in let key = c.requires.key in omega (arith, most, key, bits);
-      tests = subst (λ (ws : List ℕ). AllZip IsTest ws e.tests) (sym c.requires.widths) is.tests;
+      tests = subst (λ (ws : List ℕ). AllZip IsTest ws e.tests) (sym c.requires.widths) own.is_entry.tests;
       room = subst (λ k. x.cell / 2048 * divided_up k 40 + divided_up k 40 ≤ length c.args.blocks.now) bits (room x.cell c.args.shape.now.quanta (divided_up (key_bits p t) 40) (length c.args.blocks.now) below blocks.long);
     }
 
@@ -60,20 +60,18 @@ pub write_head-requires : goal.write_head-requires
 write_head-requires c =
     let p = c.args.part.now.program.now in
     let t = c.args.part.now.table.now in
-    let n = c.requires.part.entries.0 in
     let x = get_or c.args.part.now.stands.now c.loop-stand.stand-index no_stand in
     let e = c.placed_entry-placed.result.entry.now in
-    let is = entry-of p t c.args.part.now.entries.now c.requires.part.entries x.entry e c.placed_entry-placed.ensures.entry in
-    let acts = entry-action p t n e is in
+    let own = entry-there p t c.args.part.now.entries.now c.args.part.now.first c.requires.part x.entry e c.placed_entry-placed.ensures.entry in
     let params = c.placed_entry-placed.ensures.params in
-    let fits : sum c.placed_entry-placed.result.params.now ≤ data_bits p t = subst (λ (ps : List ℕ). sum ps ≤ data_bits p t) (sym params) (data-fits p t e.action acts) in
+    let fits : sum c.placed_entry-placed.result.params.now ≤ data_bits p t = subst (λ (ps : List ℕ). sum ps ≤ data_bits p t) (sym params) own.within in
     record {
       shape = c.requires.shape;
       cell = c.requires.stands.cells c.loop-stand.stand-index no_stand c.loop-stand-test.true;
-      code = let few = c.requires.part.few in let code = c.placed_entry-placed.ensures.code in omega (arith, acts, few, code);
+      code = subst (λ k. k < 32) (sym c.placed_entry-placed.ensures.code) own.code;
       held = let held = c.requires.held in omega (arith, fits, held);
       params = c.placed_entry-placed.ensures.widths;
-      args = subst (λ (ps : List ℕ). AllZip Fits ps e.args) (sym params) (entry-fits p t n e is);
+      args = subst (λ (ps : List ℕ). AllZip Fits ps e.args) (sym params) own.args;
     }
 
 pub loop-stand-init : goal.loop-stand-init
@@ -96,21 +94,18 @@ loop-stand-preserved c =
     let x = get_or c.args.part.now.stands.now i no_stand in
     let e = c.placed_entry-placed.result.entry.now in
     let at : slice_get es x.entry ≡ Some e = c.placed_entry-placed.ensures.entry in
-    let n = c.requires.part.entries.0 in
-    let is = entry-of p t es c.requires.part.entries x.entry e at in
-    let acts = entry-action p t n e is in
+    let own = entry-there p t es c.args.part.now.first c.requires.part x.entry e at in
     let s = c.args.shape.now in
     let stands = c.args.part.now.stands.now in
     let blocks = c.args.blocks.now in
     let old : Held = record { sram = blocks_of c.loop-stand.sram; values = values_of c.loop-stand.tcam; masks = masks_of c.loop-stand.tcam } in
     let new : Held = record { sram = blocks_of c.write_head.new.sram; values = values_of c.write_tests.new.tcam; masks = masks_of c.write_tests.new.tcam } in
     let code = c.args.part.now.first + e.action in
-    let code_lt : code < 32 = let few = c.requires.part.few in omega (arith, acts, few) in
     let held : s.held < 2 ^ 16 = let le = data_bits-few p c.requires.part.program t in let same = c.requires.held in omega (arith, le, same) in
-    let mask : mask_for p t e < 2 ^ s.key = subst (λ k. mask_for p t e < 2 ^ k) (sym c.requires.key) (tests_mask-lt (map (width_of p) t.key) e.tests is.tests) in
+    let mask : mask_for p t e < 2 ^ s.key = subst (λ k. mask_for p t e < 2 ^ k) (sym c.requires.key) (tests_mask-lt (map (width_of p) t.key) e.tests own.is_entry.tests) in
     let whole : head_for code + 256 * data_for p t e < 2 ^ s.held =
     subst (λ k. head_for code + 256 * data_for p t e < 2 ^ k) (sym c.requires.held)
-    (above-lt code (data_for p t e) (data_bits p t) code_lt (data-small (params_of p (slice_index t.actions e.action)) e.args (data_bits p t) (entry-fits p t n e is) (data-fits p t e.action acts))) in
+    (above-lt code (data_for p t e) (data_bits p t) own.code (data-small (params_of p (slice_index t.actions e.action)) e.args (data_bits p t) own.args own.within)) in
     let puts : PutsRecord old.sram new.sram s x.cell (head_for code + 256 * data_for p t e) =
     subst (λ (ps : List ℕ). PutsRecord old.sram new.sram s x.cell (head_for code + 256 * args_as_one ps e.args)) c.placed_entry-placed.ensures.params
     (subst (λ k. PutsRecord old.sram new.sram s x.cell (head_for k + 256 * args_as_one c.placed_entry-placed.result.params.now e.args)) c.placed_entry-placed.ensures.code c.in_ok-write_head.ensures) in

@@ -65,7 +65,7 @@ loop-rest-preserved c =
       told = c.loop-rest.invariant.told
           ∙ ap (fronts c.loop-rest.tokens.items) (after_token c.loop-rest.place c.loop-rest.rest.now c.in-Token.what c.in-Token.len (token_some w) within.some (token_is w))
           ∙ fronts-push c.loop-rest.tokens.items (token_at c.loop-rest.place c.in-Token.what) _
-          ∙ cc (same, c.token_at.ensures, c.in_ok-push-in-Token.ensures.items);
+          ∙ cc (same, c.token_at.ensures, c.in_ok-put-in-Token.ensures.items);
       line = omega (arith, c.moved-place-in-Token.ensures.line, c.split_at-in-Token.ensures.front_len, c.split_at-in-Token.ensures.back_len, c.loop-rest.invariant.line);
       column = omega (arith, c.moved-place-in-Token.ensures.column, c.split_at-in-Token.ensures.front_len, c.split_at-in-Token.ensures.back_len, c.loop-rest.invariant.column);
     }
@@ -77,10 +77,10 @@ returns-in-Fault-clause-exact c =
     rw c.fault_at.ensures all
 
 -- the last token is pushed behind the loop
-all_read : (c : goal.In_ok-push) → tokens_of c.args.text.now ≡ Ok c.push-2.new.self.items
+all_read : (c : goal.In_ok-put) → tokens_of c.args.text.now ≡ Ok c.put-2.new.tokens.items
 all_read c =
     let none : length c.loop-rest.rest.now ≡ 0 = search rules in
-    c.loop-rest.invariant.told ∙ read_end c.loop-rest.tokens.items c.loop-rest.place c.loop-rest.rest.now none ∙ cc (c.token_at-2.ensures, c.in_ok-push.ensures.items)
+    c.loop-rest.invariant.told ∙ read_end c.loop-rest.tokens.items c.loop-rest.place c.loop-rest.rest.now none ∙ cc (c.token_at-2.ensures, c.in_ok-put.ensures.items)
 
 pub returns-clause-exact : goal.returns-clause-exact
 returns-clause-exact c = all_read c

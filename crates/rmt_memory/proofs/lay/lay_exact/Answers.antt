@@ -1,4 +1,5 @@
 use Rattle.std.proofs.Common.{◌≡◌, List, ℕ, ◌*◌, ◌%◌, ◌/◌, sym, refl, ap, ◌∙◌, subst, arith}
+use Rattle.std.specs.Prelude.{◌<◌, All}
 use Rattle.std.proofs.lemmas.Bool.{and_from, eq-eqb}
 use Rattle.std.proofs.lemmas.Nat.{mod_below}
 use Rattle.rmt_memory.specs.Types.{SramRow, CellNumber}
@@ -10,28 +11,28 @@ use Rattle.rmt_memory.specs.Laying.{runs_of}
 use Rattle.rmt_memory.specs.Laid.{CellsLaid}
 use Rattle.rmt_memory.proofs.LayLaws.{cells-below, exact-heads, exact-keys, cells-hold}
 use Rattle.rmt_memory.proofs.lay.lay_exact.Goals as goal
+use Rattle.rmt_memory.proofs.lay.lay_exact.Goals.{After-exact_keys-layout}
+
+-- the listed cells are among those of the part
+among : (c : After-exact_keys-layout) → All (λ (n : CellNumber). n.cell < c.exact_keys-layout.result.ways * c.exact_keys-layout.result.quanta * c.exact_keys-layout.result.way) c.as_slice-numbers.result.now
+among c =
+    let e = ap (λ (l : CellLayout). l.ways * l.quanta * l.way) c.exact_keys-layout.ensures in
+    let same : 4 * c.args.format.quanta * (1024 * c.args.format.per) ≡ 4096 * c.args.format.quanta * c.args.format.per = omega arith in
+    cells-below c.args.slot.now.numbers c.as_slice-numbers.result.now _ _ c.as_slice-numbers.ensures (e ∙ same) c.requires.numbers.below
 
 pub runs_of-requires-clause-cells : goal.runs_of-requires-clause-cells
-runs_of-requires-clause-cells c =
-    let e : c.exact_keys-layout.result.ways * c.exact_keys-layout.result.quanta * c.exact_keys-layout.result.way ≡ 4 * c.args.quanta * (1024 * c.args.per) =
-    ap (λ (l : CellLayout). l.ways * l.quanta * l.way) c.exact_keys-layout.ensures in
-    let same : 4 * c.args.quanta * (1024 * c.args.per) ≡ 4096 * c.args.quanta * c.args.per = omega arith in
-    cells-below c.args.slot.now.numbers c.as_slice-numbers.result.now _ _ c.as_slice-numbers.ensures (e ∙ same) c.requires.numbers.below
+runs_of-requires-clause-cells c = among (goal.at.runs_of-requires-clause-cells c).After-exact_keys-layout
 
 pub runs_of-requires-2-clause-cells : goal.runs_of-requires-2-clause-cells
-runs_of-requires-2-clause-cells c =
-    let e : c.exact_keys-layout.result.ways * c.exact_keys-layout.result.quanta * c.exact_keys-layout.result.way ≡ 4 * c.args.quanta * (1024 * c.args.per) =
-    ap (λ (l : CellLayout). l.ways * l.quanta * l.way) c.exact_keys-layout.ensures in
-    let same : 4 * c.args.quanta * (1024 * c.args.per) ≡ 4096 * c.args.quanta * c.args.per = omega arith in
-    cells-below c.args.slot.now.numbers c.as_slice-numbers.result.now _ _ c.as_slice-numbers.ensures (e ∙ same) c.requires.numbers.below
+runs_of-requires-2-clause-cells c = among (goal.at.runs_of-requires-2-clause-cells c).After-exact_keys-layout
 
 pub returns : goal.returns
 returns c = record {
   laid = λ cs.
       let slot = c.args.slot.now in
-      let k = c.args.width in
-      let p = c.args.per in
-      let d = c.args.quanta in
+      let k = c.args.format.width in
+      let p = c.args.format.per in
+      let d = c.args.format.quanta in
       let ks = c.args.keys.now in
       let rs = c.args.records.now in
       let bits : c.key_bits-bits.result ≡ bits_of_lanes slot.keys = c.key_bits-bits.ensures ∙ ap bits_of_lanes c.as_slice.ensures in
@@ -63,7 +64,7 @@ returns c = record {
           held = c.in_ok-held.ensures.size;
           cells = cells.all;
           numbers = λ counted some. c.number_size-tail.ensures.counted counted;
-          keys = and_from _ _ (and_from _ _ (and_from _ _ (eq-eqb c.args.first_way c.args.first_way refl) (eq-eqb (1024 * d) (1024 * d) refl)) (eq-eqb p p refl)) (eq-eqb found.size (divided_up b 8) size);
+          keys = and_from _ _ (and_from _ _ (and_from _ _ (eq-eqb c.args.format.first_way c.args.format.first_way refl) (eq-eqb (1024 * d) (1024 * d) refl)) (eq-eqb p p refl)) (eq-eqb found.size (divided_up b 8) size);
         };
         listed = cells-hold c.number_size-tail.result heads found held c.in_ok-cells.cells found.size held.size (4096 * d * p) (λ n. entry n % 256) (λ n. entry n / 256) kept numbers cells c.requires.numbers.rise
             (λ n. mod_below (entry n) 256 (omega arith)) c.in_ok-heads.ensures.size fs refl (gs ∙ ap (λ z. runs_of z (λ n. entry n / 256) numbers) (sym size))

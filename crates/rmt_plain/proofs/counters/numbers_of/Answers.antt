@@ -1,27 +1,22 @@
-use Rattle.std.proofs.Common.{◌≡◌, ◌++◌, ◌+◌, [], ℕ, cond, List, length, drop, get_or, append_assoc, sym, ap, ◌∙◌, arith}
+use Rattle.std.proofs.Common.{◌≡◌, ◌++◌, ◌+◌, [], ℕ, cond, List, length, drop, get_or, sym, ap, ◌∙◌, arith}
 use Rattle.rmt_ast.specs.declared.program.Node.{Node}
 use Rattle.rmt_ast.specs.declared.entry.Entry.{Entry}
 use Rattle.rmt_ast.specs.Answers.{counted_numbers, entry_numbers, is_counted}
-use Rattle.rmt_plain.proofs.FirstLaws.{counted_numbers-drop, counted_numbers-ended, no_node}
+use Rattle.rmt_plain.proofs.FirstLaws.{counted_numbers-ended, counted_numbers-more, no_node}
 use Rattle.rmt_plain.proofs.counters.numbers_of.Goals as goal
 
 pub loop-i-preserved : goal.loop-i-preserved
 loop-i-preserved c =
     let p = c.args.program.now in
-    let lists = c.args.lists.now in
     let i = c.loop-i.i in
-    let list = c.index-lists-i.result in
-    let numbers = c.loop-i.numbers.items in
     let end = c.min-i-end.ensures in
     let same = ap (λ (ns : List Node). length ns) c.as_slice-nodes.ensures in
-    let rest = counted_numbers p (drop (i + 1) p.nodes) (drop (i + 1) lists) in
-    let grown : c.push_counted.new.numbers.items ≡ numbers ++ cond (is_counted p (get_or p.nodes i no_node).what) (entry_numbers (get_or lists i list)) [] =
+    let grown : c.push_counted.new.numbers.items ≡ c.loop-i.numbers.items ++ cond (is_counted p (get_or p.nodes i no_node).what) (entry_numbers (get_or c.args.lists.now i c.index-lists-i.result)) [] =
     c.in_ok-push_counted.ensures
-    ∙ ap (λ (ns : List Node). numbers ++ cond (is_counted p (get_or ns i no_node).what) (entry_numbers c.as_slice.result.now) []) c.as_slice-nodes.ensures
-    ∙ ap (λ (es : List Entry). numbers ++ cond (is_counted p (get_or p.nodes i no_node).what) (entry_numbers es) []) (c.as_slice.ensures ∙ c.index-lists-i.is) in
-    ap (λ (ns : List ℕ). ns ++ rest) grown
-    ∙ append_assoc numbers _ rest
-    ∙ ap (λ (ns : List ℕ). numbers ++ ns) (sym (counted_numbers-drop p p.nodes lists i no_node list (omega arith) (omega arith)))
+    ∙ ap (λ (ns : List Node). c.loop-i.numbers.items ++ cond (is_counted p (get_or ns i no_node).what) (entry_numbers c.as_slice.result.now) []) c.as_slice-nodes.ensures
+    ∙ ap (λ (es : List Entry). c.loop-i.numbers.items ++ cond (is_counted p (get_or p.nodes i no_node).what) (entry_numbers es) []) (c.as_slice.ensures ∙ c.index-lists-i.is) in
+    ap (λ (ns : List ℕ). ns ++ counted_numbers p (drop (i + 1) p.nodes) (drop (i + 1) c.args.lists.now)) grown
+    ∙ counted_numbers-more p c.args.lists.now i c.index-lists-i.result c.loop-i.numbers.items (omega arith) (omega arith)
     ∙ c.loop-i.invariant
 
 pub returns : goal.returns

@@ -33,12 +33,12 @@ pub returns-in-Err-clause-broken : goal.returns-in-Err-clause-broken
 returns-in-Err-clause-broken g c = λ x h.
     let i = c.loop-frame.invariant in
     let text = (g.F.Shelf.state c.args.shelf.now).rest in
-    between i.lines (i.stands x h) (λ e. not_write c.in-Err.fault c.in-Err.ensures.either e)
+    between i.lines (i.stands x h) (λ e. not_write c.in-Err.fault c.in-Err.ensures.asks.either e)
     (λ t.
     let r = i.reads t in (
       gave_read c.args.limit text (g.F.Shelf.state c.loop-frame.shelf).rest r.0 i.lines c.loop-frame.reader r.1 r.2,
       λ e.
-          let far = c.in-Err.ensures.too_long (ap Err e) (tells_later i.only_read t) c.args.limit text r.0 r.1 in
+          let far = c.in-Err.ensures.next.too_long (ap Err e) (tells_later i.only_read t) c.args.limit text r.0 r.1 in
           read_past c.args.limit text r.0 i.lines far.long far.within r.2,
     ))
 
@@ -52,7 +52,7 @@ returns-in-Err-take_line-clause-broken g c = λ x h.
     amid i.lines (n, front) (c.in-Err-take_line.ensures.cut x i.lines n (g.O.Sink.state c.args.out.now) (i.stands x h)) (λ e. not_too_long c.in-Err-take_line.fault c.in-Err-take_line.ensures.either e)
     (λ t.
     let r = i.reads t in
-    let at = c.in-Ok-true.ensures.line c.in-Ok-true.field-0-test (tells_later i.only_read t) c.args.limit text r.0 r.1 in
+    let at = c.in-Ok-true.ensures.next.line c.in-Ok-true.field-0-test (tells_later i.only_read t) c.args.limit text r.0 r.1 in
     (gave_read c.args.limit text (g.F.Shelf.state c.loop-frame.shelf).rest r.0 i.lines c.loop-frame.reader r.1 r.2, at_read c.args.limit text (g.F.Shelf.state c.next_line.new.shelf).rest r.0 i.lines reader at r.2 front c.line.ensures))
 
 pub loop-frame-preserved : goal.loop-frame-preserved
@@ -67,7 +67,7 @@ loop-frame-preserved g c =
       stands = λ x h. c.in-Ok-None.ensures.taken c.in-Ok-None.field-0-is x i.lines n (g.O.Sink.state c.args.out.now) (i.stands x h);
       reads = λ t.
           let r = i.reads t in
-          let at = c.in-Ok-true.ensures.line c.in-Ok-true.field-0-test (tells_later i.only_read t) c.args.limit text r.0 r.1 in (
+          let at = c.in-Ok-true.ensures.next.line c.in-Ok-true.field-0-test (tells_later i.only_read t) c.args.limit text r.0 r.1 in (
             r.0 ++ (n, at.line) ∷ [],
             line_given c.args.limit text (g.F.Shelf.state c.next_line.new.shelf).rest r.0 reader reader at refl refl refl refl,
             fronts_more r.0 i.lines n at.line front r.2 (c.line.ensures ∙ at.front),
@@ -75,7 +75,7 @@ loop-frame-preserved g c =
       few = subst (λ (m : ℕ). g.T.TakesLines.IsFew m c.take_line.new.self) (sym (c.in-Ok-true.ensures.given c.in-Ok-true.field-0-test)) (c.in-Ok-None.ensures.few c.loop-frame.reader.given i.few);
       given = omega (arith, c.in-Ok-true.ensures.few);
       lent = c.take_line.ensures.lent ∙ i.lent;
-      only_read = only_read_trans i.only_read c.next_line.ensures.only_read;
+      only_read = only_read_trans i.only_read c.next_line.ensures.asks.only_read;
       only_printed = only_printed_trans i.only_printed c.take_line.ensures.only_printed;
     }
 
@@ -88,7 +88,7 @@ returns-in-Ok-false-clause-ended g c = λ x h.
       stands = i.stands x h;
       read = λ t.
           let r = i.reads t in
-          read_whole c.args.limit text r.0 i.lines (c.in-Ok-false.ensures.end c.in-Ok-false.field-0-test (tells_later i.only_read t) c.args.limit text r.0 r.1) r.2;
+          read_whole c.args.limit text r.0 i.lines (c.in-Ok-false.ensures.next.end c.in-Ok-false.field-0-test (tells_later i.only_read t) c.args.limit text r.0 r.1) r.2;
     }
 
 pub returns-in-Ok-Some-clause-ended : goal.returns-in-Ok-Some-clause-ended
@@ -103,7 +103,7 @@ returns-in-Ok-Some-clause-ended g c = λ x h.
       stops = c.in-Ok-Some.ensures.stopped c.in-Ok-Some.code c.in-Ok-Some.field-0-is x i.lines number (g.O.Sink.state c.args.out.now) (i.stands x h);
       read = λ t.
           let r = i.reads t in
-          let at = c.in-Ok-true.ensures.line c.in-Ok-true.field-0-test (tells_later i.only_read t) c.args.limit text r.0 r.1 in
+          let at = c.in-Ok-true.ensures.next.line c.in-Ok-true.field-0-test (tells_later i.only_read t) c.args.limit text r.0 r.1 in
           subst (λ (n : ℕ). WereRead c.args.limit text (i.lines ++ (n, front) ∷ [])) (sym c.number-line.ensures)
           (at_read c.args.limit text (g.F.Shelf.state c.next_line.new.shelf).rest r.0 i.lines c.next_line.new.self at r.2 front c.line.ensures);
     }

@@ -6,8 +6,8 @@ use Rattle.rmt_switch.proofs.group_text.add_line.Goals as goal
 
 pub put-requires-clause-number : goal.put-requires-clause-number
 put-requires-clause-number c =
-    (line_fits c.args.line.now (told c.in-Some.group) (sym c.in_ok-group.ensures ∙ ap (option_map told) c.in-Some.is)).number
+    (line_fits c.args.line.now (told c.in-Some.group) (sym c.in-Ok.ensures ∙ ap (option_map told) c.in-Some.is)).number
 
 pub put-requires-clause-ports : goal.put-requires-clause-ports
 put-requires-clause-ports c =
-    (line_fits c.args.line.now (told c.in-Some.group) (sym c.in_ok-group.ensures ∙ ap (option_map told) c.in-Some.is)).ports
+    (line_fits c.args.line.now (told c.in-Some.group) (sym c.in-Ok.ensures ∙ ap (option_map told) c.in-Some.is)).ports

@@ -13,7 +13,7 @@ returns-in_err-add_line c =
     let passed = sym c.is_passed_over.ensures ∙ c.if-not-is_passed_over.true in
     record {
       exact =
-          gives_handed c.from_residual-in_err-add_line.result c.in_err-add_line.field-0.0 (groups_of c.args.text.now) c.from_residual-in_err-add_line.ensures.1
+          gives_handed c.from_residual.result c.in_err-add_line.field-0.0 (groups_of c.args.text.now) c.from_residual.ensures.1
           (gives_fault c.in_err-add_line.field-0.0 l.number (groups_of c.args.text.now) _ c.in_err-add_line.ensures.fault
           (λ bad. reads_bad c.args.text.now l.rest.now l.number l.groups l.invariant c.cut.result.0.now c.cut.result.1.now c.cut.ensures.front c.cut.ensures.back short passed bad));
     }

@@ -15,15 +15,15 @@ returns-then-not-branch c = λ cells told. (
 
 pub loop-node-preserved : goal.loop-node-preserved
 loop-node-preserved c = λ cells told.
-    nodes_more (TablesHeld c.args.program.now c.args.config.now cells c.args.entries.now) c.loop-node.node (c.loop-node.invariant cells told) ((c.in_ok-node_holds.ensures cells told).0 cc)
+    nodes_more (TablesHeld c.args.given.now.program.now c.args.given.now.config.now cells c.args.given.now.entries.now) c.loop-node.node (c.loop-node.invariant cells told) ((c.in_ok-node_holds.ensures cells told).0 cc)
 
 pub returns : goal.returns
 returns c = λ cells told. (
   λ yes n. elim (cases_lt n c.loop-node.node) [
     | inl less ↦ c.loop-node.invariant cells told n less
     | inr le ↦
-        let past : length c.args.program.now.nodes ≤ n = omega (arith, c.loop-node-test.false, c.len-node-end.ensures, le) in
-        past_nodes c.args.program.now c.args.config.now cells c.args.entries.now n past
+        let past : length c.args.given.now.program.now.nodes ≤ n = omega (arith, c.loop-node-test.false, c.len-node-end.ensures, le) in
+        past_nodes c.args.given.now.program.now c.args.given.now.config.now cells c.args.given.now.entries.now n past
   ],
   λ all. refl,
 )

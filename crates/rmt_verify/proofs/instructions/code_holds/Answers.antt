@@ -16,11 +16,11 @@ use Rattle.rmt_verify.proofs.CodedLaws.{stages_formed}
 use Rattle.rmt_verify.proofs.instructions.code_holds.Goals as goal
 
 pub all_code_holds-requires-clause-coding : goal.all_code_holds-requires-clause-coding
-all_code_holds-requires-clause-coding c = record { program = c.requires.program; folded = search rules; places = c.requires.places }
+all_code_holds-requires-clause-coding c = record { program = c.requires.placed.program; folded = search rules; places = c.requires.placed.places }
 
 pub all_code_holds-requires-clause-formed : goal.all_code_holds-requires-clause-formed
 all_code_holds-requires-clause-formed c =
-    subst (λ (ss : List Stage). list_all stage_is_formed ss ≡ true) (sym c.as_slice-in-Some.ensures) (stages_formed c.args.config.now c.requires.formed)
+    subst (λ (ss : List Stage). list_all stage_is_formed ss ≡ true) (sym c.as_slice-in-Some.ensures) (stages_formed c.args.config.now c.requires.placed.formed)
 
 pub returns-in-Some-clause-exact : goal.returns-in-Some-clause-exact
 returns-in-Some-clause-exact c =
@@ -43,4 +43,4 @@ returns-in-Some-clause-carries c =
     IfOk-weaker c.all_code_holds.result (λ holds. IsTrue holds ↔ All (StageCoded p places) c.as_slice-in-Some.result.now) (λ holds. IsTrue holds → CodeCarried p places config)
     (λ b e holds.
     (let own = subst (λ (ss : List Stage). IsTrue b ↔ All (StageCoded p places) ss) c.as_slice-in-Some.ensures e in
-    code_carried p places c.requires.program c.requires.places config (tables_coded p places config (own.0 holds)))) c.all_code_holds.ensures
+    code_carried p places c.requires.placed.program c.requires.placed.places config (tables_coded p places config (own.0 holds)))) c.all_code_holds.ensures

@@ -1,4 +1,5 @@
-use Rattle.std.proofs.Common.{◌≡◌, ◌≢◌, ◌<◌, ℕ, List, Option, length, get_or, map, sym, ap, subst, ◌∙◌, arith}
+use Rattle.std.proofs.Common.{◌≡◌, ◌≢◌, ◌<◌, ℕ, List, Option, length, get_or, map, sym, ap, subst, ◌∙◌, arith, rules}
+use Rattle.std.proofs.lemmas.Grind.{common_steps}
 use Rattle.std.specs.Prelude.{All}
 use Rattle.rmt_config.proofs.CountsLemmas.{counts_fit}
 use Rattle.rmt_pack.specs.Starts.{stages_of}
@@ -24,9 +25,17 @@ returns-then-not-all_stand-clause-exact c =
           cc),
     )
 
+pub all_stages-requires-clause-placed : goal.all_stages-requires-clause-placed
+all_stages-requires-clause-placed c = record {
+  program = c.requires.placed.program;
+  places = c.requires.placed.places;
+  nodes_are = first_of (search rules, grind (arith, common_steps));
+  spans_are = first_of (search rules, grind (arith, common_steps));
+}
+
 pub all_stages-requires-clause-few : goal.all_stages-requires-clause-few
 all_stages-requires-clause-few c =
-    let few = (counts_fit c.args.config.now c.requires.formed.items).stages in
+    let few = (counts_fit c.args.config.now c.requires.placed.formed.items).stages in
     omega (arith, few, ap (λ (ss : List Stage). length ss) c.as_slice-stages.ensures)
 
 pub returns-clause-exact : goal.returns-clause-exact

@@ -1,15 +1,16 @@
-use Rattle.std.proofs.Common.{List, [], map, refl}
+use Rattle.std.proofs.Common.{List, [], arith, map, refl}
 use Rattle.rmt_vliw.specs.Types.{Assign}
 use Rattle.rmt_vliw.specs.Operations.{operations_of, given}
 use Rattle.rmt_vliw.proofs.FormedLaws.{lanes_within, lanes_small}
 use Rattle.rmt_vliw.proofs.InstructionLaws.{does_with, is_formed_with, all_pushed}
 use Rattle.rmt_vliw.proofs.instructions.default_instruction.Goals as goal
 
-pub push_operations-requires-clause-within : goal.push_operations-requires-clause-within
-push_operations-requires-clause-within c = lanes_within c.args.program.now c.args.places.now _ c.requires.program c.requires.places
-
-pub push_operations-requires-clause-small : goal.push_operations-requires-clause-small
-push_operations-requires-clause-small c = lanes_small c.args.program.now c.args.places.now _ c.requires.places
+pub push_operations-requires : goal.push_operations-requires
+push_operations-requires c = record {
+  params = omega arith;
+  within = lanes_within c.args.program.now c.args.places.now _ c.requires.program c.requires.places;
+  small = lanes_small c.args.program.now c.args.places.now _ c.requires.places;
+}
 
 pub returns-clause-pieces : goal.returns-clause-pieces
 returns-clause-pieces c =

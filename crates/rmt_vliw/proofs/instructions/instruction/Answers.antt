@@ -5,15 +5,12 @@ use Rattle.rmt_vliw.proofs.FormedLaws.{lanes_within, lanes_small}
 use Rattle.rmt_vliw.proofs.InstructionLaws.{few_params, does, is_formed, all_pushed}
 use Rattle.rmt_vliw.proofs.instructions.instruction.Goals as goal
 
-pub push_operations-requires-clause-params : goal.push_operations-requires-clause-params
-push_operations-requires-clause-params c =
-    subst (λ ps. sum ps ≤ 2048) (sym c.as_slice.ensures) (few_params c.args.program.now c.args.places.now c.args.folded.now c.requires.program c.requires.places c.requires.folded.0 c.requires.folded.1)
-
-pub push_operations-requires-clause-within : goal.push_operations-requires-clause-within
-push_operations-requires-clause-within c = lanes_within c.args.program.now c.args.places.now _ c.requires.program c.requires.places
-
-pub push_operations-requires-clause-small : goal.push_operations-requires-clause-small
-push_operations-requires-clause-small c = lanes_small c.args.program.now c.args.places.now _ c.requires.places
+pub push_operations-requires : goal.push_operations-requires
+push_operations-requires c = record {
+  params = subst (λ ps. sum ps ≤ 2048) (sym c.as_slice.ensures) (few_params c.args.program.now c.args.places.now c.args.folded.now c.requires.program c.requires.places c.requires.folded.0 c.requires.folded.1);
+  within = lanes_within c.args.program.now c.args.places.now _ c.requires.program c.requires.places;
+  small = lanes_small c.args.program.now c.args.places.now _ c.requires.places;
+}
 
 pub returns-clause-pieces : goal.returns-clause-pieces
 returns-clause-pieces c =

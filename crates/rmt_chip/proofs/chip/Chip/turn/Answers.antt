@@ -1,4 +1,4 @@
-use Rattle.std.proofs.Common.{◌≡◌, ℕ, ◌+◌, ◌≤◌, Bool, true, false, cond, List, All, refl, sym, ap, ◌∙◌, subst, arith}
+use Rattle.std.proofs.Common.{◌≡◌, ℕ, ◌+◌, ◌≤◌, cond, List, All, refl, sym, ap, ◌∙◌, subst, arith}
 use Rattle.std.specs.Prelude.{is_some}
 use Rattle.std.proofs.lemmas.List.{with_items_is}
 use Rattle.std.proofs.Common.{Vec, Global}
@@ -10,14 +10,11 @@ use Rattle.rmt_chip.specs.FrameList.{frames_of}
 use Rattle.rmt_chip.specs.Pending.{HaveRoomFor}
 use Rattle.rmt_chip.specs.Ring.{ring_after}
 use Rattle.rmt_memory.specs.StageMemories.{MemoriesOf}
+use Rattle.rmt_chip.proofs.EnteredLaws.{byte_of}
 use Rattle.rmt_chip.proofs.FormedRuns.{runnable}
 use Rattle.rmt_chip.proofs.StandsLaws.{CycleGives, turn_right, no_limit}
 use Rattle.rmt_chip.proofs.chip.Chip.turn.Goals as goal
 use mir.Val.{bool_byte}
-
-byte_of : (b : Bool) → bool_byte b ≡ cond b 1 0
-byte_of true = refl
-byte_of false = refl
 
 pub cycle-answer-requires-clause-fits : goal.cycle-answer-requires-clause-fits
 cycle-answer-requires-clause-fits c =

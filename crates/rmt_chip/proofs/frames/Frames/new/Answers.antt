@@ -1,4 +1,4 @@
-use Rattle.std.proofs.Common.{List, Option, None, length, map, sym, ap, subst, ◌∙◌}
+use Rattle.std.proofs.Common.{List, Option, length, map, sym, ap, subst, ◌∙◌}
 use Rattle.rmt_cells.specs.declared.cells.Chain.{Chain}
 use Rattle.rmt_chip.specs.Frames.{AreFrames, frames_in}
 use Rattle.rmt_chip.proofs.FrameLaws.{no_frames, no_bytes, no_sizes}

@@ -7,7 +7,7 @@ use Rattle.rmt_config.proofs.form.cells.cells_are_formed.Goals as goal
 
 pub heads_fit-requires-clause-cells : goal.heads_fit-requires-clause-cells
 heads_fit-requires-clause-cells c k d lt =
-    let l = c.args.layout.now in
+    let l = c.args.entries.now.layout in
     let count : c.joined-count.result ≡ l.ways * l.quanta * l.way =
     c.joined-count.ensures ∙ more (c.joined.result * l.way) ∙ ap (λ n. n * l.way) (c.joined.ensures ∙ more (l.ways * l.quanta)) in
     let all = sym (list_all-map (λ n. ltb n c.joined-count.result) (λ (n : CellNumber). n.cell) c.args.numbers.now) ∙ sym c.cells_fit.ensures ∙ c.if-not-cells_fit.false in

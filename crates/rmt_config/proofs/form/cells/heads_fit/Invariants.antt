@@ -5,5 +5,5 @@ use Rattle.rmt_config.proofs.form.cells.heads_fit.Given as goal
 
 abbrev pub invariant-loop-number : goal.invariant-loop-number
 invariant-loop-number l =
-    heads_hold l.layout (sram_row l.rows) l.blocks l.visible l.first l.actions (listed_cells (drop l.number-index l.numbers))
-    ≡ heads_hold l.layout (sram_row l.rows) l.blocks l.visible l.first l.actions (listed_cells l.numbers)
+    let hold = heads_hold l.entries.layout (sram_row l.entries.rows.now) l.entries.blocks.now l.rule.visible l.rule.first l.rule.actions in
+    hold (listed_cells (drop l.number-index l.numbers)) ≡ hold (listed_cells l.numbers)

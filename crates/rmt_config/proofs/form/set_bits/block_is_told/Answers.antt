@@ -11,13 +11,13 @@ run_of-run-requires-clause-order g c =
 
 pub returns : goal.returns
 returns g c =
-    let l = c.args.layout.now in
+    let l = c.args.listed.now.layout in
     let f = g.R.Numbered.place_of in
     let xs = c.args.rows.now in
     let first = c.first_from-first.result in
     let end = c.first_from-end.result in
     let b = c.args.block in
-    let P : g.row.R.Denot → Type 0 = λ x. RowTold l (listed_cells c.args.numbers.now) (c.args.at / l.side) (c.args.at % l.side) (f x % l.rows) (g.R.MemoryRow.bits_of x) in
+    let P : g.row.R.Denot → Type 0 = λ x. RowTold l (listed_cells c.args.listed.now.numbers.now) (c.args.at / l.side) (c.args.at % l.side) (f x % l.rows) (g.R.MemoryRow.bits_of x) in
     let run : c.run_of-run.result.now ≡ take (end - first) (drop first xs) = c.run_of-run.ensures in
     let e1 : c.joined.result ≡ b * l.rows = omega (arith, c.joined.ensures) in
     let e2 : c.joined-2.result ≡ (b + 1) * l.rows = omega (arith, c.joined-2.ensures) in
@@ -29,6 +29,6 @@ returns g c =
     λ k d le lt. subst (λ n. n ≤ f (slice_index_or xs k d)) e2 (c.first_from-end.ensures.above k d le lt) in
     let upto : (k : ℕ) (d : g.row.R.Denot) → k < end → f (slice_index_or xs k d) < (b + 1) * l.rows =
     λ k d lt. subst (λ n. f (slice_index_or xs k d) < n) e2 (c.first_from-end.ensures.below k d lt) in (
-      λ stands. run-all P f xs first end l.rows b c.requires.layout.some_rows from c.first_from-end.ensures.within before behind (subst (All P) run (c.rows_are_told.ensures.0 stands)),
+      λ stands. run-all P f xs first end l.rows b c.requires.listed.layout.some_rows from c.first_from-end.ensures.within before behind (subst (All P) run (c.rows_are_told.ensures.0 stands)),
       λ all. c.rows_are_told.ensures.1 (subst (All P) (sym run) (run-back P f xs first end l.rows b from c.first_from-end.ensures.within upto all)),
     )

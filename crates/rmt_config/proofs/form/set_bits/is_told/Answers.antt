@@ -18,31 +18,31 @@ quantum-low l unit index is there within =
     omega (arith, small, big)
 
 pub joined-high-requires : goal.joined-high-requires
-joined-high-requires c = let low = row-low c.args.layout.now c.args.unit c.args.row c.requires.layout c.requires.row in omega (arith, low)
+joined-high-requires c = let low = row-low c.args.listed.now.layout c.args.unit c.args.row c.requires.listed.layout c.requires.row in omega (arith, low)
 
 pub joined-index-requires : goal.joined-index-requires
 joined-index-requires c =
-    let low = row-low c.args.layout.now c.args.unit c.args.row c.requires.layout c.requires.row in
+    let low = row-low c.args.listed.now.layout c.args.unit c.args.row c.requires.listed.layout c.requires.row in
     let high : c.joined-high.result < 536870912 = omega (arith, c.joined-high.ensures, low) in
-    let small = mul-add-lt c.joined-high.result c.args.layout.now.per c.args.position 536870912 high c.if-position-layout.false in
-    omega (arith, small, c.requires.layout.most_per)
+    let small = mul-add-lt c.joined-high.result c.args.listed.now.layout.per c.args.position 536870912 high c.if-position-layout.false in
+    omega (arith, small, c.requires.listed.layout.most_per)
 
 pub joined-requires : goal.joined-requires
 joined-requires c =
-    let l = c.args.layout.now in
-    let big = mul-le l.ways l.way 4 67108864 c.requires.layout.most_ways (omega (arith, c.requires.layout.most_way)) in
+    let l = c.args.listed.now.layout in
+    let big = mul-le l.ways l.way 4 67108864 c.requires.listed.layout.most_ways (omega (arith, c.requires.listed.layout.most_way)) in
     omega (arith, big)
 
 pub joined-high-requires-2 : goal.joined-high-requires-2
 joined-high-requires-2 c =
-    let low = quantum-low c.args.layout.now c.args.unit c.joined-index.result c.requires.layout c.requires.unit (omega (arith, c.if-index-joined.false, c.joined.ensures)) in
+    let low = quantum-low c.args.listed.now.layout c.args.unit c.joined-index.result c.requires.listed.layout c.requires.unit (omega (arith, c.if-index-joined.false, c.joined.ensures)) in
     omega (arith, low)
 
 pub joined-requires-2 : goal.joined-requires-2
 joined-requires-2 c =
-    let l = c.args.layout.now in
+    let l = c.args.listed.now.layout in
     let i = c.joined-index.result in
-    let low = quantum-low l c.args.unit i c.requires.layout c.requires.unit (omega (arith, c.if-index-joined.false, c.joined.ensures)) in
+    let low = quantum-low l c.args.unit i c.requires.listed.layout c.requires.unit (omega (arith, c.if-index-joined.false, c.joined.ensures)) in
     let high : c.joined-high-2.result < 425 = omega (arith, c.joined-high-2.ensures, low) in
-    let small = mul-add-lt c.joined-high-2.result l.way (i % l.way) 425 high (mod_below i l.way c.requires.layout.some_way) in
-    omega (arith, small, c.requires.layout.most_way)
+    let small = mul-add-lt c.joined-high-2.result l.way (i % l.way) 425 high (mod_below i l.way c.requires.listed.layout.some_way) in
+    omega (arith, small, c.requires.listed.layout.most_way)

@@ -9,8 +9,8 @@ use Rattle.rmt_config.proofs.form.set_bits.row_is_told.Goals.{else-piece-ne0-via
 
 pub returns-then-not-is_told : goal.returns-then-not-is_told
 returns-then-not-is_told c =
-    let l = c.args.layout.now in
-    let tell : ℕ → Bool = is_told_of l (listed_cells c.args.numbers.now) c.args.unit c.args.row in
+    let l = c.args.listed.now.layout in
+    let tell : ℕ → Bool = is_told_of l (listed_cells c.args.listed.now.numbers.now) c.args.unit c.args.row in
     let start = c.joined-start.result in
     let e : c.args.place * l.bits ≡ start = omega (arith, c.joined-start.ensures) in
     let never : tell c.loop-low.position ≡ false = sym c.is_told.ensures ∙ c.if-not-is_told.true in (
@@ -22,8 +22,8 @@ returns-then-not-is_told c =
 
 pub loop-low-preserved : goal.loop-low-preserved
 loop-low-preserved c =
-    let l = c.args.layout.now in
-    let tell : ℕ → Bool = is_told_of l (listed_cells c.args.numbers.now) c.args.unit c.args.row in
+    let l = c.args.listed.now.layout in
+    let tell : ℕ → Bool = is_told_of l (listed_cells c.args.listed.now.numbers.now) c.args.unit c.args.row in
     let clear : (slice c.args.bits (c.max.result - c.joined-start.result) (c.min.result - c.joined-start.result - (c.max.result - c.joined-start.result)) ≡ 0)
     ⊎ (tell c.loop-low.position ≡ true) =
     elim c.else-piece-ne0.branch [

@@ -6,11 +6,11 @@ use Rattle.rmt_config.proofs.form.set_bits.row_is_told.Given as goal
 
 abbrev pub invariant-loop-low : goal.invariant-loop-low
 invariant-loop-low l = record {
-  at : l.low ≡ l.position * l.layout.entry;
-  most : l.low ≤ l.end + l.layout.entry;
-  after : l.start < l.low + l.layout.entry;
-  told : (t : ℕ) → t < l.layout.bits → l.start + t < l.low → bit_at l.bits t ≡ 1
-      → IsTrue (is_told l.layout (listed_cells l.numbers) l.unit l.row ((l.start + t) / l.layout.entry));
+  at : l.low ≡ l.position * l.listed.layout.entry;
+  most : l.low ≤ l.end + l.listed.layout.entry;
+  after : l.start < l.low + l.listed.layout.entry;
+  told : (t : ℕ) → t < l.listed.layout.bits → l.start + t < l.low → bit_at l.bits t ≡ 1
+      → IsTrue (is_told l.listed.layout (listed_cells l.listed.numbers.now) l.unit l.row ((l.start + t) / l.listed.layout.entry));
 }
 
 abbrev pub decreases-loop-low : goal.decreases-loop-low

@@ -7,8 +7,8 @@ use Rattle.rmt_config.proofs.form.set_bits.rows_are_told.Goals as goal
 
 pub loop-row-preserved : goal.loop-row-preserved
 loop-row-preserved g c =
-    let l = c.args.layout.now in
-    let Told : ℕ → ℕ → Type 0 = λ n b. RowTold l (listed_cells c.args.numbers.now) c.args.unit c.args.place (n % l.rows) b in
+    let l = c.args.listed.now.layout in
+    let Told : ℕ → ℕ → Type 0 = λ n b. RowTold l (listed_cells c.args.listed.now.numbers.now) c.args.unit c.args.place (n % l.rows) b in
     let P : g.row.R.Denot → Type 0 = λ x. Told (g.R.Numbered.place_of x) (g.R.MemoryRow.bits_of x) in
     let raw : Told c.place.result c.bits.result = c.row_is_told.ensures.0 c.if-not-row_is_told.false in
     let one : Told (g.R.Numbered.place_of c.row-item.result) c.bits.result = subst (λ n. Told n c.bits.result) c.place.ensures raw in
@@ -17,6 +17,6 @@ loop-row-preserved g c =
 
 pub returns : goal.returns
 returns g c =
-    let l = c.args.layout.now in
-    let P : g.row.R.Denot → Type 0 = λ x. RowTold l (listed_cells c.args.numbers.now) c.args.unit c.args.place (g.R.Numbered.place_of x % l.rows) (g.R.MemoryRow.bits_of x) in
+    let l = c.args.listed.now.layout in
+    let P : g.row.R.Denot → Type 0 = λ x. RowTold l (listed_cells c.args.listed.now.numbers.now) c.args.unit c.args.place (g.R.Numbered.place_of x % l.rows) (g.R.MemoryRow.bits_of x) in
     (λ _. subst (All P) (take_all c.loop-row.row-index c.args.rows.now c.loop-row-test.false) c.loop-row.invariant, λ _. refl)

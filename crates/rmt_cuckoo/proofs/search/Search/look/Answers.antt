@@ -6,17 +6,16 @@ use Rattle.rmt_cuckoo.specs.Search.{AreTaken, IsLoaded, key_at}
 use Rattle.rmt_cuckoo.proofs.RowLaws.{end_weaker}
 use Rattle.rmt_cuckoo.proofs.SearchLaws.{key_known, search_more}
 use Rattle.rmt_cuckoo.proofs.search.Search.look.Goals as goal
+use Rattle.rmt_cuckoo.proofs.search.Search.look.Goals.{After-key_at-key}
 
 -- the key that is looked at is known
-known : (choices : ℕ → List ℕ) (n : ℕ) (l : Loading) (steps : List Step) (place key : ℕ) → IsLoaded choices n l
-    → key ≡ key_at n steps l.holders.items place → key < n + 1
-known choices n l steps place key loaded is = subst (λ (k : ℕ). k < n + 1) (sym is) (key_known choices n l loaded steps place)
+known : (c : After-key_at-key) → c.key_at-key.result < vec_len c.args.loading.now.cells + 1
+known c =
+    subst (λ (k : ℕ). k < vec_len c.args.loading.now.cells + 1) (sym c.key_at-key.ensures)
+    (key_known (choices_at c.args.choices.now) (vec_len c.args.loading.now.cells) c.args.loading.now c.requires.loaded c.as_slice.result.now c.args.place)
 
 pub free_cell-requires-clause-known : goal.free_cell-requires-clause-known
-free_cell-requires-clause-known c =
-    let n = vec_len c.args.loading.now.cells in
-    let lt = known (choices_at c.args.choices.now) n c.args.loading.now c.as_slice.result.now c.args.place c.key_at-key.result c.requires.loaded c.key_at-key.ensures in
-    omega (arith, lt, c.requires.within.known)
+free_cell-requires-clause-known c = let lt = known (goal.at.free_cell-requires-clause-known c).After-key_at-key in omega (arith, lt, c.requires.within.known)
 
 pub free_cell-requires-clause-within : goal.free_cell-requires-clause-within
 free_cell-requires-clause-within c =
@@ -28,10 +27,7 @@ free_cell-requires-clause-taken c =
     subst (λ (hs : List ℕ). AreTaken hs c.args.loading.now.taken) (sym c.as_slice-2.ensures.value) c.requires.taken
 
 pub put-requires-clause-known : goal.put-requires-clause-known
-put-requires-clause-known c =
-    let n = vec_len c.args.loading.now.cells in
-    let lt = known (choices_at c.args.choices.now) n c.args.loading.now c.as_slice.result.now c.args.place c.key_at-key.result c.requires.loaded c.key_at-key.ensures in
-    omega (arith, lt, c.requires.within.known)
+put-requires-clause-known c = let lt = known (goal.at.put-requires-clause-known c).After-key_at-key in omega (arith, lt, c.requires.within.known)
 
 pub put-requires-clause-within : goal.put-requires-clause-within
 put-requires-clause-within c =

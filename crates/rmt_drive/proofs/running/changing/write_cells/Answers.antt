@@ -15,6 +15,7 @@ use Rattle.rmt_memory.specs.Writable.{IsTaken}
 use Rattle.rmt_drive.specs.ChipText.{lines_of}
 use Rattle.rmt_runs.specs.Cuts.{Cut}
 use Rattle.rmt_drive.specs.ChipCycles.{Goes}
+use Rattle.rmt_drive.proofs.LineLaws.{prints_later}
 use Rattle.rmt_drive.proofs.TurnLaws.{few_numbered}
 use Rattle.rmt_drive.proofs.WaitLaws.{none_in_writes, packets-append, write_more, writes_parted}
 use Rattle.rmt_drive.proofs.running.changing.write_cells.Goals as goal
@@ -59,8 +60,8 @@ returns-in-Err-clause-cut g c = λ w k made before h.
       subst (λ (l : List Input). Cut (lines_of w k l) before (g.O.Sink.state c.turn.new.out) c.in-Err.fault) (write_more made xs n x at) (c.in-Err.ensures.cut w k (made ++ map Writes (take n xs)) before go),
     )
 
-pub returns-in-Err-clause-only_printed : goal.returns-in-Err-clause-only_printed
-returns-in-Err-clause-only_printed g c = only_printed_trans c.loop-write.invariant.only_printed c.turn.ensures.only_printed
+pub returns-in-Err-clause-prints : goal.returns-in-Err-clause-prints
+returns-in-Err-clause-prints g c = prints_later c.loop-write.invariant.only_printed c.in-Err.ensures.prints
 
 pub loop-write-preserved : goal.loop-write-preserved
 loop-write-preserved g c =
@@ -76,7 +77,7 @@ loop-write-preserved g c =
           (c.in-Ok.ensures.ok w k (made ++ map Writes (take n xs)) before (i.goes w k made before h));
       cycles = omega (arith, i.cycles, c.in-Ok.ensures.cycles);
       spare = omega (arith, i.spare, fall);
-      only_printed = only_printed_trans i.only_printed c.turn.ensures.only_printed;
+      only_printed = only_printed_trans i.only_printed c.turn.ensures.prints.only_printed;
     }
 
 pub returns-clause-ok : goal.returns-clause-ok

@@ -26,25 +26,22 @@ returns-in_default-clause-front g c = λ w k events made r before h.
 pub returns-clause-printed : goal.returns-clause-printed
 returns-clause-printed g c = λ e w k events made r before h.
     let goes = c.in-Ok.ensures.ok w k events made r before h in
-    let all = all_cycles w made (empty_cycles r) (bad_line c.args.bad) in
     let written = all_written w k made (empty_cycles r) (bad_line c.args.bad) c.run_out.new.run c.run_out.new.chip before (g.O.Sink.state c.run_out.new.out)
-    c.as_slice.result.now goes (c.as_slice.ensures.value ∙ c.in-Ok-last_text.ensures k all goes.stands goes.clocked goes.flies) in
+    c.as_slice.result.now goes (c.as_slice.ensures.value ∙ c.in-Ok-last_text.ensures k _ goes.stands goes.clocked goes.flies) in
     all_on written (g.O.Sink.state c.end_run.new.out) (c.end_run.ensures.printed e)
 
 pub returns-clause-front : goal.returns-clause-front
 returns-clause-front g c = λ w k events made r before h.
     let goes = c.in-Ok.ensures.ok w k events made r before h in
-    let all = all_cycles w made (empty_cycles r) (bad_line c.args.bad) in
     let written = all_written w k made (empty_cycles r) (bad_line c.args.bad) c.run_out.new.run c.run_out.new.chip before (g.O.Sink.state c.run_out.new.out)
-    c.as_slice.result.now goes (c.as_slice.ensures.value ∙ c.in-Ok-last_text.ensures k all goes.stands goes.clocked goes.flies) in
+    c.as_slice.result.now goes (c.as_slice.ensures.value ∙ c.in-Ok-last_text.ensures k _ goes.stands goes.clocked goes.flies) in
     front_on written (g.O.Sink.state c.end_run.new.out) c.end_run.ensures.front
 
 pub returns-clause-some : goal.returns-clause-some
 returns-clause-some g c = λ e w k events made r before h.
     let goes = c.in-Ok.ensures.ok w k events made r before h in
-    let all = all_cycles w made (empty_cycles r) (bad_line c.args.bad) in
     let written = all_written w k made (empty_cycles r) (bad_line c.args.bad) c.run_out.new.run c.run_out.new.chip before (g.O.Sink.state c.run_out.new.out)
-    c.as_slice.result.now goes (c.as_slice.ensures.value ∙ c.in-Ok-last_text.ensures k all goes.stands goes.clocked goes.flies) in
+    c.as_slice.result.now goes (c.as_slice.ensures.value ∙ c.in-Ok-last_text.ensures k _ goes.stands goes.clocked goes.flies) in
     some_lines written (c.end_run.ensures.some e)
 
 pub returns-clause-clocked : goal.returns-clause-clocked
@@ -54,4 +51,4 @@ returns-clause-clocked g c = λ e w k events made r before h.
     subst (λ (l : List Input). Stands k l c.run_out.new.chip) (ap (λ b. all_cycles w made (empty_cycles r) b) none ∙ ran_whole w made (empty_cycles r)) goes.stands
 
 pub returns-clause-only_printed : goal.returns-clause-only_printed
-returns-clause-only_printed g c = only_printed_trans c.run_out.ensures.only_printed c.end_run.ensures.only_printed
+returns-clause-only_printed g c = only_printed_trans c.run_out.ensures.prints.only_printed c.end_run.ensures.only_printed

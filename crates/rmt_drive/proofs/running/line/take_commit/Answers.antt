@@ -1,10 +1,7 @@
 -- A commit, or code 4 without names.
-use Rattle.std.proofs.Common.{Option, subst}
 use Rattle.std.proofs.lemmas.Result.{IfErr-weaker, IfOk-weaker}
 use Rattle.rmt_runs.specs.declared.fault.RunFault.TheVariants as fault
-use Rattle.rmt_drive.specs.declared.running.commits.Commits.{Commits}
-use Rattle.rmt_drive.specs.Running.{Follows}
-use Rattle.rmt_drive.proofs.FollowsLaws.{few_still, left_ahead, no_names, of_none, stops_by}
+use Rattle.rmt_drive.proofs.FollowsLaws.{few_still, follows_with, left_ahead, no_names, of_none, stops_by}
 use Rattle.rmt_drive.proofs.running.line.take_commit.Goals as goal
 
 pub returns-in-None-clause-ok : goal.returns-in-None-clause-ok
@@ -22,27 +19,16 @@ returns-in_default-clause-cut g c = λ w k said number text before kind f.
 pub commit-requires-clause-follows : goal.commit-requires-clause-follows
 commit-requires-clause-follows g c =
     let r = c.requires.follows in
-    let now = g.O.Sink.state c.args.out.now in (
-      r.0,
-      r.1,
-      r.2,
-      r.3,
-      subst (λ (o : Option Commits). Follows r.0 r.1 r.2 c.args.run.now c.args.chip.now o r.3 now) c.in-Some.is
-          (c.in-Ok.ensures.goes r.0 r.1 r.2 c.args.run.now r.3 now r.4),
-    )
+    (r.0, r.1, r.2, r.3, follows_with c.in-Some.is (c.in-Ok.ensures.goes r.0 r.1 r.2 c.args.run.now r.3 (g.O.Sink.state c.args.out.now) r.4))
 
 pub returns-in-Some-clause-ok : goal.returns-in-Some-clause-ok
 returns-in-Some-clause-ok g c =
-    let now = g.O.Sink.state c.args.out.now in
     IfOk-weaker c.commit.result _ _
-    (λ code h w k said number text before kind f.
-    h w k said number text before kind (subst (λ (o : Option Commits). Follows w k said c.args.run.now c.args.chip.now o before now) c.in-Some.is (c.in-Ok.ensures.goes w k said c.args.run.now before now f)))
+    (λ code h w k said number text before kind f. h w k said number text before kind (follows_with c.in-Some.is (c.in-Ok.ensures.goes w k said c.args.run.now before (g.O.Sink.state c.args.out.now) f)))
     c.commit.ensures.ok
 
 pub returns-in-Some-clause-cut : goal.returns-in-Some-clause-cut
 returns-in-Some-clause-cut g c =
-    let now = g.O.Sink.state c.args.out.now in
     IfErr-weaker c.commit.result _ _
-    (λ e h w k said number text before kind f.
-    h w k said number text before kind (subst (λ (o : Option Commits). Follows w k said c.args.run.now c.args.chip.now o before now) c.in-Some.is (c.in-Ok.ensures.goes w k said c.args.run.now before now f)))
+    (λ e h w k said number text before kind f. h w k said number text before kind (follows_with c.in-Some.is (c.in-Ok.ensures.goes w k said c.args.run.now before (g.O.Sink.state c.args.out.now) f)))
     c.commit.ensures.cut

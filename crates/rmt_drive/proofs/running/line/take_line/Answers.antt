@@ -1,8 +1,12 @@
 -- A line by its kind.
-use Rattle.std.proofs.Common.{◌≡◌, inl, inr, sym, ◌∙◌}
+use Rattle.std.proofs.Common.{◌≡◌, Result, Ok, Err, inl, inr, sym, ◌∙◌}
+use Rattle.std.specs.Prelude.{IfErr}
 use Rattle.std.proofs.lemmas.Result.{IfErr-weaker, IfOk-weaker}
+use Rattle.rmt_io.specs.Outside.{SinkState}
+use Rattle.rmt_io.proofs.OutsideLaws.{only_printed_refl}
 use Rattle.rmt_runs.specs.declared.fault.RunFault.{RunFault}
 use Rattle.rmt_runs.specs.declared.fault.RunFault.TheVariants as fault
+use Rattle.rmt_drive.specs.Telling.{Prints}
 use Rattle.rmt_drive.proofs.EventTextLaws.{addition_changes, removal_changes}
 use Rattle.rmt_drive.proofs.FollowsLaws.{left_ahead}
 use Rattle.rmt_drive.proofs.running.line.take_line.Goals as goal
@@ -10,6 +14,17 @@ use Rattle.rmt_drive.proofs.running.line.take_line.Goals as goal
 -- want of memory is no fault of the sink
 not_write : (f : RunFault) → f ≡ fault.NoMemory → f ≡ fault.Write → ⊥
 not_write f e h = cc
+
+-- for want of memory nothing is printed
+prints_nothing : {A : Type 0} (now : SinkState) (result : Result A RunFault) → IfErr result (λ f. f ≡ fault.NoMemory) → Prints now now result
+prints_nothing now (Ok x) h = record { either = tt; failed = λ e. absurd (cc); only_printed = only_printed_refl now }
+prints_nothing now (Err f) h = record { either = inl h; failed = λ e. absurd (cc); only_printed = only_printed_refl now }
+
+pub returns-in-Addition-clause-prints : goal.returns-in-Addition-clause-prints
+returns-in-Addition-clause-prints g c = prints_nothing (g.O.Sink.state c.args.out.now) c.take_change.result c.take_change.ensures.memory
+
+pub returns-in-Removal-clause-prints : goal.returns-in-Removal-clause-prints
+returns-in-Removal-clause-prints g c = prints_nothing (g.O.Sink.state c.args.out.now) c.take_change-in-Removal.result c.take_change-in-Removal.ensures.memory
 
 pub take_change-requires-clause-change : goal.take_change-requires-clause-change
 take_change-requires-clause-change g c = addition_changes c.args.line.now (sym c.kind_of.ensures.kind ∙ c.in-Addition.is)

@@ -23,7 +23,7 @@ pub turn-requires-clause-answered : goal.turn-requires-clause-answered
 turn-requires-clause-answered g c =
     let few = c.requires.few in
     let f = c.requires.follows in
-    omega (arith, few.1, few.2.entered, few_numbered f.5.goes)
+    omega (arith, few.1, few.2.entered, few_numbered f.1.4.goes)
 
 pub returns-in-Ok-turn-clause-ok : goal.returns-in-Ok-turn-clause-ok
 returns-in-Ok-turn-clause-ok g c = λ w k said number before commits kind f.
@@ -36,8 +36,8 @@ pub returns-in-Ok-turn-clause-few : goal.returns-in-Ok-turn-clause-few
 returns-in-Ok-turn-clause-few g c = λ lines few.
     let packet : Packet = record { port = c.in-Ok.port; frame = c.as_slice.result.now } in
     let f = c.requires.follows in
-    few_packet f.0 f.1 f.5.made c.args.run.now c.turn.new.run c.args.chip.now c.turn.new.chip f.3 (g.O.Sink.state c.args.out.now) (g.O.Sink.state c.turn.new.out) f.5.goes packet
-    (c.in-Ok-turn.ensures.ok f.0 f.1 f.5.made f.3 f.5.goes) c.in-Ok-turn.ensures.cycles lines few
+    few_packet f.1.0 f.1.1 f.1.4.made c.args.run.now c.turn.new.run c.args.chip.now c.turn.new.chip f.1.3 (g.O.Sink.state c.args.out.now) (g.O.Sink.state c.turn.new.out) f.1.4.goes packet
+    (c.in-Ok-turn.ensures.ok f.1.0 f.1.1 f.1.4.made f.1.3 f.1.4.goes) c.in-Ok-turn.ensures.cycles lines few
 
 pub returns-in-Err-clause-cut : goal.returns-in-Err-clause-cut
 returns-in-Err-clause-cut g c = λ w k said number before commits kind f.

@@ -4,13 +4,12 @@ use Rattle.std.specs.Prelude.{replicate}
 use Rattle.rmt_io.proofs.OutsideLaws.{only_printed_refl, only_printed_trans}
 use Rattle.rmt_config.specs.Commits.{waits}
 use Rattle.rmt_config.specs.RunInputs.{Idle, Input}
-use Rattle.rmt_chip.specs.Inputs.{packets_of}
-use Rattle.rmt_chip.specs.Stands.{entered_of}
 use Rattle.rmt_drive.specs.ChipText.{lines_of}
 use Rattle.rmt_runs.specs.Cuts.{Cut}
 use Rattle.rmt_drive.specs.ChipCycles.{Goes}
+use Rattle.rmt_drive.proofs.LineLaws.{prints_later}
 use Rattle.rmt_drive.proofs.TurnLaws.{few_numbered}
-use Rattle.rmt_drive.proofs.WaitLaws.{idle_more, no_packets, packets-append, waits_few, waits_no_more, waits_on}
+use Rattle.rmt_drive.proofs.WaitLaws.{entered_still, idle_more, waits_few, waits_no_more, waits_on}
 use Rattle.rmt_drive.proofs.running.wait.wait.Goals as goal
 
 pub loop-age-init : goal.loop-age-init
@@ -23,30 +22,18 @@ loop-age-init g c = record {
 
 pub turn-requires-clause-may : goal.turn-requires-clause-may
 turn-requires-clause-may g c =
-    let s = c.requires.came in
-    let h = s.6 in
-    let go = (c.loop-age.invariant.goes s.0 s.1 s.2 s.3 s.4 s.5 h).1 in
-    let idles = replicate c.loop-age._age Idle in
-    let was : entered_of c.args.chip.now ≡ packets_of s.3 = h.goes.stands.entered_is in
-    let is : entered_of c.loop-age.chip ≡ packets_of (s.3 ++ idles) = go.stands.entered_is in
-    let same = packets-append s.3 idles in
-    let none = no_packets c.loop-age._age in
-    omega (arith, was, is, same, none, c.requires.entered)
+    let s = c.requires.may.came in
+    let go = (c.loop-age.invariant.goes s.0 s.1 s.2 s.3 s.4 s.5 s.6).1 in
+    omega (arith, entered_still s.1 s.3 c.loop-age._age c.args.chip.now c.loop-age.chip s.6.goes.stands go.stands, c.requires.may.entered)
 
 pub turn-requires-clause-cycles : goal.turn-requires-clause-cycles
-turn-requires-clause-cycles g c = omega (arith, c.loop-age.invariant.cycles, c.requires.cycles, c.latency-latency.type_inv)
+turn-requires-clause-cycles g c = omega (arith, c.loop-age.invariant.cycles, c.requires.may.cycles, c.latency-latency.type_inv)
 
 pub turn-requires-clause-answered : goal.turn-requires-clause-answered
 turn-requires-clause-answered g c =
-    let s = c.requires.came in
-    let h = s.6 in
-    let go = (c.loop-age.invariant.goes s.0 s.1 s.2 s.3 s.4 s.5 h).1 in
-    let idles = replicate c.loop-age._age Idle in
-    let was : entered_of c.args.chip.now ≡ packets_of s.3 = h.goes.stands.entered_is in
-    let is : entered_of c.loop-age.chip ≡ packets_of (s.3 ++ idles) = go.stands.entered_is in
-    let same = packets-append s.3 idles in
-    let none = no_packets c.loop-age._age in
-    omega (arith, few_numbered go, was, is, same, none, c.requires.entered)
+    let s = c.requires.may.came in
+    let go = (c.loop-age.invariant.goes s.0 s.1 s.2 s.3 s.4 s.5 s.6).1 in
+    omega (arith, few_numbered go, entered_still s.1 s.3 c.loop-age._age c.args.chip.now c.loop-age.chip s.6.goes.stands go.stands, c.requires.may.entered)
 
 pub loop-age-preserved : goal.loop-age-preserved
 loop-age-preserved g c = record {
@@ -60,7 +47,7 @@ loop-age-preserved g c = record {
       );
   cycles = omega (arith, c.loop-age.invariant.cycles, c.in-Ok.ensures.cycles);
   spare = omega (arith, c.loop-age.invariant.spare, c.turn.ensures.spare);
-  only_printed = only_printed_trans c.loop-age.invariant.only_printed c.turn.ensures.only_printed;
+  only_printed = only_printed_trans c.loop-age.invariant.only_printed c.turn.ensures.prints.only_printed;
 }
 
 pub returns-then-not-is_waiting-clause-ok : goal.returns-then-not-is_waiting-clause-ok
@@ -90,5 +77,5 @@ returns-clause-ok g c = λ w k events made r before h.
     let same : c.loop-age._age ≡ waits r c.args.moved = omega (arith, le, few, latency) in
     subst (λ n. Goes w k (made ++ replicate n Idle) c.loop-age.run c.loop-age.chip before (g.O.Sink.state c.loop-age.out)) same i.1
 
-pub returns-in-Err-clause-only_printed : goal.returns-in-Err-clause-only_printed
-returns-in-Err-clause-only_printed g c = only_printed_trans c.loop-age.invariant.only_printed c.turn.ensures.only_printed
+pub returns-in-Err-clause-prints : goal.returns-in-Err-clause-prints
+returns-in-Err-clause-prints g c = prints_later c.loop-age.invariant.only_printed c.in-Err.ensures.prints

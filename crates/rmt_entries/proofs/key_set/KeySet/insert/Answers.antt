@@ -2,7 +2,7 @@ use Rattle.std.proofs.Common.{◌≡◌, ◌∙◌, ℕ, List, cond, not, true, 
 use Rattle.std.specs.Str.{bytes_eq}
 use Rattle.rmt_entries.specs.declared.key_set.Spot.TheVariants.{Crowded}
 use Rattle.rmt_entries.specs.KeySets.{KeySet, has, holds, home, near, spot_of}
-use Rattle.rmt_entries.proofs.KeySetLaws.{crowd_holds, crowd_stands, free_place, home_room, present, present_kept, put_holds, put_stands, spot_seen, stands_more, with_list}
+use Rattle.rmt_entries.proofs.KeySetLaws.{crowd_holds, crowd_stands, free_home, present, present_kept, put_whole, spot_seen, stands_more, with_list}
 use Rattle.rmt_entries.proofs.key_set.KeySet.insert.Goals as goal
 
 pub invariant_of-self : goal.invariant_of-self
@@ -14,9 +14,7 @@ index_mut-requires c =
     let held = c.self.inside.held.items in
     let key = c.args.key.now.items in
     let own = spot_seen slots held key c.self.inside.crowded c.args.self.now c.as_slice.result.now c.spot_of.result c.self.view_is c.as_slice.ensures.value c.spot_of.ensures ∙ c.in-Free.is in
-    let free = free_place slots held near (home slots key) key c.in-Free.place own in
-    let room = home_room slots key c.self.invariant.some in
-    omega (arith, free.1, room, c.self.inside.slots.ok.0)
+    omega (arith, (free_home slots held key c.in-Free.place own c.self.invariant.some).1, c.self.inside.slots.ok.0)
 
 pub invariant_of-self-in-Free : goal.invariant_of-self-in-Free
 invariant_of-self-in-Free c =
@@ -24,11 +22,8 @@ invariant_of-self-in-Free c =
     let held = c.self.inside.held.items in
     let key = c.args.key.now in
     let own = spot_seen slots held key.items c.self.inside.crowded c.args.self.now c.as_slice.result.now c.spot_of.result c.self.view_is c.as_slice.ensures.value c.spot_of.ensures ∙ c.in-Free.is in
-    let free = free_place slots held near (home slots key.items) key.items c.in-Free.place own in
-    let room = home_room slots key.items c.self.invariant.some in
-    let begin : c.len-begin.result ≡ length held = c.len-begin.ensures ∙ c.self.inside.held.ok.0 in
-    let behind : c.put_list.new.held.items ≡ with_list held key.items = c.in_ok-put_list-in-Free.ensures.put ∙ ap (with_list held) c.as_slice-in-Free.ensures.value in
-    rw (begin, behind) (put_stands slots held c.self.inside.crowded c.self.invariant key c.in-Free.place own free.0 (omega (arith, free.1, room)))
+    (put_whole slots held c.self.inside.crowded c.self.invariant key c.in-Free.place c.len-begin.result c.put_list.new.held.items own (c.len-begin.ensures ∙ c.self.inside.held.ok.0)
+    (c.in_ok-put_list-in-Free.ensures.put ∙ ap (with_list held) c.as_slice-in-Free.ensures.value)).0
 
 pub invariant_of-self-in-Crowded : goal.invariant_of-self-in-Crowded
 invariant_of-self-in-Crowded c =
@@ -46,11 +41,8 @@ returns-in_ok-put_list-in-Free-clause-updates c q =
     let held = c.self.inside.held.items in
     let key = c.args.key.now in
     let own = spot_seen slots held key.items c.self.inside.crowded c.args.self.now c.as_slice.result.now c.spot_of.result c.self.view_is c.as_slice.ensures.value c.spot_of.ensures ∙ c.in-Free.is in
-    let free = free_place slots held near (home slots key.items) key.items c.in-Free.place own in
-    let room = home_room slots key.items c.self.invariant.some in
-    let begin : c.len-begin.result ≡ length held = c.len-begin.ensures ∙ c.self.inside.held.ok.0 in
-    let behind : c.put_list.new.held.items ≡ with_list held key.items = c.in_ok-put_list-in-Free.ensures.put ∙ ap (with_list held) c.as_slice-in-Free.ensures.value in
-    rw (begin, behind) (put_holds slots held c.self.inside.crowded c.self.invariant key c.in-Free.place own free.0 (omega (arith, free.1, room)) q)
+    (put_whole slots held c.self.inside.crowded c.self.invariant key c.in-Free.place c.len-begin.result c.put_list.new.held.items own (c.len-begin.ensures ∙ c.self.inside.held.ok.0)
+    (c.in_ok-put_list-in-Free.ensures.put ∙ ap (with_list held) c.as_slice-in-Free.ensures.value)).1 q
     ∙ ap (λ (k : KeySet). cond (bytes_eq key.items q.items) true (has k q)) c.self.view_is
 
 pub returns-in-Held-clause-added : goal.returns-in-Held-clause-added

@@ -60,7 +60,7 @@ pub install-requires-clause-number : goal.install-requires-clause-number
 install-requires-clause-number c =
     let r = c.requires.stands.0 in
     let s = c.requires.stands.1 in
-    omega (arith, s.next, s.room, s.taken, s.most, s.at_most, c.in_default-refusal_of.ensures.few)
+    omega (arith, s.next, s.numbers.room, s.taken, s.most, s.numbers.at_most, c.in_default-refusal_of.ensures.few)
 
 pub returns-clause-changed : goal.returns-clause-changed
 returns-clause-changed c r s =

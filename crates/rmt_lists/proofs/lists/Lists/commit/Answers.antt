@@ -36,9 +36,7 @@ returns-clause-committed c r s =
       held = s.held;
       taken = s.taken;
       most = s.most;
-      few = s.few;
-      at_most = s.at_most;
-      room = s.room;
+      numbers = s.numbers;
     }
 
 pub returns-clause-changes : goal.returns-clause-changes

@@ -25,9 +25,7 @@ returns-in_err-push-clause-kept c =
       held = held_set c.args.self.now.held.items r.now.lists r.now.lists node c.push.new.self s.held refl (c.in_err-push.ensures.kept (list_of r.now.lists node) here) (λ m apart. refl);
       taken = s.taken;
       most = s.most;
-      few = s.few;
-      at_most = s.at_most;
-      room = s.room;
+      numbers = s.numbers;
     })
 
 pub returns-clause-changed : goal.returns-clause-changed
@@ -61,7 +59,5 @@ returns-clause-changed c r s =
           (λ m apart. list_of-other lists node m (list_of lists node ++ e ∷ []) apart);
       taken = ap (λ (n : ℕ). n + 1) s.taken;
       most = s.most;
-      few = omega (arith, c.requires.few, s.taken, s.most);
-      at_most = s.at_most;
-      room = omega (arith, s.room);
+      numbers = record { few = omega (arith, c.requires.few, s.taken, s.most); at_most = s.numbers.at_most; room = omega (arith, s.numbers.room) };
     }

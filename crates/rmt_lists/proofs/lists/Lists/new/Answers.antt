@@ -26,7 +26,5 @@ returns-clause-stands c =
       held = subst (λ (ls : List (List Entry)). AreHeld c.in_ok-held.held.items ls) c.as_slice.ensures c.in_ok-held.ensures;
       taken = refl;
       most = refl;
-      few = omega arith;
-      at_most = c.requires.few;
-      room = omega (arith, most);
+      numbers = record { few = omega arith; at_most = c.requires.few; room = omega (arith, most) };
     }

@@ -62,7 +62,5 @@ returns-clause-changed c r s =
           (λ m apart. list_of-other lists node m (without key es) apart);
       taken = s.taken;
       most = s.most;
-      few = s.few;
-      at_most = s.at_most;
-      room = s.room;
+      numbers = s.numbers;
     })

@@ -1,17 +1,16 @@
 use Rattle.std.proofs.Common.{◌≡◌, ℕ, ◌<◌, ◌≤◌, List, [], ◌∷◌, ◌++◌, Some, length, set, refl, ap, sym, ◌∙◌, subst, ⊎_elim, arith}
-use Rattle.std.specs.Prelude.{All, count_by, nat_lt}
+use Rattle.std.specs.Prelude.{All, count_by}
 use Rattle.std.proofs.lemmas.Bool.{cases_lt, false≢true}
 use Rattle.rmt_cells.specs.declared.cells.Cells.{Cells}
 use Rattle.rmt_cells.specs.Pieces.{cells_for}
 use Rattle.rmt_queues.specs.declared.queues.Queues.{Queues}
-use Rattle.rmt_queues.specs.declared.rings.Ring.{Ring}
 use Rattle.rmt_queues.specs.Lists.{Lists, free_cells, has_room, offered, standing}
-use Rattle.rmt_queues.specs.Rings.{ring_of}
 use Rattle.rmt_queues.specs.Stands.{Stands, held_items}
 use Rattle.rmt_queues.proofs.AnswerLaws.{answer_full, answer_none, answer_stored, few_ports, offered_full, offered_none, room_same, some_spare, stored_stands}
 use Rattle.rmt_queues.proofs.OfferLaws.{sent_stands, spare_within}
 use Rattle.rmt_queues.proofs.StandingLaws.{free_told}
 use Rattle.rmt_queues.proofs.queues.Queues.offer.Goals as goal
+use Rattle.rmt_queues.proofs.queues.Queues.offer.Goals.{After-with_room-copies, In-Ok}
 
 -- the ports are those of the lists
 within_in : (s u : Lists) (q : Queues) (ports : List ℕ) → Stands s q → Stands u q → All (λ port. port < length s.queues) ports → All (λ port. port < length u.queues) ports
@@ -21,10 +20,18 @@ within_in s u q ports stands other within = λ i d lt.
     let b = other.at.ports in
     omega (arith, a, b, here)
 
--- the rings tell which of these ports have room in the lists
-room_in : (s u : Lists) (q : Queues) (rings : List Ring) (ports : List ℕ) → Stands s q → Stands u q → All (λ port. port < length s.queues) ports → rings ≡ q.rings.items
-    → count_by (λ port. nat_lt (length (ring_of rings port)) q.depth) ports ≡ count_by (has_room u) ports
-room_in s u q rings ports stands other within is = room_same other.indices u q rings ports other.at is (within_in s u q ports stands other within)
+-- so many of the ports have room in the lists
+room_in : (c : After-with_room-copies) (s : Lists) → Stands s c.args.self.now → c.with_room-copies.result ≡ count_by (has_room s) c.args.ports.now
+room_in c s stands =
+    let (u, there, all) = c.requires.stands in
+    c.with_room-copies.ensures
+    ∙ room_same stands.indices s c.args.self.now c.as_slice.result.now c.args.ports.now stands.at c.as_slice.ensures.value (within_in u s c.args.self.now c.args.ports.now there stands all)
+
+-- the cells were enough
+enough : (c : In-Ok) (s : Lists) → Stands s c.args.self.now → cells_for (length c.args.item.now) ≤ free_cells s
+enough c s stands =
+    let told = free_told stands.indices s c.args.self.now stands.at in
+    ⊎_elim (λ lt. absurd (false≢true (c.in-Ok.ensures.full.1 lt))) (λ le. omega (arith, le, told)) (cases_lt c.args.self.now.cells.free (cells_for (length c.args.item.now)))
 
 pub with_room-copies-requires-clause-few : goal.with_room-copies-requires-clause-few
 with_room-copies-requires-clause-few c =
@@ -42,19 +49,12 @@ overflow_cast-dropped c =
 
 pub returns-then-copies-eq0-clause-stands : goal.returns-then-copies-eq0-clause-stands
 returns-then-copies-eq0-clause-stands c = λ s stands.
-    let (u, there, all) = c.requires.stands in
-    let q = c.args.self.now in
-    let ports = c.args.ports.now in
-    let room = c.with_room-copies.ensures ∙ room_in u s q c.as_slice.result.now ports there stands all c.as_slice.ensures.value in
-    subst (λ (t : Lists). Stands t q) (sym (offered_none s ports c.args.item.now (sym room ∙ c.if-copies-eq0.true))) stands
+    let room = room_in (goal.at.returns-then-copies-eq0-clause-stands c).After-with_room-copies s stands in
+    subst (λ (t : Lists). Stands t c.args.self.now) (sym (offered_none s c.args.ports.now c.args.item.now (sym room ∙ c.if-copies-eq0.true))) stands
 
 pub returns-then-copies-eq0-clause-answer : goal.returns-then-copies-eq0-clause-answer
 returns-then-copies-eq0-clause-answer c = λ s stands.
-    let (u, there, all) = c.requires.stands in
-    let q = c.args.self.now in
-    let ports = c.args.ports.now in
-    let room = c.with_room-copies.ensures ∙ room_in u s q c.as_slice.result.now ports there stands all c.as_slice.ensures.value in
-    answer_none s ports c.args.item.now c.with_room-copies.result room c.if-copies-eq0.true
+    answer_none s c.args.ports.now c.args.item.now c.with_room-copies.result (room_in (goal.at.returns-then-copies-eq0-clause-answer c).After-with_room-copies s stands) c.if-copies-eq0.true
 
 pub returns-in-Err-clause-stands : goal.returns-in-Err-clause-stands
 returns-in-Err-clause-stands c = λ s stands.
@@ -66,27 +66,18 @@ returns-in-Err-clause-stands c = λ s stands.
 
 pub returns-in-Err-clause-answer : goal.returns-in-Err-clause-answer
 returns-in-Err-clause-answer c = λ s stands.
-    let (u, there, all) = c.requires.stands in
-    let q = c.args.self.now in
-    let ports = c.args.ports.now in
-    let room = c.with_room-copies.ensures ∙ room_in u s q c.as_slice.result.now ports there stands all c.as_slice.ensures.value in
-    let some = c.if-copies-eq0.false in
-    let told = free_told stands.indices s q stands.at in
+    let room = room_in (goal.at.returns-in-Err-clause-answer c).After-with_room-copies s stands in
+    let told = free_told stands.indices s c.args.self.now stands.at in
     let full = c.in-Err.ensures.full.0 refl in
-    answer_full s ports c.args.item.now (omega (arith, room, some)) (omega (arith, told, full))
+    answer_full s c.args.ports.now c.args.item.now (omega (arith, room, c.if-copies-eq0.false)) (omega (arith, told, full))
 
 pub unreachable-requires : goal.unreachable-requires
 unreachable-requires c =
     let (s, stands, within) = c.requires.stands in
-    let q = c.args.self.now in
-    let ports = c.args.ports.now in
-    let room = c.with_room-copies.ensures ∙ room_same stands.indices s q c.as_slice.result.now ports stands.at c.as_slice.ensures.value within in
-    let some = c.if-copies-eq0.false in
-    let spare = some_spare stands.indices s q ports stands.at within (omega (arith, room, some)) in
+    let room = room_in (goal.at.unreachable-requires c).After-with_room-copies s stands in
+    let spare = some_spare stands.indices s c.args.self.now c.args.ports.now stands.at within (omega (arith, room, c.if-copies-eq0.false)) in
     let none = ap (λ (xs : List ℕ). length xs) c.in-None.ensures.items in
-    let ok = q.spare.ok.0 in
-    let empty = c.in-None.ensures.cases in
-    omega (arith, spare, ok, empty)
+    omega (arith, spare, c.args.self.now.spare.ok.0, c.in-None.ensures.cases)
 
 pub index_mut-requires : goal.index_mut-requires
 index_mut-requires c =
@@ -99,28 +90,19 @@ index_mut-requires c =
 pub returns-clause-stands : goal.returns-clause-stands
 returns-clause-stands c = λ s stands.
     let (u, there, all) = c.requires.stands in
+    let here = goal.at.returns-clause-stands c in
     let q = c.args.self.now in
     let ports = c.args.ports.now in
-    let item = c.args.item.now in
-    let ix = stands.indices in
-    let within = within_in u s q ports there stands all in
-    let room = c.with_room-copies.ensures ∙ room_same ix s q c.as_slice.result.now ports stands.at c.as_slice.ensures.value within in
-    let some = c.if-copies-eq0.false in
-    let positive : 0 < count_by (has_room s) ports = omega (arith, room, some) in
-    let told = free_told ix s q stands.at in
-    let enough : cells_for (length item) ≤ free_cells s =
-    ⊎_elim (λ lt. absurd (false≢true (c.in-Ok.ensures.full.1 lt))) (λ le. omega (arith, le, told)) (cases_lt q.cells.free (cells_for (length item))) in
-    stored_stands (ix ++ c.in-Some.index ∷ []) s ports item _ positive enough
-    (sent_stands ix s ports item q _ c.in-Ok.chain c.in-Some.index stands.at c.requires.once within c.requires.small positive refl
+    let room = room_in here.After-with_room-copies s stands in
+    let positive : 0 < count_by (has_room s) ports = omega (arith, room, c.if-copies-eq0.false) in
+    stored_stands (stands.indices ++ c.in-Some.index ∷ []) s ports c.args.item.now _ positive (enough here.In-Ok s stands)
+    (sent_stands stands.indices s ports c.args.item.now q _ c.in-Ok.chain c.in-Some.index stands.at c.requires.once (within_in u s q ports there stands all) c.requires.small positive refl
     c.send.ensures.many c.send.ensures.roomy c.send.ensures.copies c.in-Some.ensures.items c.in-Some.ensures.capacity
-    (ap (λ (n : ℕ). set q.stored.items c.in-Some.index (record { chain = Some c.in-Ok.chain; len = length item; copies = n })) room)
-    (c.in-Ok.ensures.stands 65536 (held_items q.stored.items ix s.items (standing s)) stands.at.held))
+    (ap (λ (n : ℕ). set q.stored.items c.in-Some.index (record { chain = Some c.in-Ok.chain; len = length c.args.item.now; copies = n })) room)
+    (c.in-Ok.ensures.stands 65536 (held_items q.stored.items stands.indices s.items (standing s)) stands.at.held))
 
 pub returns-clause-answer : goal.returns-clause-answer
 returns-clause-answer c = λ s stands.
-    let (u, there, all) = c.requires.stands in
-    let room = c.with_room-copies.ensures ∙ room_in u s c.args.self.now c.as_slice.result.now c.args.ports.now there stands all c.as_slice.ensures.value in
-    let told = free_told stands.indices s c.args.self.now stands.at in
-    let enough : cells_for (length c.args.item.now) ≤ free_cells s =
-    ⊎_elim (λ lt. absurd (false≢true (c.in-Ok.ensures.full.1 lt))) (λ le. omega (arith, le, told)) (cases_lt c.args.self.now.cells.free (cells_for (length c.args.item.now))) in
-    answer_stored s c.args.ports.now c.args.item.now c.with_room-copies.result room (omega (arith, room, c.if-copies-eq0.false)) enough
+    let here = goal.at.returns-clause-answer c in
+    let room = room_in here.After-with_room-copies s stands in
+    answer_stored s c.args.ports.now c.args.item.now c.with_room-copies.result room (omega (arith, room, c.if-copies-eq0.false)) (enough here.In-Ok s stands)

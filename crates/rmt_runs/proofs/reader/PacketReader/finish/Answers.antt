@@ -20,14 +20,11 @@ returns-clause-line c is limit text rest gave end h =
     let i = c.self.inside in
     let going = ap (λ r. r.is_finished) c.self.view_is ∙ c.requires.going_on in
     let empty = ap (λ r. r.waiting) c.self.view_is ∙ c.requires.empty in
-    let old : ReaderState = record { lines = i.lines; waiting = i.piece; left = i.left; is_finished = i.is_finished; given = i.given } in
     let new : ReaderState = record { lines = c.finish.new.self; waiting = i.piece; left = i.left; is_finished = true; given = i.given } in
-    last_taken limit text rest gave old new (rw (← c.self.view_is) at h) going empty end refl refl refl c.finish.ensures.stands (λ t s. c.finish.ensures.last t s is)
+    last_taken limit text rest gave _ new (rw (← c.self.view_is) at h) going empty end refl refl refl c.finish.ensures.stands (λ t s. c.finish.ensures.last t s is)
 
 pub returns-clause-end : goal.returns-clause-end
 returns-clause-end c none limit text rest gave end h =
-    let i = c.self.inside in
     let going = ap (λ r. r.is_finished) c.self.view_is ∙ c.requires.going_on in
     let empty = ap (λ r. r.waiting) c.self.view_is ∙ c.requires.empty in
-    let old : ReaderState = record { lines = i.lines; waiting = i.piece; left = i.left; is_finished = i.is_finished; given = i.given } in
-    no_last limit text rest gave old (rw (← c.self.view_is) at h) going empty end (λ t s. c.finish.ensures.none t s none)
+    no_last limit text rest gave _ (rw (← c.self.view_is) at h) going empty end (λ t s. c.finish.ensures.none t s none)

@@ -23,6 +23,7 @@ use Rattle.rmt_book.specs.Seen.{HaveNumbers}
 use Rattle.rmt_update.proofs.AfterLaws.{after-have}
 use Rattle.rmt_update.proofs.LoadSteps.{after-few, can-change, planned, tables-are, tables-fit, unplanned}
 use Rattle.rmt_update.proofs.book.Book.load.Goals as goal
+use Rattle.rmt_update.proofs.book.Book.load.Goals.{In_ok-loaded, In_ok-parts}
 use Rattle.rmt_update.proofs.ZipLaws.{zip-gives}
 
 pub entries-requires : goal.entries-requires
@@ -56,36 +57,41 @@ put_back-requires c =
     let value = ap (λ (ts : List TableCells). length ts) c.as_slice-2.ensures.value in
     omega (arith, same, value)
 
--- what is known once all is loaded
+-- what is loaded, of the entries behind the changes
+loads : (c : In_ok-loaded) (config : Config) (names : Names) (cells : RunCells) (lists : List (List Entry)) → BookStands config cells lists c.args.self.now → config.names ≡ Some names → MayChange config names cells lists c.args.changes.now
+    → IsLoaded config names (changed_lists lists c.args.changes.now) c.in_ok-loaded.loaded
+loads c config names cells lists stands named may =
+    let after : c.in_ok-after.after ≡ changed_lists lists c.args.changes.now =
+    c.in_ok-after.ensures ∙ ap (λ (ls : List (List Entry)). changed_lists ls c.args.changes.now) (c.in_ok-before.ensures.entries config cells lists stands) in
+    let tables = subst (AreTables config names) (sym c.as_slice.ensures.value) (tables-are config names cells lists c.args.self.now stands named) in
+    subst (λ ls. IsLoaded config names ls c.in_ok-loaded.loaded) after (c.in_ok-loaded.ensures.loaded config names tables (subst (AreEntriesOf names) (sym after) may.formed))
+
+-- and the parts as these entries move
+moves : (c : In_ok-parts) (config : Config) (cells : RunCells) (lists : List (List Entry)) → BookStands config cells lists c.args.self.now
+    → AllZip (λ (t : TableCells) (v : Vec PartCells Global). IsMoved (changed_lists lists c.args.changes.now) c.in_ok-loaded.loaded.spots t v.items) c.args.self.now.tables.items c.in_ok-parts.parts.items
+moves c config cells lists stands =
+    let R : List (List Entry) → List (List Spot) → TableCells → Vec PartCells Global → Type 0 = λ ls ss t v. IsMoved ls ss t v.items in
+    let after : c.in_ok-after.after ≡ changed_lists lists c.args.changes.now =
+    c.in_ok-after.ensures ∙ ap (λ (ls : List (List Entry)). changed_lists ls c.args.changes.now) (c.in_ok-before.ensures.entries config cells lists stands) in
+    subst (λ (ts : List TableCells). AllZip (R (changed_lists lists c.args.changes.now) c.in_ok-loaded.loaded.spots) ts c.in_ok-parts.parts.items) c.as_slice-2.ensures.value
+    (subst (λ (ls : List (List Entry)). AllZip (R ls c.in_ok-loaded.loaded.spots) c.as_slice-2.result.now c.in_ok-parts.parts.items) after
+    (subst (λ (ss : List (List Spot)). AllZip (R c.in_ok-after.after ss) c.as_slice-2.result.now c.in_ok-parts.parts.items) c.as_slice-spots.ensures c.in_ok-parts.ensures))
+
 pub moved_parts-requires : goal.moved_parts-requires
 moved_parts-requires c =
     let ch = c.args.changes.now in
     let b = c.args.self.now in
-    let before = c.in_ok-before.ensures.entries c.requires.0 c.requires.2 c.requires.3 c.requires.4 in
-    let after : c.in_ok-after.after ≡ changed_lists c.requires.3 ch = c.in_ok-after.ensures ∙ ap (λ (ls : List (List Entry)). changed_lists ls ch) before in
-    let tables = subst (AreTables c.requires.0 c.requires.1) (sym c.as_slice.ensures.value) (tables-are c.requires.0 c.requires.1 c.requires.2 c.requires.3 b c.requires.4 c.requires.5) in
-    let loaded = c.in_ok-loaded.ensures.loaded c.requires.0 c.requires.1 tables (subst (AreEntriesOf c.requires.1) (sym after) c.requires.6.formed) in
-    let is : IsLoaded c.requires.0 c.requires.1 (changed_lists c.requires.3 ch) c.in_ok-loaded.loaded = subst (λ ls. IsLoaded c.requires.0 c.requires.1 ls c.in_ok-loaded.loaded) after loaded in
+    let r = c.requires in
+    let after : c.in_ok-after.after ≡ changed_lists r.3 ch = c.in_ok-after.ensures ∙ ap (λ (ls : List (List Entry)). changed_lists ls ch) (c.in_ok-before.ensures.entries r.0 r.2 r.3 r.4) in
     subst (λ (ts : List TableCells). All (TableFits c.in_ok-after.after c.as_slice-spots.result.now) ts) (sym c.as_slice-2.ensures.value)
     (subst (λ (ls : List (List Entry)). All (TableFits ls c.as_slice-spots.result.now) b.tables.items) (sym after)
-    (subst (λ (ss : List (List Spot)). All (TableFits (changed_lists c.requires.3 ch) ss) b.tables.items) (sym c.as_slice-spots.ensures)
-    (tables-fit c.requires.0 c.requires.1 c.requires.2 c.requires.3 b c.requires.4 c.requires.5 ch c.requires.6 c.in_ok-loaded.loaded is)))
+    (subst (λ (ss : List (List Spot)). All (TableFits (changed_lists r.3 ch) ss) b.tables.items) (sym c.as_slice-spots.ensures)
+    (tables-fit r.0 r.1 r.2 r.3 b r.4 r.5 ch r.6 c.in_ok-loaded.loaded (loads (goal.at.moved_parts-requires c).In_ok-loaded r.0 r.1 r.2 r.3 r.4 r.5 r.6))))
 
 pub returns-clause-planned : goal.returns-clause-planned
 returns-clause-planned c = λ config names cells lists stands named may none.
-    let ch = c.args.changes.now in
-    let b = c.args.self.now in
-    let before = c.in_ok-before.ensures.entries config cells lists stands in
-    let after : c.in_ok-after.after ≡ changed_lists lists ch = c.in_ok-after.ensures ∙ ap (λ (ls : List (List Entry)). changed_lists ls ch) before in
-    let tables = subst (AreTables config names) (sym c.as_slice.ensures.value) (tables-are config names cells lists b stands named) in
-    let loaded = c.in_ok-loaded.ensures.loaded config names tables (subst (AreEntriesOf names) (sym after) may.formed) in
-    let is : IsLoaded config names (changed_lists lists ch) c.in_ok-loaded.loaded = subst (λ ls. IsLoaded config names ls c.in_ok-loaded.loaded) after loaded in
-    let R : List (List Entry) → List (List Spot) → TableCells → Vec PartCells Global → Type 0 = λ ls ss t v. IsMoved ls ss t v.items in
-    let all : AllZip (R (changed_lists lists ch) c.in_ok-loaded.loaded.spots) b.tables.items c.in_ok-parts.parts.items =
-    subst (λ (ts : List TableCells). AllZip (R (changed_lists lists ch) c.in_ok-loaded.loaded.spots) ts c.in_ok-parts.parts.items) c.as_slice-2.ensures.value
-    (subst (λ (ls : List (List Entry)). AllZip (R ls c.in_ok-loaded.loaded.spots) c.as_slice-2.result.now c.in_ok-parts.parts.items) after
-    (subst (λ (ss : List (List Spot)). AllZip (R c.in_ok-after.after ss) c.as_slice-2.result.now c.in_ok-parts.parts.items) c.as_slice-spots.ensures c.in_ok-parts.ensures)) in
-    planned config names cells lists b stands named ch may c.in_ok-loaded.loaded is c.in_ok-parts.parts.items all _ _ none refl refl
+    let at = goal.at.returns-clause-planned c in
+    planned config names cells lists c.args.self.now stands named c.args.changes.now may c.in_ok-loaded.loaded (loads at.In_ok-loaded config names cells lists stands named may) c.in_ok-parts.parts.items (moves at.In_ok-parts config cells lists stands) _ _ none refl refl
     (subst (λ (ts : List TableCells). (g : Goal) → All (IsGoal g) (all_pairs ts c.in_ok-parts.parts.items) → AreDifferences (all_pairs ts c.in_ok-parts.parts.items) c.in_ok-writes.writes.items g) c.as_slice-3.ensures.value
     (subst (λ (vs : List (Vec PartCells Global)). (g : Goal) → All (IsGoal g) (all_pairs c.as_slice-3.result.now vs) → AreDifferences (all_pairs c.as_slice-3.result.now vs) c.in_ok-writes.writes.items g) c.as_slice-4.ensures.value c.in_ok-writes.ensures))
     refl refl refl c.put_back.ensures refl
@@ -99,24 +105,10 @@ differences-requires-clause-same c =
 
 pub differences-requires-clause-can : goal.differences-requires-clause-can
 differences-requires-clause-can c =
-    let config = c.requires.0 in
-    let names = c.requires.1 in
-    let cells = c.requires.2 in
-    let lists = c.requires.3 in
-    let ch = c.args.changes.now in
-    let b = c.args.self.now in
-    let before = c.in_ok-before.ensures.entries config cells lists c.requires.4 in
-    let after : c.in_ok-after.after ≡ changed_lists lists ch = c.in_ok-after.ensures ∙ ap (λ (ls : List (List Entry)). changed_lists ls ch) before in
-    let tables = subst (AreTables config names) (sym c.as_slice.ensures.value) (tables-are config names cells lists b c.requires.4 c.requires.5) in
-    let loaded = c.in_ok-loaded.ensures.loaded config names tables (subst (AreEntriesOf names) (sym after) c.requires.6.formed) in
-    let is : IsLoaded config names (changed_lists lists ch) c.in_ok-loaded.loaded = subst (λ ls. IsLoaded config names ls c.in_ok-loaded.loaded) after loaded in
-    let R : List (List Entry) → List (List Spot) → TableCells → Vec PartCells Global → Type 0 = λ ls ss t v. IsMoved ls ss t v.items in
-    let all : AllZip (R (changed_lists lists ch) c.in_ok-loaded.loaded.spots) b.tables.items c.in_ok-parts.parts.items =
-    subst (λ (ts : List TableCells). AllZip (R (changed_lists lists ch) c.in_ok-loaded.loaded.spots) ts c.in_ok-parts.parts.items) c.as_slice-2.ensures.value
-    (subst (λ (ls : List (List Entry)). AllZip (R ls c.in_ok-loaded.loaded.spots) c.as_slice-2.result.now c.in_ok-parts.parts.items) after
-    (subst (λ (ss : List (List Spot)). AllZip (R c.in_ok-after.after ss) c.as_slice-2.result.now c.in_ok-parts.parts.items) c.as_slice-spots.ensures c.in_ok-parts.ensures)) in
+    let r = c.requires in
+    let at = goal.at.differences-requires-clause-can c in
     subst (λ (vs : List (Vec PartCells Global)). All (λ (v : Vec PartCells Global). All CanChange v.items) vs) (sym c.as_slice-4.ensures.value)
-    (can-change config names cells lists b c.requires.4 c.requires.5 ch c.requires.6 c.in_ok-loaded.loaded is c.in_ok-parts.parts.items all)
+    (can-change r.0 r.1 r.2 r.3 c.args.self.now r.4 r.5 c.args.changes.now r.6 c.in_ok-loaded.loaded (loads at.In_ok-loaded r.0 r.1 r.2 r.3 r.4 r.5 r.6) c.in_ok-parts.parts.items (moves at.In_ok-parts r.0 r.2 r.3 r.4))
 
 pub load_all-requires-clause-few : goal.load_all-requires-clause-few
 load_all-requires-clause-few c =

@@ -1,22 +1,30 @@
-use Rattle.std.proofs.Common.{ℕ, ◌<◌, List, refl, sym, subst}
+use Rattle.std.proofs.Common.{◌≡◌, ℕ, ◌<◌, ◌++◌, List, Some, refl, sym, subst}
 use Rattle.std.specs.Prelude.{All, AllPairs}
 use Rattle.std.proofs.lemmas.List.Elements.{All-weaker}
+use Rattle.rmt_ast.specs.declared.entry.Entry.{Entry}
+use Rattle.rmt_ast.specs.declared.names.Names.{Names}
+use Rattle.rmt_config.specs.declared.config.Config.{Config}
+use Rattle.rmt_config.specs.Commits.{AreWrites, settled}
+use Rattle.rmt_config.specs.RunCells.{RunCells}
+use Rattle.rmt_update.specs.BookStands.{BookStands}
+use Rattle.rmt_update.specs.Placing.{ArePlaced}
+use Rattle.rmt_update.specs.Planned.{HasLengths, MayChange}
 use Rattle.rmt_update.specs.declared.book.placing.Coming.{Coming}
 use Rattle.rmt_book.specs.declared.table.TableCells.{TableCells}
 use Rattle.rmt_book.specs.BookSpots.{kept_at}
 use Rattle.rmt_update.specs.Come.{AreOrdered}
 use Rattle.rmt_update.specs.Differences.{changes_in}
 use Rattle.rmt_update.specs.TurnWrites.{AreChanged, AreSmall, HaveOwnSlots, IsFresh}
-use Rattle.rmt_update.specs.Turning.{IsSpotIn, come_to, left_kept}
+use Rattle.rmt_update.specs.Turning.{AreNext, IsSpotIn, come_to, left_kept}
 use Rattle.rmt_update.proofs.BookNext.{book-next}
 use Rattle.rmt_update.proofs.ChangesLaws.{changes-ordered}
 use Rattle.rmt_lists.proofs.ResultLaws.{on_err}
 use Rattle.rmt_update.proofs.FewLaws.{few-change}
 use Rattle.rmt_update.proofs.RecentLaws.{recent-few}
 use Rattle.rmt_update.proofs.SameTables.{stands-same}
-use Rattle.rmt_update.proofs.SettleFacts.{are-fresh, are-small, changed-from, own-slots, settled-next, settled-sizes, settled-writes}
+use Rattle.rmt_update.proofs.SettleFacts.{are-fresh, are-small, changed-from, own-slots, settled-facts}
 use Rattle.rmt_update.proofs.book.Book.settle.Goals as goal
-use Rattle.rmt_update.proofs.book.Book.settle.Goals.{In_ok-cells}
+use Rattle.rmt_update.proofs.book.Book.settle.Goals.{In_ok-cells, In_ok-writes}
 
 -- what changes of the book's own tables
 changed : (c : In_ok-cells) → AreChanged c.args.self.now.tables.items (λ s. come_to c.args.come s (left_kept c.args.self.now.odd c.args.changes.now.gone (kept_at c.args.self.now.tables.items s))) (changes_in c.in_ok-cells.cells.items)
@@ -53,45 +61,41 @@ make_changes-requires-clause-there c =
 pub make_changes-requires-clause-spots : goal.make_changes-requires-clause-spots
 make_changes-requires-clause-spots c = (changed (goal.at.make_changes-requires-clause-spots c).In_ok-cells).spots
 
+-- the tables that come of it, and what is written for them
+made : (c : In_ok-writes) → AreChanged c.args.self.now.tables.items (λ s. come_to c.args.come s (left_kept c.args.self.now.odd c.args.changes.now.gone (kept_at c.args.self.now.tables.items s))) (changes_in c.in_ok-cells.cells.items)
+    → (config : Config) (names : Names) (cells : RunCells) (lists : List (List Entry)) (stands : BookStands config cells lists c.args.self.now) (named : config.names ≡ Some names) (may : MayChange config names cells lists c.args.changes.now)
+    (placed : ArePlaced config names cells lists c.args.changes.now c.args.self.now.odd c.args.self.now.tables.items c.args.come)
+    → AreNext c.args.self.now.odd c.args.changes.now.gone c.args.come c.args.self.now.tables.items c.make_changes.new.tables.items
+    × AreWrites config cells (settled config names cells lists (placed.stay ++ placed.coming)) c.in_ok-writes.writes.items × All (HasLengths config) c.in_ok-writes.writes.items
+made c own config names cells lists stands named may placed =
+    settled-facts config names cells lists c.args.changes.now c.args.self.now c.args.come stands named may placed (changes_in c.in_ok-cells.cells.items) (changes-ordered c.in_ok-cells.cells.items) own c.make_changes.new.tables.items c.in_ok-writes.ensures.made
+    (subst (All AreOrdered) c.as_slice-tables.ensures.value c.all_ordered.ensures) c.in_ok-writes.writes.items c.in_ok-writes.ensures.writes
+
 pub returns-clause-writes : goal.returns-clause-writes
 returns-clause-writes c = λ config names cells lists stands named may placed.
-    let b = c.args.self.now in
-    let own = changed (goal.at.returns-clause-writes c).In_ok-cells in
-    settled-writes config names cells lists c.args.changes.now b c.args.come stands named may placed (changes_in c.in_ok-cells.cells.items) (changes-ordered c.in_ok-cells.cells.items) own c.make_changes.new.tables.items c.in_ok-writes.ensures.made
-    (subst (All AreOrdered) c.as_slice-tables.ensures.value c.all_ordered.ensures) c.in_ok-writes.writes.items c.in_ok-writes.ensures.writes
+    let at = goal.at.returns-clause-writes c in (made at.In_ok-writes (changed at.In_ok-cells) config names cells lists stands named may placed).1
 
 pub returns-clause-sizes : goal.returns-clause-sizes
 returns-clause-sizes c = λ config names cells lists stands named may placed.
-    let b = c.args.self.now in
-    let own = changed (goal.at.returns-clause-sizes c).In_ok-cells in
-    settled-sizes config names cells lists c.args.changes.now b c.args.come stands named may placed (changes_in c.in_ok-cells.cells.items) (changes-ordered c.in_ok-cells.cells.items) own c.make_changes.new.tables.items c.in_ok-writes.ensures.made
-    (subst (All AreOrdered) c.as_slice-tables.ensures.value c.all_ordered.ensures) c.in_ok-writes.writes.items c.in_ok-writes.ensures.writes
+    let at = goal.at.returns-clause-sizes c in (made at.In_ok-writes (changed at.In_ok-cells) config names cells lists stands named may placed).2
 
 pub returns-clause-stands : goal.returns-clause-stands
 returns-clause-stands c = λ config names cells lists stands named may placed.
-    let b = c.args.self.now in
-    let own = changed (goal.at.returns-clause-stands c).In_ok-cells in
-    let next = settled-next config names cells lists c.args.changes.now b c.args.come stands named may placed (changes_in c.in_ok-cells.cells.items) (changes-ordered c.in_ok-cells.cells.items) own c.make_changes.new.tables.items c.in_ok-writes.ensures.made
-    (subst (All AreOrdered) c.as_slice-tables.ensures.value c.all_ordered.ensures) in
-    book-next config names cells lists c.args.changes.now b _ c.args.come stands named may placed next refl refl refl (c.in_ok-next.ensures c.make_changes.new.tables.items next)
+    let at = goal.at.returns-clause-stands c in
+    let next = (made at.In_ok-writes (changed at.In_ok-cells) config names cells lists stands named may placed).0 in
+    book-next config names cells lists c.args.changes.now c.args.self.now _ c.args.come stands named may placed next refl refl refl (c.in_ok-next.ensures c.make_changes.new.tables.items next)
 
 pub returns-clause-few : goal.returns-clause-few
 returns-clause-few c =
     let r = c.requires.may in
-    let b = c.args.self.now in
-    let own = changed (goal.at.returns-clause-few c).In_ok-cells in
-    few-change r.0 r.1 r.2 r.3 c.args.changes.now b c.args.come r.4 r.5 r.6 r.7 c.in_ok-writes.writes.items
-    (settled-writes r.0 r.1 r.2 r.3 c.args.changes.now b c.args.come r.4 r.5 r.6 r.7 (changes_in c.in_ok-cells.cells.items) (changes-ordered c.in_ok-cells.cells.items) own c.make_changes.new.tables.items c.in_ok-writes.ensures.made
-    (subst (All AreOrdered) c.as_slice-tables.ensures.value c.all_ordered.ensures) c.in_ok-writes.writes.items c.in_ok-writes.ensures.writes)
+    let at = goal.at.returns-clause-few c in
+    few-change r.0 r.1 r.2 r.3 c.args.changes.now c.args.self.now c.args.come r.4 r.5 r.6 r.7 c.in_ok-writes.writes.items (made at.In_ok-writes (changed at.In_ok-cells) r.0 r.1 r.2 r.3 r.4 r.5 r.6 r.7).1
 
 pub returns-clause-recent : goal.returns-clause-recent
 returns-clause-recent c =
     let r = c.requires.may in
-    let b = c.args.self.now in
-    let own = changed (goal.at.returns-clause-recent c).In_ok-cells in
-    recent-few r.0 r.1 r.2 r.3 c.args.changes.now b c.args.come r.4 r.5 r.6 r.7 c.make_changes.new.tables.items
-    (settled-next r.0 r.1 r.2 r.3 c.args.changes.now b c.args.come r.4 r.5 r.6 r.7 (changes_in c.in_ok-cells.cells.items) (changes-ordered c.in_ok-cells.cells.items) own c.make_changes.new.tables.items c.in_ok-writes.ensures.made
-    (subst (All AreOrdered) c.as_slice-tables.ensures.value c.all_ordered.ensures))
+    let at = goal.at.returns-clause-recent c in
+    recent-few r.0 r.1 r.2 r.3 c.args.changes.now c.args.self.now c.args.come r.4 r.5 r.6 r.7 c.make_changes.new.tables.items (made at.In_ok-writes (changed at.In_ok-cells) r.0 r.1 r.2 r.3 r.4 r.5 r.6 r.7).0
 
 pub returns-in_err-writes-clause-kept : goal.returns-in_err-writes-clause-kept
 returns-in_err-writes-clause-kept c =

@@ -1,5 +1,5 @@
-use Rattle.std.proofs.Common.{◌≡◌, List, Vec, length, refl, sym, ap, ◌∙◌, subst, arith}
-use Rattle.std.specs.Prelude.{All, zip}
+use Rattle.std.proofs.Common.{◌≡◌, List, Some, Vec, length, refl, sym, ap, ◌∙◌, subst, arith}
+use Rattle.std.specs.Prelude.{All, slice_get, zip}
 use Rattle.std.specs.Global.{Global}
 use Rattle.std.specs.List.{flat_map}
 use Rattle.std.proofs.lemmas.Slice.Zip.{AllZip-long}
@@ -11,6 +11,7 @@ use Rattle.rmt_update.specs.Differences.{AllPut, CanChange, changes_in, pairs_of
 use Rattle.rmt_update.proofs.ChangesLaws.{changes-none, changes-ordered}
 use Rattle.rmt_update.proofs.PutChanges.{all-differences, put-none, table-put, take-past, zip-at, zip-short}
 use Rattle.rmt_update.proofs.book.differences.differences.Goals as goal
+use Rattle.rmt_update.proofs.book.differences.differences.Goals.{After-index-moved-table}
 
 pub loop-table-init : goal.loop-table-init
 loop-table-init c = put-none (changes_in c.new-changes.result.items)
@@ -30,40 +31,34 @@ bounds-moved-table c =
     let lt = c.loop-table-test.true in
     omega (arith, long, lt)
 
-pub put_parts-requires-clause-same : goal.put_parts-requires-clause-same
-put_parts-requires-clause-same c =
+-- the next table, and the parts that it is to have
+next : (c : After-index-moved-table) → (slice_get c.args.tables.now c.loop-table.table ≡ Some c.index-tables-table.result) × (slice_get c.args.moved.now c.loop-table.table ≡ Some c.index-moved-table.result)
+next c =
     let ts = c.args.tables.now in
     let ms = c.args.moved.now in
-    let i = c.loop-table.table in
     let long = AllZip-long (λ (t : TableCells) (ps : Vec PartCells Global). length ps.items ≡ length t.parts.items) ts ms c.requires.same in
     let lt = c.loop-table-test.true in
-    let at_t = slice_get-seen ts ts i c.index-tables-table.result refl lt c.index-tables-table.is in
-    let at_m = slice_get-seen ms ms i c.index-moved-table.result refl (omega (arith, lt, long)) c.index-moved-table.is in
+    (slice_get-seen ts ts c.loop-table.table _ refl lt c.index-tables-table.is, slice_get-seen ms ms c.loop-table.table _ refl (omega (arith, lt, long)) c.index-moved-table.is)
+
+pub put_parts-requires-clause-same : goal.put_parts-requires-clause-same
+put_parts-requires-clause-same c =
+    let at = next (goal.at.put_parts-requires-clause-same c).After-index-moved-table in
     ap (λ (xs : List PartCells). length xs) c.as_slice.ensures.value
-    ∙ AllZip-slice_get (λ (t : TableCells) (ps : Vec PartCells Global). length ps.items ≡ length t.parts.items) ts ms i c.index-tables-table.result c.index-moved-table.result c.requires.same at_t at_m
+    ∙ AllZip-slice_get (λ (t : TableCells) (ps : Vec PartCells Global). length ps.items ≡ length t.parts.items) c.args.tables.now c.args.moved.now c.loop-table.table c.index-tables-table.result c.index-moved-table.result c.requires.same at.0 at.1
     ∙ sym (ap (λ (xs : List PartCells). length xs) (c.as_slice-old.ensures.value ∙ ap (λ (x : TableCells). x.parts.items) (sym c.index-tables-table.is)))
 
 pub put_parts-requires-clause-can : goal.put_parts-requires-clause-can
 put_parts-requires-clause-can c =
-    let ts = c.args.tables.now in
-    let ms = c.args.moved.now in
-    let i = c.loop-table.table in
-    let long = AllZip-long (λ (t : TableCells) (ps : Vec PartCells Global). length ps.items ≡ length t.parts.items) ts ms c.requires.same in
-    let lt = c.loop-table-test.true in
-    let at_m = slice_get-seen ms ms i c.index-moved-table.result refl (omega (arith, lt, long)) c.index-moved-table.is in
-    subst (All CanChange) (sym c.as_slice.ensures.value) (All-slice_get (λ (ps : Vec PartCells Global). All CanChange ps.items) ms i c.index-moved-table.result c.requires.can at_m)
+    let at = next (goal.at.put_parts-requires-clause-can c).After-index-moved-table in
+    subst (All CanChange) (sym c.as_slice.ensures.value) (All-slice_get (λ (ps : Vec PartCells Global). All CanChange ps.items) c.args.moved.now c.loop-table.table c.index-moved-table.result c.requires.can at.1)
 
 pub loop-table-preserved : goal.loop-table-preserved
 loop-table-preserved c =
     let ts = c.args.tables.now in
     let ms = c.args.moved.now in
-    let i = c.loop-table.table in
     let t = c.index-tables-table.result in
     let m = c.index-moved-table.result in
-    let long = AllZip-long (λ (x : TableCells) (ps : Vec PartCells Global). length ps.items ≡ length x.parts.items) ts ms c.requires.same in
-    let lt = c.loop-table-test.true in
-    let at_t = slice_get-seen ts ts i t refl lt c.index-tables-table.is in
-    let at_m = slice_get-seen ms ms i m refl (omega (arith, lt, long)) c.index-moved-table.is in
-    table-put (zip ts ms) i (t, m) (changes_in c.new-changes.result.items) (changes_in c.loop-table.changes.items) (changes_in c.put_parts.new.changes.items) (zip-at ts ms i t m at_t at_m) c.loop-table.invariant
+    let at = next (goal.at.loop-table-preserved c).After-index-moved-table in
+    table-put (zip ts ms) c.loop-table.table (t, m) (changes_in c.new-changes.result.items) (changes_in c.loop-table.changes.items) (changes_in c.put_parts.new.changes.items) (zip-at ts ms c.loop-table.table t m at.0 at.1) c.loop-table.invariant
     (subst (λ (xs : List PartCells). AllPut (zip xs m.items) (changes_in c.loop-table.changes.items) (changes_in c.put_parts.new.changes.items)) (c.as_slice-old.ensures.value ∙ ap (λ (x : TableCells). x.parts.items) (sym c.index-tables-table.is))
     (subst (λ (ys : List PartCells). AllPut (zip c.as_slice-old.result.now ys) (changes_in c.loop-table.changes.items) (changes_in c.put_parts.new.changes.items)) c.as_slice.ensures.value c.in_ok-put_parts.ensures))

@@ -1,23 +1,20 @@
-use Rattle.std.proofs.Common.{◌<◌, ◌^◌, All, ap, subst, ◌∙◌}
+use Rattle.std.proofs.Common.{◌<◌, ◌^◌, All, ap, refl, subst, ◌∙◌}
 use Rattle.std.proofs.lemmas.List.{take_all}
-use Rattle.std.proofs.lemmas.List.Elements.{All-more}
 use Rattle.rmt_ast.specs.declared.entry.Entry.{Entry}
 use Rattle.rmt_book.specs.Spots.{order_by}
-use Rattle.rmt_book.proofs.SliceLoops.{map-all, map-next}
+use Rattle.rmt_book.proofs.SliceLoops.{all-more, map-all, map-next}
 use Rattle.rmt_update.proofs.book.in_rows.orders_of.Goals as goal
 
 pub loop-entry-preserved : goal.loop-entry-preserved
 loop-entry-preserved c =
     let es = c.args.entries.now in
     let i = c.loop-entry.entry-index in
-    let e = c.entry-item.result in
-    let at = c.entry-item.is in
     let lt = c.loop-entry-test.true in
-    let h = c.loop-entry.invariant in
     record {
-      orders = map-next (order_by c.args.kind) es i e c.loop-entry.orders.items _ _ lt h.orders c.in_ok-push.ensures.items (c.order_of.ensures.order ∙ ap (order_by c.args.kind) at);
-      ranks = All-more (λ (x : Entry). x.rank < 2 ^ 32) es i e lt h.ranks (subst (λ (x : Entry). x.rank < 2 ^ 32) at c.order_of.ensures.rank);
-      numbers = All-more (λ (x : Entry). x.number < 2 ^ 32) es i e lt h.numbers (subst (λ (x : Entry). x.number < 2 ^ 32) at c.order_of.ensures.number);
+      orders =
+          map-next (order_by c.args.kind) es i c.entry-item.result c.loop-entry.orders.items _ _ lt c.loop-entry.invariant.orders c.in_ok-push.ensures.items (c.order_of.ensures.order ∙ ap (order_by c.args.kind) c.entry-item.is);
+      ranks = all-more (λ (x : Entry). x.rank < 2 ^ 32) es es i c.entry-item.result refl lt c.entry-item.is c.loop-entry.invariant.ranks c.order_of.ensures.rank;
+      numbers = all-more (λ (x : Entry). x.number < 2 ^ 32) es es i c.entry-item.result refl lt c.entry-item.is c.loop-entry.invariant.numbers c.order_of.ensures.number;
     }
 
 pub returns-clause-orders : goal.returns-clause-orders

@@ -8,10 +8,7 @@ pub overflow_cast-result : goal.overflow_cast-result
 overflow_cast-result c =
     let full = subst (Explains c.args.layout.now c.args.seed c.args.keys.now) c.in-Err-Overfull.field-0-is c.in-Err-Overfull.ensures.fault in
     let few = members_few c.args.layout.now c.args.seed c.args.keys.now c.in-Err-Overfull.members c.in-Err-Overfull.cells full in
-    let keys = c.requires.few_keys in
-    let same = c.len.ensures in
-    let members = ap length c.in-Err-Overfull.members-is in
-    omega (arith, few, keys, same, members)
+    omega (arith, few, c.requires.few_keys, c.len.ensures, ap length c.in-Err-Overfull.members-is)
 
 pub returns-in_ok-spots-in-Ok : goal.returns-in_ok-spots-in-Ok
 returns-in_ok-spots-in-Ok c = (c.in-Ok.cells, c.in-Ok.ensures.loaded, c.in_ok-spots-in-Ok.ensures ∙ ap (spots_at c.args.parts.now) c.as_slice.ensures)

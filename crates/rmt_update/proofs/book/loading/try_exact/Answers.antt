@@ -1,4 +1,5 @@
-use Rattle.std.proofs.Common.{◌≡◌, ◌≤◌, ◌<◌, ◌^◌, All, ap, sym, ◌∙◌, subst}
+use Rattle.std.proofs.Common.{◌≡◌, ◌≤◌, ◌<◌, ◌^◌, All, arith, rules, ap, sym, ◌∙◌, subst}
+use Rattle.std.proofs.lemmas.Grind.{common_steps}
 use Rattle.rmt_ast.specs.NameRules.{terms_of_name}
 use Rattle.rmt_cuckoo.specs.declared.layout.Ways.{Ways}
 use Rattle.rmt_cuckoo.specs.Loading.{cells_in}
@@ -15,8 +16,13 @@ pub is_small-small-requires : goal.is_small-small-requires
 is_small-small-requires c =
     subst (All (λ (w : Ways). cells_in w < 2 ^ 32)) (sym (c.as_slice.ensures ∙ layout_is (goal.at.is_small-small-requires c).In_ok-layout)) (layout-cells c.args.fill.now.table.now.parts.items)
 
-pub load_keys-requires-clause-rows : goal.load_keys-requires-clause-rows
-load_keys-requires-clause-rows c = subst (All (λ (w : Ways). 1 ≤ w.rows)) (sym (layout_is (goal.at.load_keys-requires-clause-rows c).In_ok-layout)) (layout-rows c.args.fill.now.table.now.parts.items)
+pub load_keys-requires : goal.load_keys-requires
+load_keys-requires c = record {
+  parts = search rules;
+  rows = subst (All (λ (w : Ways). 1 ≤ w.rows)) (sym (layout_is (goal.at.load_keys-requires c).In_ok-layout)) (layout-rows c.args.fill.now.table.now.parts.items);
+  few_cells = search rules;
+  few_keys = grind (arith, common_steps);
+}
 
 pub returns : goal.returns
 returns c =

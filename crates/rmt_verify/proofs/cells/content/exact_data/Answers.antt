@@ -1,18 +1,17 @@
-use Rattle.std.proofs.Common.{◌≡◌, ◌*◌, ◌<◌, arith}
+use Rattle.std.proofs.Common.{◌≡◌, ◌*◌, arith}
 use Rattle.std.proofs.lemmas.Result.{IfOk-weaker}
 use Rattle.rmt_bits.specs.Bits.{number_of, slice}
 use Rattle.rmt_config.specs.Cells.{cell_of, data_at, sram_row}
-use Rattle.rmt_config.specs.Layouts.{entry_in, exact_records, local_of, quantum_of}
+use Rattle.rmt_config.specs.Layouts.{entry_in, local_of, quantum_of}
 use Rattle.rmt_config.specs.declared.form.layout.CellLayout.{CellLayout}
-use Rattle.rmt_verify.proofs.ContentLaws.{data_is}
+use Rattle.rmt_verify.proofs.ContentLaws.{data_cell, data_is}
 use Rattle.rmt_verify.proofs.cells.content.exact_data.Goals as goal
-use Rattle.rmt_config.proofs.LayoutLaws.{at_layout}
 
 pub data_bytes-requires-clause-cell : goal.data_bytes-requires-clause-cell
 data_bytes-requires-clause-cell c =
     let memory = c.args.memory.now in
-    let low = c.requires.cell in
-    at_layout (λ (l : CellLayout). c.args.cell < l.ways * l.quanta * l.way) c.exact_records-layout.result (exact_records memory.per memory.quanta c.args.held) c.exact_records-layout.ensures (omega (arith, low))
+    data_cell memory.per memory.quanta c.args.held memory.records.now c.args.rows.now c.exact_records-layout.result c.args.cell c.requires.per (omega arith) c.requires.quanta c.requires.few (omega arith) (omega arith)
+    c.requires.records c.requires.rows c.exact_records-layout.ensures c.requires.cell
 
 pub returns-clause-number : goal.returns-clause-number
 returns-clause-number c =

@@ -1,39 +1,37 @@
-use Rattle.std.proofs.Common.{◌≡◌, ◌==◌, ℕ, ◌-◌, ◌*◌, ◌/◌, ◌%◌, ◌<◌, ◌^◌, false, Contains, List, sum, sym, ap, ◌∙◌, arith}
+use Rattle.std.proofs.Common.{◌≡◌, ◌==◌, ℕ, ◌-◌, ◌*◌, ◌/◌, ◌%◌, ◌^◌, false, Contains, List, sum, sym, ap, ◌∙◌}
 use Rattle.rmt_bits.specs.Bits.{bytes_of, number_of}
 use Rattle.rmt_ast.specs.declared.program.Test.{Test}
 use Rattle.rmt_config.specs.Cells.{candidates, cell_of, data_at, entry_at, exact_content, sram_row}
 use Rattle.rmt_config.specs.LaneForm.{bits_of_lanes}
-use Rattle.rmt_config.specs.Layouts.{exact_keys}
 use Rattle.rmt_config.specs.Rooms.{tests_as_one}
 use Rattle.rmt_config.specs.BlockCounts.{divided_up}
 use Rattle.rmt_config.specs.declared.config.Memory.TheVariants.{Exact}
-use Rattle.rmt_config.specs.declared.form.layout.CellLayout.{CellLayout}
 use Rattle.rmt_config.specs.Rooms.{mask_or_value}
-use Rattle.rmt_verify.proofs.ContentLaws.{args_along, code_told, exact_all, exact_head, exact_key, exact_key-lt, key_few, key_room, key_small, stands_told, told_along, way_low}
+use Rattle.rmt_verify.proofs.ContentLaws.{args_along, code_told, exact_all, exact_head, exact_key, exact_key-lt, key_cell, key_few, key_room, key_small, stands_told, told_along, way_low}
 use Rattle.rmt_verify.proofs.cells.content.exact_holds.Goals as goal
-use Rattle.rmt_config.proofs.LayoutLaws.{at_layout, bytes_hold}
+use Rattle.rmt_config.proofs.LayoutLaws.{bytes_hold}
 
 pub head_of-requires-clause-cell : goal.head_of-requires-clause-cell
 head_of-requires-clause-cell c =
-    let memory = c.args.memory.now in
-    let low = c.requires.cell in
-    at_layout (λ (l : CellLayout). c.args.cell < l.ways * l.quanta * l.way) c.exact_keys-layout.result (exact_keys memory.width memory.per memory.quanta c.key_bits-bits.result) c.exact_keys-layout.ensures (omega (arith, low))
+    let m = c.args.memory.now in
+    key_cell c.args.slot.now m.width m.per m.quanta m.keys.now m.records.now c.args.rows.now c.exact_keys-layout.result c.key_bits-bits.result c.args.wanted.now.cell c.requires.fits c.requires.rows c.exact_keys-layout.ensures
+    (c.key_bits-bits.ensures ∙ ap bits_of_lanes c.as_slice.ensures) c.requires.cell
 
 pub entry_bytes-requires-clause-cell : goal.entry_bytes-requires-clause-cell
 entry_bytes-requires-clause-cell c =
-    let memory = c.args.memory.now in
-    let low = c.requires.cell in
-    at_layout (λ (l : CellLayout). c.args.cell < l.ways * l.quanta * l.way) c.exact_keys-layout.result (exact_keys memory.width memory.per memory.quanta c.key_bits-bits.result) c.exact_keys-layout.ensures (omega (arith, low))
+    let m = c.args.memory.now in
+    key_cell c.args.slot.now m.width m.per m.quanta m.keys.now m.records.now c.args.rows.now c.exact_keys-layout.result c.key_bits-bits.result c.args.wanted.now.cell c.requires.fits c.requires.rows c.exact_keys-layout.ensures
+    (c.key_bits-bits.ensures ∙ ap bits_of_lanes c.as_slice.ensures) c.requires.cell
 
 -- what stands above the head is what is read as the key
 abbrev above : goal.After-as_slice-3 → ℕ
-above c = entry_at (sram_row c.args.rows.now) c.args.memory.now.keys.now c.args.memory.now.width (bits_of_lanes c.args.slot.now.keys) (cell_of (1024 * c.args.memory.now.quanta) c.args.memory.now.per c.args.cell) / 256
+above c = entry_at (sram_row c.args.rows.now) c.args.memory.now.keys.now c.args.memory.now.width (bits_of_lanes c.args.slot.now.keys) (cell_of (1024 * c.args.memory.now.quanta) c.args.memory.now.per c.args.wanted.now.cell) / 256
 
 key_read : (c : goal.After-as_slice-3) → c.deref.result.now ≡ bytes_of (divided_up (bits_of_lanes c.args.slot.now.keys) 8) (above c)
 key_read c =
     let memory = c.args.memory.now in
     c.deref.ensures.value
-    ∙ exact_key (sram_row c.args.rows.now) memory.keys.now memory.width memory.per memory.quanta (bits_of_lanes c.args.slot.now.keys) c.args.cell c.requires.fits.some_p c.requires.fits.some_d c.exact_keys-layout.result
+    ∙ exact_key (sram_row c.args.rows.now) memory.keys.now memory.width memory.per memory.quanta (bits_of_lanes c.args.slot.now.keys) c.args.wanted.now.cell c.requires.fits.some_p c.requires.fits.some_d c.exact_keys-layout.result
     c.key_bits-bits.result c.in_ok-key.key.items c.exact_keys-layout.ensures (c.key_bits-bits.ensures ∙ ap bits_of_lanes c.as_slice.ensures) c.in_ok-key.ensures
 
 as_wide : (c : goal.After-as_slice-3) → bits_of_lanes c.args.slot.now.keys ≡ sum c.as_slice-2.result.now
@@ -50,14 +48,14 @@ are_tests-has_key-requires-clause-small c =
     let memory = c.args.memory.now in
     let bits = bits_of_lanes c.args.slot.now.keys in
     key_small bits (above c) (sum c.as_slice-2.result.now) c.deref.result.now (as_wide c) (key_read c)
-    (exact_key-lt (sram_row c.args.rows.now) memory.keys.now memory.width memory.per memory.quanta bits c.args.cell c.requires.fits.some_p c.requires.fits.some_d)
+    (exact_key-lt (sram_row c.args.rows.now) memory.keys.now memory.width memory.per memory.quanta bits c.args.wanted.now.cell c.requires.fits.some_p c.requires.fits.some_d)
 
 pub returns : goal.returns
 returns c = λ cs.
     let memory = c.args.memory.now in
     let slot = c.args.slot.now in
     let e = c.args.wanted.now.entry.now in
-    let cell : ℕ = c.args.cell in
+    let cell : ℕ = c.args.wanted.now.cell in
     let bits : ℕ = bits_of_lanes slot.keys in
     let sram = sram_row c.args.rows.now in
     let ks = memory.keys.now in

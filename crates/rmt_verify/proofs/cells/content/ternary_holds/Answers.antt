@@ -1,40 +1,44 @@
-use Rattle.std.proofs.Common.{◌≡◌, ◌==◌, ℕ, ◌+◌, ◌*◌, ◌/◌, ◌%◌, List, length, sum, sym, ap, ◌∙◌, arith}
+use Rattle.std.proofs.Common.{◌≡◌, ◌==◌, ℕ, ◌*◌, ◌/◌, ◌%◌, List, length, sum, sym, ap, ◌∙◌}
 use Rattle.rmt_bits.specs.Bits.{number_of, slice}
 use Rattle.rmt_config.specs.Cells.{blocks_at, row_record, sram_row, ternary_content}
 use Rattle.rmt_config.specs.LaneForm.{bits_of_lanes}
-use Rattle.rmt_config.specs.Layouts.{IsInSram, entry_in, local_of, quantum_of, ternary_records}
+use Rattle.rmt_config.specs.Layouts.{entry_in, local_of, quantum_of}
 use Rattle.rmt_config.specs.Rooms.{tests_as_one}
 use Rattle.rmt_config.specs.BlockCounts.{divided_up}
 use Rattle.rmt_config.specs.declared.config.SramRow.{SramRow}
 use Rattle.rmt_config.specs.declared.form.layout.CellLayout.{CellLayout}
 use Rattle.rmt_pack.specs.declared.tcam.TcamWord.{TcamWord}
-use Rattle.rmt_verify.proofs.ContentLaws.{args_along, blocks_there, code_told, row_data, row_head, ternary_all, words_along, words_told}
+use Rattle.rmt_verify.proofs.ContentLaws.{args_along, blocks_there, code_told, row_cell, row_data, row_head, ternary_all, words_along, words_told}
 use Rattle.rmt_verify.proofs.cells.content.ternary_holds.Goals as goal
-use Rattle.rmt_config.proofs.LayoutLaws.{at_layout, rows_in}
 
-pub data_bytes-requires-clause-layout : goal.data_bytes-requires-clause-layout
-data_bytes-requires-clause-layout c =
-    let held = c.args.slot.now.held in
-    let most = c.requires.fits.most_held in
-    at_layout (λ (l : CellLayout). IsInSram l) c.ternary_records-layout.result (ternary_records c.args.quanta (held + 8)) c.ternary_records-layout.ensures
-    (rows_in c.args.quanta (held + 8) c.requires.fits.some_d c.requires.fits.most_d (omega arith) (omega (arith, most)))
+pub head_of-requires-clause-cell : goal.head_of-requires-clause-cell
+head_of-requires-clause-cell c =
+    let m = c.args.memory.now in
+    row_cell c.args.stage.now c.args.slot.now m.quanta m.keys.now m.records.now c.as_slice-2.result.now c.ternary_records-layout.result c.args.wanted.now.cell c.requires.fits c.requires.rows c.as_slice-2.ensures
+    c.ternary_records-layout.ensures c.requires.cell
+
+pub data_bytes-requires-clause-cell : goal.data_bytes-requires-clause-cell
+data_bytes-requires-clause-cell c =
+    let m = c.args.memory.now in
+    row_cell c.args.stage.now c.args.slot.now m.quanta m.keys.now m.records.now c.as_slice-2.result.now c.ternary_records-layout.result c.args.wanted.now.cell c.requires.fits c.requires.rows c.as_slice-2.ensures
+    c.ternary_records-layout.ensures c.requires.cell
 
 pub piece_at-blocks-requires : goal.piece_at-blocks-requires
 piece_at-blocks-requires c =
     let size = c.divided_up.ensures ∙ ap (λ b. divided_up b 40) (c.key_bits-bits.ensures ∙ ap bits_of_lanes c.as_slice.ensures) in
-    blocks_there c.args.cell c.args.quanta c.divided_up.result (length c.args.keys.now) c.requires.cell (c.requires.fits.keys ∙ ap (λ n. c.args.quanta * n) (sym size))
+    blocks_there c.args.wanted.now.cell c.args.memory.now.quanta c.divided_up.result (length c.args.memory.now.keys.now) c.requires.cell (c.requires.fits.keys ∙ ap (λ n. c.args.memory.now.quanta * n) (sym size))
 
 pub returns : goal.returns
 returns c =
     let stage = c.args.stage.now in
     let slot = c.args.slot.now in
     let e = c.args.wanted.now.entry.now in
-    let cell : ℕ = c.args.cell in
-    let d : ℕ = c.args.quanta in
+    let cell : ℕ = c.args.wanted.now.cell in
+    let d : ℕ = c.args.memory.now.quanta in
     let bits : ℕ = bits_of_lanes slot.keys in
     let sram = sram_row stage.srows in
-    let ks : List ℕ = c.args.keys.now in
-    let rs : List ℕ = c.args.records.now in
+    let ks : List ℕ = c.args.memory.now.keys.now in
+    let rs : List ℕ = c.args.memory.now.records.now in
     let ws : List ℕ = c.args.wanted.now.widths.now in
     let ps : List ℕ = c.args.wanted.now.params.now in
     let l : CellLayout = c.ternary_records-layout.result in
@@ -44,17 +48,17 @@ returns c =
     let size : c.divided_up.result ≡ divided_up bits 40 = c.divided_up.ensures ∙ ap (λ b. divided_up b 40) (c.key_bits-bits.ensures ∙ ap bits_of_lanes c.as_slice.ensures) in
     let head_is : c.in_ok-head.head ≡ stands % 256 =
     row_head sram rs d slot.held cell c.in_ok-head.head l c.requires.cell c.ternary_records-layout.ensures
-    (c.in_ok-head.ensures ∙ ap (λ (z : List SramRow). entry_in l (sram_row z) rs (quantum_of l cell) (local_of l cell) % 256) c.as_slice-rows.ensures) in
+    (c.in_ok-head.ensures ∙ ap (λ (z : List SramRow). entry_in l (sram_row z) rs (quantum_of l cell) (local_of l cell) % 256) c.as_slice-2.ensures) in
     let read : number_of c.deref.result.now ≡ stands / 256 =
     ap number_of c.deref.ensures.value
     ∙ row_data sram rs d slot.held cell (number_of c.in_ok-data.data.items) l c.requires.cell c.ternary_records-layout.ensures
-    (c.in_ok-data.ensures.number ∙ ap (λ (z : List SramRow). slice (entry_in l (sram_row z) rs (quantum_of l cell) (local_of l cell)) 8 slot.held) c.as_slice-rows.ensures) in
+    (c.in_ok-data.ensures.number ∙ ap (λ (z : List SramRow). slice (entry_in l (sram_row z) rs (quantum_of l cell) (local_of l cell)) 8 slot.held) c.as_slice-2.ensures) in
     let unit_is : c.piece_at-blocks.result.now ≡ blocks = c.piece_at-blocks.ensures.value ∙ ap (λ n. blocks_at ks n (cell / 2048)) size in
     let long : length blocks ≡ divided_up (sum ws) 40 = ap (λ (z : List ℕ). length z) (sym unit_is) ∙ c.piece_at-blocks.ensures.size ∙ size ∙ ap (λ b. divided_up b 40) c.requires.bits in
-    let same = words_along c.are_words-has_key.result (cell % 2048) c.as_slice-2.result.now stage.trows c.piece_at-blocks.result.now blocks c.as_slice-3.result.now words c.are_words-has_key.ensures c.as_slice-2.ensures unit_is c.as_slice-3.ensures in
+    let same = words_along c.are_words-has_key.result (cell % 2048) c.as_slice-3.result.now stage.trows c.piece_at-blocks.result.now blocks c.as_slice-4.result.now words c.are_words-has_key.ensures c.as_slice-3.ensures unit_is c.as_slice-4.ensures in
     let told = words_told stage.trows (cell % 2048) blocks words (sum ws) (tests_as_one (λ t. t.value) ws e.tests) (tests_as_one (λ t. t.mask) ws e.tests) c.requires.values.within c.requires.rows.tbits long
     c.in_ok-words.ensures.values c.in_ok-words.ensures.masks c.in_ok-words.ensures.value_row c.in_ok-words.ensures.mask_row in
     ternary_all ws ps c.args.wanted.now.code e (ternary_content stage slot ks rs cell) (c.in_ok-head.head / 8 == c.args.wanted.now.code) c.are_words-has_key.result c.are_arguments-has_data.result
     (code_told c.in_ok-head.head stands c.args.wanted.now.code head_is)
     (λ yes. told.0 (same.0 yes), λ both. same.1 (told.1 both))
-    (args_along c.are_arguments-has_data.result c.as_slice-4.result.now ps c.as_slice-5.result.now e.args (number_of c.deref.result.now) (stands / 256) c.are_arguments-has_data.ensures c.as_slice-4.ensures c.as_slice-5.ensures read)
+    (args_along c.are_arguments-has_data.result c.as_slice-5.result.now ps c.as_slice-6.result.now e.args (number_of c.deref.result.now) (stands / 256) c.are_arguments-has_data.ensures c.as_slice-5.ensures c.as_slice-6.ensures read)

@@ -1,10 +1,9 @@
-use Rattle.std.proofs.Common.{◌≡◌, ◌+◌, ◌*◌, ◌==◌, ◌&&◌, true, false, drop, length, get_or, refl, sym, ap, ◌∙◌, arith}
-use Rattle.std.specs.Prelude.{sum}
-use Rattle.std.proofs.lemmas.Bool.{both_ways, eq-eqb, eqb-true, ne_eqb}
-use Rattle.rmt_bits.specs.Bits.{number_of, slice}
+use Rattle.std.proofs.Common.{◌≡◌, ◌*◌, ◌==◌, true, length, get_or, refl, sym, ◌∙◌, arith}
+use Rattle.std.proofs.lemmas.Bool.{eqb-true}
+use Rattle.rmt_bits.specs.Bits.{number_of}
 use Rattle.rmt_ast.specs.declared.program.Test.{Test}
 use Rattle.rmt_config.specs.Rooms.{mask_or_value}
-use Rattle.rmt_verify.proofs.FieldLaws.{left_of, one, place_next, test_read, tests_end, tests_first, tests_step, width_there}
+use Rattle.rmt_verify.proofs.FieldLaws.{one, place_next, tests_agree, tests_differ, tests_end, tests_first, width_there}
 use Rattle.rmt_verify.proofs.cells.fields.are_tests.Goals as goal
 
 abbrev none : Test
@@ -29,21 +28,12 @@ bits_of_bytes-requires-clause-within c =
 
 pub returns-then-bits_of_bytes-part_of : goal.returns-then-bits_of_bytes-part_of
 returns-then-bits_of_bytes-part_of c =
-    let m = c.args.mask in
-    let ws = c.args.widths.now in
-    let ts = c.args.tests.now in
-    let n = number_of c.args.bytes.now in
-    let i = c.loop-at.at in
-    let zip = c.requires.tests in
-    let read = test_read m ws ts n zip c.loop-at.from (8 * length c.args.bytes.now) i c.bits_of_bytes.result c.loop-at-test.true c.loop-at.invariant.place c.bits_of_bytes.ensures in
-    let differ : (slice n (sum (drop (i + 1) ws)) (get_or ws i 0) == mask_or_value m (get_or ts i none)) ≡ false =
-    ne_eqb _ _ (λ e. c.if-bits_of_bytes-part_of.true (read ∙ e ∙ sym (test_part c))) in
-    let no : (n == one m ws ts) ≡ false =
-    sym c.loop-at.invariant.same ∙ tests_step m ws ts n zip i none c.loop-at-test.true ∙ ap (λ b. b && left_of m ws ts n (i + 1)) differ in
-    (λ nothing. absurd cc, λ same. absurd (both_ways (n == one m ws ts) no (eq-eqb n (one m ws ts) same)))
-  where
-    test_part : (c : goal.Then-bits_of_bytes-part_of) → c.part_of.result ≡ mask_or_value c.args.mask (get_or c.args.tests.now c.loop-at.at none)
-    test_part c = c.part_of.ensures
+    let part : c.part_of.result ≡ mask_or_value c.args.mask (get_or c.args.tests.now c.loop-at.at none) = c.part_of.ensures in (
+      λ nothing. absurd cc,
+      λ same. absurd (
+          tests_differ c.args.mask c.args.widths.now c.args.tests.now (number_of c.args.bytes.now) c.requires.tests c.loop-at.from (8 * length c.args.bytes.now) c.loop-at.at c.bits_of_bytes.result none
+          c.loop-at-test.true c.loop-at.invariant.place c.bits_of_bytes.ensures c.loop-at.invariant.same (λ e. c.if-bits_of_bytes-part_of.true (e ∙ sym part)) same),
+    )
 
 pub bounds-widths-at-in-loop-at : goal.bounds-widths-at-in-loop-at
 bounds-widths-at-in-loop-at c = width_there c.args.widths.now c.args.tests.now c.loop-at.at c.requires.tests c.loop-at-test.true
@@ -55,19 +45,11 @@ overflow_add-from c =
     record { fits = omega (arith, next, few) }
 
 pub loop-at-preserved : goal.loop-at-preserved
-loop-at-preserved c =
-    let m = c.args.mask in
-    let ws = c.args.widths.now in
-    let ts = c.args.tests.now in
-    let n = number_of c.args.bytes.now in
-    let i = c.loop-at.at in
-    let zip = c.requires.tests in
-    let read = test_read m ws ts n zip c.loop-at.from (8 * length c.args.bytes.now) i c.bits_of_bytes.result c.loop-at-test.true c.loop-at.invariant.place c.bits_of_bytes.ensures in
-    let same : (slice n (sum (drop (i + 1) ws)) (get_or ws i 0) == mask_or_value m (get_or ts i none)) ≡ true = eq-eqb _ _ (sym read ∙ c.if-bits_of_bytes-part_of.false ∙ c.part_of.ensures) in
-    record {
-      place = (place_next m ws ts n zip c.loop-at.from (8 * length c.args.bytes.now) i c.loop-at-test.true c.loop-at.invariant.place).0;
-      same = sym (tests_step m ws ts n zip i none c.loop-at-test.true ∙ ap (λ b. b && left_of m ws ts n (i + 1)) same) ∙ c.loop-at.invariant.same;
-    }
+loop-at-preserved c = record {
+  place = (place_next c.args.mask c.args.widths.now c.args.tests.now (number_of c.args.bytes.now) c.requires.tests c.loop-at.from (8 * length c.args.bytes.now) c.loop-at.at c.loop-at-test.true c.loop-at.invariant.place).0;
+  same = tests_agree c.args.mask c.args.widths.now c.args.tests.now (number_of c.args.bytes.now) c.requires.tests c.loop-at.from (8 * length c.args.bytes.now) c.loop-at.at c.bits_of_bytes.result none
+      c.loop-at-test.true c.loop-at.invariant.place c.bits_of_bytes.ensures c.loop-at.invariant.same (c.if-bits_of_bytes-part_of.false ∙ c.part_of.ensures);
+}
 
 pub returns : goal.returns
 returns c =

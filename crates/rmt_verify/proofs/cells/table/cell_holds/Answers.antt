@@ -3,7 +3,7 @@ use Rattle.std.proofs.lemmas.Result.{IfOk-weaker}
 use Rattle.rmt_verify.proofs.cells.table.cell_holds.Goals as goal
 
 pub overflow_cast-cell : goal.overflow_cast-cell
-overflow_cast-cell c = let low = c.requires.part.low in record { fits = omega (arith, low) }
+overflow_cast-cell c = let low = c.requires.known.its_part.low in record { fits = omega (arith, low) }
 
 pub returns-then-not-is_told : goal.returns-then-not-is_told
 returns-then-not-is_told c = λ cells told. (

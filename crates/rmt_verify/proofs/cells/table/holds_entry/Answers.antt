@@ -1,4 +1,4 @@
-use Rattle.std.proofs.Common.{◌≡◌, ◌+◌, sym, ap, subst, refl, ◌∙◌, get_or, arith}
+use Rattle.std.proofs.Common.{sym, ap, subst, ◌∙◌, arith}
 use Rattle.std.proofs.lemmas.Result.{IfOk-weaker}
 use Rattle.rmt_config.specs.declared.config.Memory.TheVariants.{Exact, Ternary}
 use Rattle.rmt_config.specs.MemoryRules.{ExactFits, FormedRows, SramRows, TernaryFits}
@@ -7,22 +7,22 @@ use Rattle.rmt_config.proofs.PrefixRowLaws.{prefix-rows}
 use Rattle.rmt_refine.specs.Types.{Memory, Stage}
 use Rattle.rmt_refine.specs.Units.{HasKind}
 use Rattle.rmt_config.specs.PartsTold.{part_at}
-use Rattle.rmt_verify.proofs.TableLaws.{action_low, cell_below, cell_told, exact_fit, exact_kind, exact_there, first_low, params_read, rows_stand, stage_is, ternary_fit, ternary_there, wanted, whole}
+use Rattle.rmt_verify.proofs.TableLaws.{action_low, cell_below, exact_fit, exact_kind, exact_there, first_low, params_read, rows_stand, stage_is, ternary_fit, ternary_there, wanted, whole}
 use Rattle.rmt_verify.proofs.cells.table.holds_entry.Goals as goal
 
 pub overflow_add-code : goal.overflow_add-code
 overflow_add-code c =
     let at = c.args.at.now in
-    let first = first_low at.config.now (part_at c.args.part.now) c.requires.part.stands c.args.own.now c.requires.own in
-    let action = action_low at.program.now at.config.now at.node at.table.now at.widths.now at.entries.now c.requires.known c.args.entry.now c.requires.entry in
+    let first = first_low at.config.now (part_at c.args.part.now) c.requires.known.its_part.stands c.args.own.now c.requires.known.listed in
+    let action = action_low at.program.now at.config.now at.node at.table.now at.widths.now at.entries.now c.requires.known.its_table c.args.entry.now c.requires.entry in
     record { fits = omega (arith, first, action) }
 
 pub exact_holds-requires-clause-rows : goal.exact_holds-requires-clause-rows
 exact_holds-requires-clause-rows c =
     let config = c.args.at.now.config.now in
     let part = part_at c.args.part.now in
-    let own = stage_is config part c.requires.part.stands c.stage_of-stage.result.now c.stage_of-stage.ensures in
-    subst SramRows (sym (c.as_slice-in-Exact.ensures ∙ ap (λ (s : Stage). s.srows) own)) (rows_stand config part c.requires.part.stands)
+    let own = stage_is config part c.requires.known.its_part.stands c.stage_of-stage.result.now c.stage_of-stage.ensures in
+    subst SramRows (sym (c.as_slice-in-Exact.ensures ∙ ap (λ (s : Stage). s.srows) own)) (rows_stand config part c.requires.known.its_part.stands)
 
 pub exact_holds-requires-clause-fits : goal.exact_holds-requires-clause-fits
 exact_holds-requires-clause-fits c =
@@ -30,39 +30,39 @@ exact_holds-requires-clause-fits c =
     let slot = c.args.part.now.slot.now in
     subst (λ ks. ExactFits slot a.width a.per a.quanta ks c.as_slice-in-Exact-3.result.now) (sym c.as_slice-in-Exact-2.ensures)
     (subst (λ rs. ExactFits slot a.width a.per a.quanta a.keys rs) (sym c.as_slice-in-Exact-3.ensures)
-    (exact_fit c.args.at.now.config.now (part_at c.args.part.now) c.requires.part.stands a.width a.per a.quanta a.first_way a.keys a.records a.counters a.is))
+    (exact_fit c.args.at.now.config.now (part_at c.args.part.now) c.requires.known.its_part.stands a.width a.per a.quanta a.first_way a.keys a.records a.counters a.is))
 
 pub exact_holds-requires-clause-cell : goal.exact_holds-requires-clause-cell
 exact_holds-requires-clause-cell c =
     let a = c.in-Exact in
-    cell_below c.args.at.now.config.now (part_at c.args.part.now) c.requires.part.stands c.args.own.now (Exact a.width a.per a.quanta a.first_way a.keys a.records a.counters) c.requires.own a.is
+    cell_below c.args.at.now.config.now (part_at c.args.part.now) c.requires.known.its_part.stands c.args.own.now (Exact a.width a.per a.quanta a.first_way a.keys a.records a.counters) c.requires.known.listed a.is
 
 pub exact_holds-requires-clause-wanted : goal.exact_holds-requires-clause-wanted
 exact_holds-requires-clause-wanted c =
     let at = c.args.at.now in
-    wanted at.program.now at.config.now at.node at.table.now at.widths.now at.entries.now c.requires.known c.args.entry.now c.requires.entry _
-    (params_read at.program.now at.config.now at.node at.table.now at.widths.now at.entries.now c.requires.known c.args.entry.now c.requires.entry c.as_slice.result.now c.as_slice-2.result.now c.index-as_slice-action.result c.as_slice.ensures c.as_slice-2.ensures)
+    wanted at.program.now at.config.now at.node at.table.now at.widths.now at.entries.now c.requires.known.its_table c.args.entry.now c.requires.entry _
+    (params_read at.program.now at.config.now at.node at.table.now at.widths.now at.entries.now c.requires.known.its_table c.args.entry.now c.requires.entry c.as_slice.result.now c.as_slice-2.result.now c.index-as_slice-action.result c.as_slice.ensures c.as_slice-2.ensures)
 
 pub exact_holds-requires-clause-whole : goal.exact_holds-requires-clause-whole
 exact_holds-requires-clause-whole c =
     let at = c.args.at.now in
     let a = c.in-Exact in
-    let its = c.requires.part in
-    whole at.program.now at.config.now at.node at.table.now at.widths.now at.entries.now c.requires.known c.args.entry.now c.requires.entry
+    let its = c.requires.known.its_part in
+    whole at.program.now at.config.now at.node at.table.now at.widths.now at.entries.now c.requires.known.its_table c.args.entry.now c.requires.entry
     (exact_kind at.table.now.kind its.quanta a.width a.per a.quanta a.first_way a.keys a.records a.counters (subst (λ (m : Memory). HasKind at.table.now.kind its.quanta m) a.is its.kind))
 
 pub ternary_holds-requires-clause-rows : goal.ternary_holds-requires-clause-rows
 ternary_holds-requires-clause-rows c =
     let part = part_at c.args.part.now in
-    let own = stage_is c.args.at.now.config.now part c.requires.part.stands c.stage_of-stage.result.now c.stage_of-stage.ensures in
-    subst FormedRows (sym own) c.requires.part.stands.rows
+    let own = stage_is c.args.at.now.config.now part c.requires.known.its_part.stands c.stage_of-stage.result.now c.stage_of-stage.ensures in
+    subst FormedRows (sym own) c.requires.known.its_part.stands.rows
 
 pub ternary_holds-requires-clause-values : goal.ternary_holds-requires-clause-values
 ternary_holds-requires-clause-values c =
     let config = c.args.at.now.config.now in
     let part = part_at c.args.part.now in
-    let own = stage_is config part c.requires.part.stands c.stage_of-stage.result.now c.stage_of-stage.ensures in
-    subst (λ (s : Stage). PrefixRows s.trows) (sym own) (prefix-rows config part c.requires.part.stands c.requires.known.memory)
+    let own = stage_is config part c.requires.known.its_part.stands c.stage_of-stage.result.now c.stage_of-stage.ensures in
+    subst (λ (s : Stage). PrefixRows s.trows) (sym own) (prefix-rows config part c.requires.known.its_part.stands c.requires.known.its_table.memory)
 
 pub ternary_holds-requires-clause-fits : goal.ternary_holds-requires-clause-fits
 ternary_holds-requires-clause-fits c =
@@ -70,56 +70,34 @@ ternary_holds-requires-clause-fits c =
     let slot = c.args.part.now.slot.now in
     subst (λ ks. TernaryFits slot a.quanta ks c.as_slice-in-Ternary-2.result.now) (sym c.as_slice-in-Ternary.ensures)
     (subst (λ rs. TernaryFits slot a.quanta a.keys rs) (sym c.as_slice-in-Ternary-2.ensures)
-    (ternary_fit c.args.at.now.config.now (part_at c.args.part.now) c.requires.part.stands a.quanta a.keys a.records a.counters a.is))
+    (ternary_fit c.args.at.now.config.now (part_at c.args.part.now) c.requires.known.its_part.stands a.quanta a.keys a.records a.counters a.is))
 
 pub ternary_holds-requires-clause-cell : goal.ternary_holds-requires-clause-cell
 ternary_holds-requires-clause-cell c =
     let a = c.in-Ternary in
-    cell_below c.args.at.now.config.now (part_at c.args.part.now) c.requires.part.stands c.args.own.now (Ternary a.quanta a.keys a.records a.counters) c.requires.own a.is
+    cell_below c.args.at.now.config.now (part_at c.args.part.now) c.requires.known.its_part.stands c.args.own.now (Ternary a.quanta a.keys a.records a.counters) c.requires.known.listed a.is
 
 pub ternary_holds-requires-clause-wanted : goal.ternary_holds-requires-clause-wanted
 ternary_holds-requires-clause-wanted c =
     let at = c.args.at.now in
-    wanted at.program.now at.config.now at.node at.table.now at.widths.now at.entries.now c.requires.known c.args.entry.now c.requires.entry _
-    (params_read at.program.now at.config.now at.node at.table.now at.widths.now at.entries.now c.requires.known c.args.entry.now c.requires.entry c.as_slice.result.now c.as_slice-2.result.now c.index-as_slice-action.result c.as_slice.ensures c.as_slice-2.ensures)
+    wanted at.program.now at.config.now at.node at.table.now at.widths.now at.entries.now c.requires.known.its_table c.args.entry.now c.requires.entry _
+    (params_read at.program.now at.config.now at.node at.table.now at.widths.now at.entries.now c.requires.known.its_table c.args.entry.now c.requires.entry c.as_slice.result.now c.as_slice-2.result.now c.index-as_slice-action.result c.as_slice.ensures c.as_slice-2.ensures)
 
 pub returns-in-Exact : goal.returns-in-Exact
 returns-in-Exact c =
     let at = c.args.at.now in
     let a = c.in-Exact in
-    let e = c.args.entry.now in
-    let x = c.args.own.now in
-    let part = part_at c.args.part.now in
-    let st = c.requires.part.stands in
-    let actions = c.as_slice.result.now in
-    let all = c.as_slice-2.result.now in
-    let d = c.index-as_slice-action.result in
-    let own = stage_is at.config.now part st c.stage_of-stage.result.now c.stage_of-stage.ensures in
-    let rows_are : c.as_slice-in-Exact.result.now ≡ st.stage.srows = c.as_slice-in-Exact.ensures ∙ ap (λ (s : Stage). s.srows) own in
-    let params_is = params_read at.program.now at.config.now at.node at.table.now at.widths.now at.entries.now c.requires.known e c.requires.entry actions all d c.as_slice.ensures c.as_slice-2.ensures in
-    IfOk-weaker c.exact_holds.result _ _ (λ holds told cells in_cells.
-    cell_told at.program.now at.config.now at.node at.table.now at.widths.now at.entries.now c.requires.known e c.requires.entry part st x c.requires.own c.requires.number holds
-    (exact_there at.program.now at.config.now at.node at.table.now at.widths.now at.entries.now c.requires.known e c.requires.entry part st x c.requires.own c.requires.number
-    a.width a.per a.quanta a.first_way a.keys a.records a.counters c.as_slice-in-Exact.result.now c.as_slice-in-Exact-2.result.now c.as_slice-in-Exact-3.result.now holds
-    (get_or all (get_or actions e.action 0) d).params (part.first + e.action) a.is rows_are c.as_slice-in-Exact-2.ensures c.as_slice-in-Exact-3.ensures params_is refl (told a.counters)) cells in_cells)
-    c.exact_holds.ensures
+    IfOk-weaker c.exact_holds.result _ _ (λ holds told. exact_there at.program.now at.config.now at.node at.table.now at.widths.now at.entries.now c.requires.known.its_table c.args.entry.now c.requires.entry
+    (part_at c.args.part.now) c.requires.known.its_part.stands c.args.own.now c.requires.known.listed c.requires.number
+    c.stage_of-stage.result.now c.as_slice.result.now c.as_slice-2.result.now c.index-as_slice-action.result c.stage_of-stage.ensures c.as_slice.ensures c.as_slice-2.ensures
+    a.width a.per a.quanta a.first_way a.keys a.records a.counters c.as_slice-in-Exact.result.now c.as_slice-in-Exact-2.result.now c.as_slice-in-Exact-3.result.now holds a.is
+    c.as_slice-in-Exact.ensures c.as_slice-in-Exact-2.ensures c.as_slice-in-Exact-3.ensures (told a.counters)) c.exact_holds.ensures
 
 pub returns-in-Ternary : goal.returns-in-Ternary
 returns-in-Ternary c =
     let at = c.args.at.now in
     let a = c.in-Ternary in
-    let e = c.args.entry.now in
-    let x = c.args.own.now in
-    let part = part_at c.args.part.now in
-    let st = c.requires.part.stands in
-    let actions = c.as_slice.result.now in
-    let all = c.as_slice-2.result.now in
-    let d = c.index-as_slice-action.result in
-    let own = stage_is at.config.now part st c.stage_of-stage.result.now c.stage_of-stage.ensures in
-    let params_is = params_read at.program.now at.config.now at.node at.table.now at.widths.now at.entries.now c.requires.known e c.requires.entry actions all d c.as_slice.ensures c.as_slice-2.ensures in
-    IfOk-weaker c.ternary_holds.result _ _ (λ holds told cells in_cells.
-    cell_told at.program.now at.config.now at.node at.table.now at.widths.now at.entries.now c.requires.known e c.requires.entry part st x c.requires.own c.requires.number holds
-    (ternary_there at.program.now at.config.now at.node at.table.now at.widths.now at.entries.now c.requires.known e c.requires.entry part st x c.requires.own c.requires.number
-    a.quanta a.keys a.records a.counters c.stage_of-stage.result.now c.as_slice-in-Ternary.result.now c.as_slice-in-Ternary-2.result.now holds
-    (get_or all (get_or actions e.action 0) d).params (part.first + e.action) a.is own c.as_slice-in-Ternary.ensures c.as_slice-in-Ternary-2.ensures params_is refl told) cells in_cells)
-    c.ternary_holds.ensures
+    IfOk-weaker c.ternary_holds.result _ _ (ternary_there at.program.now at.config.now at.node at.table.now at.widths.now at.entries.now c.requires.known.its_table c.args.entry.now c.requires.entry
+    (part_at c.args.part.now) c.requires.known.its_part.stands c.args.own.now c.requires.known.listed c.requires.number
+    c.stage_of-stage.result.now c.as_slice.result.now c.as_slice-2.result.now c.index-as_slice-action.result c.stage_of-stage.ensures c.as_slice.ensures c.as_slice-2.ensures
+    a.quanta a.keys a.records a.counters c.as_slice-in-Ternary.result.now c.as_slice-in-Ternary-2.result.now a.is c.as_slice-in-Ternary.ensures c.as_slice-in-Ternary-2.ensures) c.ternary_holds.ensures

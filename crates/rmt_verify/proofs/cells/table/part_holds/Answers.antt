@@ -1,4 +1,5 @@
-use Rattle.std.proofs.Common.{◌≡◌, ◌<◌, ◌≤◌, List, All, length, get_or, refl, sym, ap, subst, arith}
+use Rattle.std.proofs.Common.{◌≡◌, ◌<◌, ◌≤◌, List, All, length, get_or, refl, sym, ap, subst, arith, rules}
+use Rattle.std.proofs.lemmas.Grind.{common_steps}
 use Rattle.std.proofs.lemmas.List.{take_all}
 use Rattle.std.proofs.lemmas.List.Elements.{All-more}
 use Rattle.rmt_refine.specs.Types.{CellNumber}
@@ -8,6 +9,9 @@ use Rattle.rmt_verify.proofs.cells.table.part_holds.Goals as goal
 
 abbrev none : CellNumber
 none = record { cell = 0; number = 0 }
+
+pub cell_holds-requires : goal.cell_holds-requires
+cell_holds-requires c = record { known = record { its_table = c.requires.known; its_part = c.requires.part; listed = first_of (search rules, grind (arith, common_steps)) } }
 
 pub returns-then-not-branch : goal.returns-then-not-branch
 returns-then-not-branch c = λ cells told. (

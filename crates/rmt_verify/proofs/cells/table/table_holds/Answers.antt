@@ -22,14 +22,14 @@ returns-then-not-branch c = λ cells told. (
 )
 
 pub returns-then-numbers-at : goal.returns-then-numbers-at
-returns-then-numbers-at c = λ cells told. (
-  λ no. absurd cc,
-  λ held. absurd (
-      let at = c.args.at.now in
-      let parts = parts_at c.as_slice-parts.result.now in
-      c.if-numbers-at.true (all_listed at.program.now at.config.now cells at.node at.table.now at.entries.now parts c.as_slice-numbers.result.now
-      (ap parts_at c.as_slice-parts.ensures.value ∙ c.in_ok-parts.ensures) (c.as_slice-numbers.ensures.value ∙ c.in_ok-numbers.ensures) held)),
-)
+returns-then-numbers-at c =
+    let at = c.args.at.now in
+    let numbers_are = c.as_slice-numbers.ensures.value ∙ c.in_ok-numbers.ensures in
+    λ cells told. (
+      λ no. absurd cc,
+      λ held. absurd (c.if-numbers-at.true (all_listed at.program.now at.config.now cells at.node at.table.now at.entries.now (parts_at c.as_slice-parts.result.now) c.as_slice-numbers.result.now
+          (ap parts_at c.as_slice-parts.ensures.value ∙ c.in_ok-parts.ensures) numbers_are held)),
+    )
 
 pub keep_order-requires-clause-there : goal.keep_order-requires-clause-there
 keep_order-requires-clause-there c =

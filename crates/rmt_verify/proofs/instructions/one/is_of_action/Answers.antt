@@ -9,5 +9,5 @@ returns c =
     let folded = c.args.folded.now in
     let own = c.in_ok-own.own in
     let up = words_rise (record { held = sum folded.params; is_default = false }) own (c.in_ok-own.ensures.formed (sum folded.params) (omega arith)) in
-    same_answer (operations_of c.args.places.now folded.params folded.values) own.ops c.args.ops.now c.as_slice.result.now c.are_same.result c.as_slice.ensures c.in_ok-own.ensures.pieces.same up
-    c.requires.rise c.are_same.ensures
+    same_answer (operations_of c.args.coding.now.places.now folded.params folded.values) own.ops c.args.ops.now c.as_slice.result.now c.are_equal.result c.as_slice.ensures c.in_ok-own.ensures.pieces.same up
+    c.requires.rise c.are_equal.ensures

@@ -8,5 +8,5 @@ returns c =
     let folded = c.args.folded.now in
     let own = c.in_ok-own.own in
     let up = words_rise (record { held = 0; is_default = true }) own (c.in_ok-own.ensures.formed 0) in
-    same_answer (operations_of c.args.places.now [] (map (given c.args.args.now) folded.values)) own.ops c.args.ops.now c.as_slice.result.now c.are_same.result c.as_slice.ensures c.in_ok-own.ensures.pieces.same up
-    c.requires.rise c.are_same.ensures
+    same_answer (operations_of c.args.coding.now.places.now [] (map (given c.args.args.now) folded.values)) own.ops c.args.ops.now c.as_slice.result.now c.are_equal.result c.as_slice.ensures c.in_ok-own.ensures.pieces.same up
+    c.requires.rise c.are_equal.ensures

@@ -6,4 +6,4 @@ use Rattle.rmt_verify.proofs.instructions.tables.actions_hold.Given as goal
 
 -- the instructions of the actions so far
 abbrev pub invariant-loop-at : goal.invariant-loop-at
-invariant-loop-at l = (i action : ℕ) → i < l.at → slice_get l.actions i ≡ Some action → IsCodeOf l.coding.program.now l.coding.places.now action (code_at l.stage (l.first + i))
+invariant-loop-at l = (i action : ℕ) → i < l.at → slice_get l.actions i ≡ Some action → IsCodeOf l.from.coding.now.program.now l.from.coding.now.places.now action (code_at l.from.stage.now (l.from.first + i))

@@ -8,14 +8,14 @@ use Rattle.rmt_verify.proofs.StageCodeLaws.{applied_table}
 use Rattle.rmt_verify.proofs.instructions.tables.unit_holds.Goals as goal
 
 pub table_holds-requires-clause-table : goal.table_holds-requires-clause-table
-table_holds-requires-clause-table c = applied_table c.args.coding.now.program.now c.in-Slot.slot.node c.in-Some.table.now c.requires.coding.program (sym c.in-Some.ensures)
+table_holds-requires-clause-table c = applied_table c.args.from.now.coding.now.program.now c.in-Slot.slot.node c.in-Some.table.now c.requires.coding.program (sym c.in-Some.ensures)
 
 pub returns-in-Some : goal.returns-in-Some
 returns-in-Some c =
-    let p = c.args.coding.now.program.now in
-    let places = c.args.coding.now.places.now in
-    let stage = c.args.stage.now in
-    let first = c.args.first in
+    let p = c.args.from.now.coding.now.program.now in
+    let places = c.args.from.now.coding.now.places.now in
+    let stage = c.args.from.now.stage.now in
+    let first = c.args.from.now.first in
     IfOk-weaker c.table_holds.result (λ b. IsTrue b ↔ TableCoded p places c.in-Some.table.now first stage) (λ b. IsTrue b ↔ UnitCoded p places stage first c.args.unit.now)
     (λ b e.
     subst (λ (u : Unit). IsTrue b ↔ UnitCoded p places stage first u) (sym c.in-Slot.is)

@@ -8,4 +8,4 @@ use Rattle.rmt_verify.proofs.units.stage.all_stages.Given as goal
 -- each stage so far
 abbrev pub invariant-loop-k : goal.invariant-loop-k
 invariant-loop-k l =
-    (j : ℕ) → j < l.k → IsSomeAnd (slice_get l.stages j) (λ (s : Stage). AllZip (UnitCarried l.program l.places l.parts j) (nodes_in l.program l.parts j) s.units)
+    (j : ℕ) → j < l.k → IsSomeAnd (slice_get l.stages j) (λ (s : Stage). AllZip (UnitCarried l.placed.program.now l.placed.places.now l.placed.parts.now j) (nodes_in l.placed.program.now l.placed.parts.now j) s.units)

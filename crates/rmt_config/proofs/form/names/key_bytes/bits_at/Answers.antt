@@ -10,20 +10,20 @@ use Rattle.rmt_config.proofs.form.names.key_bytes.bits_at.Goals as goal
 
 pub returns-then-low-len-le112 : goal.returns-then-low-len-le112
 returns-then-low-len-le112 c =
-    let held = sram_row c.args.rows.now in
-    let blocks = c.args.blocks.now in
+    let held = sram_row c.args.unit.now.rows.now in
+    let blocks = c.args.unit.now.blocks.now in
     let bit = c.args.bit in
     c.slice.ensures ∙ ap (λ n. slice n (bit % 112) c.args.len) c.row_bits-first.ensures
-    ∙ sym (unit-slice held c.args.row blocks (bit / 112) (bit % 112) c.args.len (sram-within c.args.rows.now c.requires.rows.small) (omega (arith, c.requires.some, c.requires.within)) c.if-low-len-le112.true)
-    ∙ ap (λ n. slice (unit_row 112 held c.args.row blocks) n c.args.len) (div-add-mod' bit 112)
+    ∙ sym (unit-slice held c.args.unit.now.row blocks (bit / 112) (bit % 112) c.args.len (sram-within c.args.unit.now.rows.now c.requires.rows.small) (omega (arith, c.requires.some, c.requires.within)) c.if-low-len-le112.true)
+    ∙ ap (λ n. slice (unit_row 112 held c.args.unit.now.row blocks) n c.args.len) (div-add-mod' bit 112)
 
 -- two pieces are one
 both : (c : goal.After-slice-2) → c.slice-high.result * 2 ^ (112 - c.args.bit % 112) + c.slice-2.result
-    ≡ slice (unit_row 112 (sram_row c.args.rows.now) c.args.row c.args.blocks.now) c.args.bit c.args.len
+    ≡ slice (unit_row 112 (sram_row c.args.unit.now.rows.now) c.args.unit.now.row c.args.unit.now.blocks.now) c.args.bit c.args.len
 both c =
-    let held = sram_row c.args.rows.now in
-    let row = c.args.row in
-    let blocks = c.args.blocks.now in
+    let held = sram_row c.args.unit.now.rows.now in
+    let row = c.args.unit.now.row in
+    let blocks = c.args.unit.now.blocks.now in
     let bit = c.args.bit in
     let len = c.args.len in
     let low = bit % 112 in
@@ -33,13 +33,13 @@ both c =
     let long : len - here + here ≡ len = omega (arith, c.if-low-len-le112.false, lt) in
     ap (λ n. n * 2 ^ here + c.slice-2.result) (c.slice-high.ensures ∙ ap (λ n. slice n 0 (len - here)) c.row_bits-second.ensures)
     ∙ ap (λ n. slice (held (get_or blocks (bit / 112 + 1) 0) row) 0 (len - here) * 2 ^ here + n) (c.slice-2.ensures ∙ ap (λ n. slice n low here) c.row_bits-first.ensures)
-    ∙ sym (unit-across held row blocks (bit / 112) low (len - here) (sram-within c.args.rows.now c.requires.rows.small) next lt (omega (arith, c.requires.most)))
+    ∙ sym (unit-across held row blocks (bit / 112) low (len - here) (sram-within c.args.unit.now.rows.now c.requires.rows.small) next lt (omega (arith, c.requires.most)))
     ∙ ap (λ n. slice (unit_row 112 held row blocks) n (len - here + here)) (div-add-mod' bit 112)
     ∙ ap (slice (unit_row 112 held row blocks) bit) long
 
 below : (c : goal.After-slice-2) → c.slice-high.result * 2 ^ (112 - c.args.bit % 112) + c.slice-2.result < 2 ^ 64
 below c =
-    let x = unit_row 112 (sram_row c.args.rows.now) c.args.row c.args.blocks.now in
+    let x = unit_row 112 (sram_row c.args.unit.now.rows.now) c.args.unit.now.row c.args.unit.now.blocks.now in
     let big : 2 ^ c.args.len ≤ 2 ^ 64 = pow-le-pow_right (omega arith) c.requires.most in
     omega (arith, both c, slice-lt x c.args.bit c.args.len, big)
 

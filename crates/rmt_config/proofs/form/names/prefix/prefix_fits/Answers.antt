@@ -6,46 +6,32 @@ use Rattle.rmt_config.specs.PrefixRows.{rows_of}
 use Rattle.rmt_config.proofs.PrefixRows.{key-low, key-one, prefix-at, prefix-filled, prefix-full, rows-all}
 use Rattle.rmt_config.proofs.form.names.prefix.prefix_fits.Goals as goal
 
-pub returns-then-numbers-table : goal.returns-then-numbers-table
-returns-then-numbers-table c =
-    prefix-full c.args.config.now c.args.table.now c.args.parts.now c.requires.parts c.requires.items c.requires.memory c.requires.kind c.requires.alone c.requires.has c.requires.made
-    c.args.numbers.now c.requires.numbers c.if-numbers-table.true
+pub returns-then-of : goal.returns-then-of
+returns-then-of c = prefix-full c.args.of.now c.requires.stands c.requires.kind c.requires.alone c.if-of.true
 
 pub bits_of-bits-requires : goal.bits_of-bits-requires
-bits_of-bits-requires c =
-    ap (λ (ws : List ℕ). length ws) c.as_slice.ensures
-    ∙ key-one c.args.config.now c.args.table.now c.args.parts.now c.requires.parts c.requires.items c.requires.memory c.requires.kind c.requires.alone c.requires.has c.requires.made
+bits_of-bits-requires c = ap (λ (ws : List ℕ). length ws) c.as_slice.ensures ∙ key-one c.args.of.now c.requires.stands c.requires.kind c.requires.alone
 
 pub put_rows-requires-clause-stands : goal.put_rows-requires-clause-stands
-put_rows-requires-clause-stands c =
-    (prefix-at c.args.config.now c.args.table.now c.args.parts.now c.requires.parts c.requires.items c.requires.memory c.requires.kind c.requires.alone c.requires.has c.requires.made
-    c.loop-part.part-index c.part-item.result c.loop-part-test.true c.part-item.is).stands
+put_rows-requires-clause-stands c = (prefix-at c.args.of.now c.requires.stands c.requires.kind c.requires.alone c.loop-part.part-index c.part-item.result c.loop-part-test.true c.part-item.is).stands
 
 pub put_rows-requires-clause-kind : goal.put_rows-requires-clause-kind
-put_rows-requires-clause-kind c =
-    (prefix-at c.args.config.now c.args.table.now c.args.parts.now c.requires.parts c.requires.items c.requires.memory c.requires.kind c.requires.alone c.requires.has c.requires.made
-    c.loop-part.part-index c.part-item.result c.loop-part-test.true c.part-item.is).kind
+put_rows-requires-clause-kind c = (prefix-at c.args.of.now c.requires.stands c.requires.kind c.requires.alone c.loop-part.part-index c.part-item.result c.loop-part-test.true c.part-item.is).kind
 
 pub put_rows-requires-clause-short : goal.put_rows-requires-clause-short
-put_rows-requires-clause-short c =
-    (prefix-at c.args.config.now c.args.table.now c.args.parts.now c.requires.parts c.requires.items c.requires.memory c.requires.kind c.requires.alone c.requires.has c.requires.made
-    c.loop-part.part-index c.part-item.result c.loop-part-test.true c.part-item.is).short
+put_rows-requires-clause-short c = (prefix-at c.args.of.now c.requires.stands c.requires.kind c.requires.alone c.loop-part.part-index c.part-item.result c.loop-part-test.true c.part-item.is).short
 
 pub rows_fit-requires : goal.rows_fit-requires
 rows_fit-requires c =
-    subst (λ n. n ≤ 128) (sym (c.bits_of-bits.ensures ∙ ap (λ (ws : List ℕ). sum ws) c.as_slice.ensures))
-    (key-low c.args.config.now c.args.table.now c.args.parts.now c.requires.parts c.requires.items c.requires.memory c.requires.kind c.requires.alone c.requires.has c.requires.made)
+    subst (λ n. n ≤ 128) (sym (c.bits_of-bits.ensures ∙ ap (λ (ws : List ℕ). sum ws) c.as_slice.ensures)) (key-low c.args.of.now c.requires.stands c.requires.kind c.requires.alone)
 
 pub returns : goal.returns
 returns c =
-    let config = c.args.config.now in
-    let table = c.args.table.now in
-    let parts = c.args.parts.now in
-    let rows : c.as_slice-2.result.now ≡ rows_of config (parts_of config table.node) =
+    let of = c.args.of.now in
+    let rows : c.as_slice-2.result.now ≡ rows_of of.config.now (parts_of of.config.now of.table.now.node) =
     c.as_slice-2.ensures.value
-    ∙ rows-all config c.loop-part.rows.items (drop c.loop-part.part-index parts) (rows_of config (parts_of config table.node))
-    (drop_all c.loop-part.part-index parts c.loop-part-test.false) c.loop-part.invariant in
+    ∙ rows-all of.config.now c.loop-part.rows.items (drop c.loop-part.part-index of.parts.now) (rows_of of.config.now (parts_of of.config.now of.table.now.node))
+    (drop_all c.loop-part.part-index of.parts.now c.loop-part-test.false) c.loop-part.invariant in
     subst (λ b. IfOk c.rows_fit.result (λ fit. fit ≡ b))
-    (prefix-filled config table parts c.requires.parts c.requires.items c.requires.memory c.requires.kind c.requires.alone c.requires.has c.requires.made
-    c.args.numbers.now c.bits_of-bits.result c.as_slice-2.result.now c.requires.numbers c.if-numbers-table.false
+    (prefix-filled of c.requires.stands c.requires.kind c.requires.alone c.bits_of-bits.result c.as_slice-2.result.now c.if-of.false
     (c.bits_of-bits.ensures ∙ ap (λ (ws : List ℕ). sum ws) c.as_slice.ensures) rows) c.rows_fit.ensures

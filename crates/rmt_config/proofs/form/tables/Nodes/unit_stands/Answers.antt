@@ -1,43 +1,22 @@
-use Rattle.std.proofs.Common.{refl, sym, ◌∙◌, subst}
+use Rattle.std.proofs.Common.{refl}
 use Rattle.rmt_config.specs.declared.config.Unit.TheVariants.{Gate, Slot}
-use Rattle.rmt_config.specs.TableForm.{Placed}
-use Rattle.rmt_config.proofs.TableLaws.{Tells, gate_stands, slot_stands, guard_breaks}
+use Rattle.rmt_config.proofs.TableLaws.{gate-tells, slot-tells, unguarded-tells}
 use Rattle.rmt_config.proofs.form.tables.Nodes.unit_stands.Goals as goal
 
 pub returns-then-guard_stands-clause-value : goal.returns-then-guard_stands-clause-value
 returns-then-guard_stands-clause-value c =
-    let nodes = c.args.self.now in
-    let stage = c.args.stage in
-    let gate = c.in-Gate.gate in
-    subst (Tells nodes stage c.is_alone.result) (sym c.in-Gate.is)
-    (λ before behind k.
-    let x : Placed = record { stage = stage; unit = Gate gate } in
-    c.is_alone.ensures.value
-    ∙ gate_stands nodes before behind stage gate k c.is_alone.ensures.byte (sym (c.guard_stands.ensures.value before behind x k refl) ∙ c.if-guard_stands.true))
+    gate-tells c.args.self.now c.args.stage c.in-Gate.gate _ c.guard_stands.result c.is_alone.result c.in-Gate.is (λ before behind k. c.guard_stands.ensures.value before behind _ k refl)
+    c.if-guard_stands.true c.is_alone.ensures.byte c.is_alone.ensures.value
 
 pub returns-else-guard_stands-clause-value : goal.returns-else-guard_stands-clause-value
 returns-else-guard_stands-clause-value c =
-    let stage = c.args.stage in
-    subst (Tells c.args.self.now stage c.guard_stands.result) (sym c.in-Gate.is)
-    (λ before behind k.
-    let x : Placed = record { stage = stage; unit = Gate c.in-Gate.gate } in
-    c.if-guard_stands.false ∙ sym (guard_breaks before behind x (sym (c.guard_stands.ensures.value before behind x k refl) ∙ c.if-guard_stands.false)))
+    unguarded-tells c.args.self.now c.args.stage (Gate c.in-Gate.gate) _ c.guard_stands.result c.in-Gate.is (λ before behind k. c.guard_stands.ensures.value before behind _ k refl) c.if-guard_stands.false
 
 pub returns-then-guard_stands-2-clause-value : goal.returns-then-guard_stands-2-clause-value
 returns-then-guard_stands-2-clause-value c =
-    let nodes = c.args.self.now in
-    let stage = c.args.stage in
-    let slot = c.in-Slot.slot in
-    subst (Tells nodes stage c.part_stands.result) (sym c.in-Slot.is)
-    (λ before behind k.
-    let x : Placed = record { stage = stage; unit = Slot slot } in
-    c.part_stands.ensures.value
-    ∙ slot_stands nodes before behind stage slot k c.part_stands.ensures.byte (sym (c.guard_stands-in-Slot.ensures.value before behind x k refl) ∙ c.if-guard_stands-2.true))
+    slot-tells c.args.self.now c.args.stage c.in-Slot.slot _ c.guard_stands-in-Slot.result c.part_stands.result c.in-Slot.is (λ before behind k. c.guard_stands-in-Slot.ensures.value before behind _ k refl)
+    c.if-guard_stands-2.true c.part_stands.ensures.byte c.part_stands.ensures.value
 
 pub returns-else-guard_stands-2-clause-value : goal.returns-else-guard_stands-2-clause-value
 returns-else-guard_stands-2-clause-value c =
-    let stage = c.args.stage in
-    subst (Tells c.args.self.now stage c.guard_stands-in-Slot.result) (sym c.in-Slot.is)
-    (λ before behind k.
-    let x : Placed = record { stage = stage; unit = Slot c.in-Slot.slot } in
-    c.if-guard_stands-2.false ∙ sym (guard_breaks before behind x (sym (c.guard_stands-in-Slot.ensures.value before behind x k refl) ∙ c.if-guard_stands-2.false)))
+    unguarded-tells c.args.self.now c.args.stage (Slot c.in-Slot.slot) _ c.guard_stands-in-Slot.result c.in-Slot.is (λ before behind k. c.guard_stands-in-Slot.ensures.value before behind _ k refl) c.if-guard_stands-2.false

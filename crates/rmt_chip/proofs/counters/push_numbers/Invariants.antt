@@ -1,6 +1,0 @@
-use Rattle.std.proofs.Common.{◌≡◌, ◌++◌, take, map}
-use Rattle.rmt_chip.specs.Types.{CellNumber}
-use Rattle.rmt_chip.proofs.counters.push_numbers.Given as goal
-
-abbrev pub invariant-loop-cell : goal.invariant-loop-cell
-invariant-loop-cell l = l.numbers.items ≡ l.initial.numbers.items ++ map (λ (n : CellNumber). n.number) (take l.cell-index l.cells)
