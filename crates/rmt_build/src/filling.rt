@@ -1,12 +1,13 @@
 //! What the memories of a stage hold.
 
-ghost use Rattle.std.specs.Prelude.{◌≡◌, ◌+◌, ◌<◌, ◌≤◌, ℕ, All, AllPairs, Contains, OnOk, length, sum_by};
+ghost use Rattle.std.specs.Prelude.{◌≡◌, ◌+◌, ◌<◌, ◌≤◌, ℕ, All, AllPairs, Contains, IfOk, OnOk, length, sum_by};
 ghost use Rattle.rmt_config.specs.Cells.{cells_in as cells_in_memory};
 ghost use Rattle.rmt_config.specs.Instructions.{unit_instructions};
 ghost use Rattle.rmt_config.specs.StageForm.{memory_sram_blocks, memory_tcam_blocks};
 ghost use Rattle.rmt_pack.specs.Placements.{data_bits as bits_of_data, key_bits as bits_of_key};
 ghost use Rattle.rmt_pack.specs.Rows.{blocks_of};
-ghost use Rattle.rmt_filling.specs.Listing.{masks_of, values_of};
+ghost use Rattle.rmt_filling.specs.Holding.{Held};
+ghost use Rattle.rmt_filling.specs.Listing.{ListsSram, ListsTcam, masks_of, values_of};
 ghost use Rattle.rmt_filling.specs.Rooms.{CanBeWritten, HasBlocks, StandApart};
 ghost use Rattle.rmt_build.specs.HeldParts.{PartHolds};
 ghost use Rattle.rmt_build.specs.Plans.{IsPlanned};
@@ -15,15 +16,26 @@ ghost use Rattle.rmt_build.specs.Written.{SlotFits, SlotWritten, UnitFits, Units
 use crate::planned::PlannedTable;
 use crate::tables::applied;
 use crate::units::stands_in;
-use rmt_config::config::{Memory, SlotUnit, Unit};
+use rmt_bits::sequence::Sequence;
+use rmt_config::config::{Memory, SlotUnit, SramRow, TcamRow, Unit};
 use rmt_filling::entries::PartEntries;
 use rmt_filling::exact::write_exact_part;
+use rmt_filling::listing::{sram_rows, tcam_rows};
 use rmt_filling::plan::PlannedStage;
 use rmt_filling::tcam::TcamRows;
 use rmt_filling::ternary::write_ternary_part;
 use rmt_pack::fault::PackFault;
 use rmt_pack::rows::Rows;
 use std::alloc::Global;
+
+/// The rows of a stage's memories that aren't 0.
+#[derive(Drop)]
+pub struct StageRows {
+    /// Those of its SRAM blocks.
+    pub srows: Sequence<SramRow>,
+    /// Those of its TCAM blocks.
+    pub trows: Sequence<TcamRow>,
+}
 
 /// Writes entries into a part with this memory.
 fn write_part(
@@ -120,7 +132,7 @@ fn write_slot(
 /// # Errors
 ///
 /// For want of memory alone.
-pub fn write_units(
+fn write_units(
     alloc: Global,
     sram: &mut Rows,
     tcam: &mut TcamRows,
@@ -148,4 +160,29 @@ pub fn write_units(
         }
     }
     Ok(())
+}
+
+/// The rows of a stage with these units, in which their entries are written.
+///
+/// # Errors
+///
+/// For want of memory alone.
+pub fn rows_of(
+    alloc: Global,
+    planned: &PlannedStage,
+    units: &[Unit],
+) -> Result<StageRows, PackFault>
+    requires planned { IsPlanned planned.now.program.now planned.now.entries.now planned.now.plan.now planned.now.stage }
+    requires units { All (UnitFits planned.now.program.now planned.now.entries.now planned.now.plan.now planned.now.stage) units.now }
+    requires apart { AllPairs UnitsApart units.now }
+    requires few { sum_by unit_instructions units.now ≤ 32 }
+    ensures { IfOk result (λ rows. (h : Held) × UnitsWritten planned.now.program.now planned.now.entries.now planned.now.plan.now planned.now.stage units.now (length units.now) h
+        × ListsSram h.sram rows.srows × ListsTcam h.values h.masks rows.trows) }
+{
+    let mut sram = Rows::new(alloc)?;
+    let mut tcam = TcamRows::new(alloc)?;
+    write_units(alloc, &mut sram, &mut tcam, planned, units)?;
+    let srows = sram_rows(alloc, &sram)?;
+    let trows = tcam_rows(alloc, &tcam)?;
+    Ok(StageRows { srows, trows })
 }

@@ -6,7 +6,7 @@ ghost use Rattle.rmt_build.specs.Words.{Lane, AreEntries, CanBeNamed, names_of, 
 use crate::built::Built;
 use crate::code::code_of;
 use crate::fault::NoFit;
-use crate::filling::write_units;
+use crate::filling::rows_of;
 use crate::front::{Front, front_of};
 use crate::lanes::{lane_of, out_headers};
 use crate::loading::{PlacedProgram, load_all};
@@ -23,11 +23,8 @@ use rmt_bounds::find::bound;
 use rmt_config::config::{Config, ParserConfig, Stage};
 use rmt_config::form::names::alone::names_have_counts;
 use rmt_filling::formats::formats_of;
-use rmt_filling::listing::{sram_rows, tcam_rows};
 use rmt_filling::plan::{Plan, PlannedStage};
-use rmt_filling::tcam::TcamRows;
 use rmt_pack::placement::Placement;
-use rmt_pack::rows::Rows;
 use rmt_phv::places::Places;
 use rmt_place::{offsets, place};
 use rmt_refine::map::Map;
@@ -209,9 +206,9 @@ fn built_of(
         entries,
         plan: &plan,
     };
-    let stages = stages_of(alloc, &whole)?;
     let bound = bound(alloc, program, deps)?;
     let names = told_names(alloc, program, entries)?;
+    let stages = stages_of(alloc, &whole)?;
     let config = config_of(alloc, program, &plan, parser, stages, names)?;
     let map = map_of(alloc, program, entries, plan)?;
     Ok(Built { config, map, bound })
@@ -271,17 +268,13 @@ fn stage_of(alloc: Global, planned: &PlannedStage, start: u16) -> Result<Stage, 
 {
     let units = units_of(alloc, planned)?;
     let code = code_of(alloc, planned, units.as_slice())?;
-    let mut sram = Rows::new(alloc)?;
-    let mut tcam = TcamRows::new(alloc)?;
-    write_units(alloc, &mut sram, &mut tcam, planned, units.as_slice())?;
-    let srows = sram_rows(alloc, &sram)?;
-    let trows = tcam_rows(alloc, &tcam)?;
+    let rows = rows_of(alloc, planned, units.as_slice())?;
     Ok(Stage {
         start,
         units,
         code,
-        srows,
-        trows,
+        srows: rows.srows,
+        trows: rows.trows,
     })
 }
 

@@ -1,5 +1,5 @@
 -- Laws of the earlier of two places, and of the earliest of a list.
-use Rattle.std.proofs.Common.{◌≡◌, ℕ, ◌<◌, ◌≤◌, ◌+◌, List, [], ◌∷◌, ◌++◌, if◌then◌else◌, None, Some, Option, map, take, length, get_or, refl, sym, ap, ◌∙◌, arith}
+use Rattle.std.proofs.Common.{◌≡◌, ℕ, ◌<◌, ◌≤◌, ◌+◌, List, [], ◌∷◌, ◌++◌, if◌then◌else◌, None, Some, Option, Result, IfOk, map, take, length, get_or, refl, sym, ap, subst, ◌∙◌, arith}
 use Rattle.std.specs.List.{enumerate_from, flat_map}
 use Rattle.std.proofs.lemmas.Bool.Decides.{nat_tests}
 use Rattle.std.proofs.lemmas.List.{take_more, map_more, take_all, append-nil}
@@ -84,6 +84,17 @@ found_in f e same = record { is = e ∙ ap (λ xs. earliest (f xs)) same }
 
 pub join : {xs ys : List Position} {a b both : Option Position} → both ≡ earlier a b → Found xs a → Found ys b → Found (xs ++ ys) both
 join {xs} {ys} {a} {b} {both} e p q = record { is = joined xs ys a b both e p.is q.is }
+
+-- The same of a search that may want memory.
+pub record Sought {E : Type 0} (xs : List Position) (r : Result (Option Position) E) : Type 0 where
+  pub is : IfOk r (λ p. p ≡ earliest xs)
+
+pub sought_in : {E X : Type 0} (f : List X → List Position) (r : Result (Option Position) E) {xs ys : List X} → IfOk r (λ p. p ≡ earliest (f xs)) → xs ≡ ys → Sought (f ys) r
+sought_in f r e same = record { is = subst (λ xs. IfOk r (λ p. p ≡ earliest (f xs))) same e }
+
+pub join_sought : {E : Type 0} {xs ys : List Position} {a b : Result (Option Position) E} (both : Result (Option Position) E)
+    → ((xs ys : List Position) → IfOk a (λ p. p ≡ earliest xs) → IfOk b (λ p. p ≡ earliest ys) → IfOk both (λ p. p ≡ earliest (xs ++ ys))) → Sought xs a → Sought ys b → Sought (xs ++ ys) both
+join_sought {xs = xs} {ys = ys} both h p q = record { is = h xs ys p.is q.is }
 
 -- for the attribute of a function that joins what was found
 pub ruleset joins = (earliest-append)

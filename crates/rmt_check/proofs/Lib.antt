@@ -10,6 +10,7 @@ pub mod SeenNames
 pub mod Bounds
 pub mod programs
 pub mod MeansLaws
+mod Together
 mod ExampleText
 mod ExamplesMeaning
 mod ExamplesReading

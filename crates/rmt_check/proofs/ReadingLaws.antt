@@ -1,8 +1,10 @@
 -- What is read at a place among some parts, and what a tree of the control adds.
-use Rattle.std.proofs.Common.{◌≡◌, ◌∙◌, ℕ, zero, suc, ◌+◌, ◌<◌, List, [], ◌∷◌, ◌++◌, Bool, true, false, if◌then◌else◌, Option, Some, None, fold, map, filter_map, length, drop, refl, sym, ap, arith, add-one, append_assoc}
+use Rattle.std.proofs.Common.{◌≡◌, ◌∙◌, ℕ, zero, suc, ◌+◌, ◌<◌, ◌≤◌, List, [], ◌∷◌, ◌++◌, Bool, true, false, if◌then◌else◌, Option, Some, None, option_to_list, Result, Ok, Err, IsOk, IfOk, fold, map, filter_map, length, drop, refl, sym, ap, arith, add-one, append_assoc}
 use Rattle.std.specs.List.{cons_option, enumerate_from}
 use Rattle.std.specs.Option.{option_or}
+use Rattle.std.proofs.lemmas.List.{append-nil, drop_all}
 use Rattle.rmt_check.specs.Parts.{Token, Rule, Under, NodeText}
+use Rattle.rmt_check.proofs.Finding.{cons_list}
 use Rattle.rmt_syntax.specs.declared.tree.Tree.{Tree, One, Many, out-Tree, out-roll-Tree}
 use Rattle.rmt_syntax.specs.declared.tree.Tree.TheOpen as tree
 use Rattle.rmt_syntax.specs.declared.tree.Tree.TheVariants.{rolls-One, rolls-Many}
@@ -25,17 +27,29 @@ first_here see [] n lt = absurd (omega arith)
 first_here see (t ∷ ts) zero lt = refl
 first_here see (t ∷ ts) (suc n) lt = rw add-one (rw add-one at (first_here see ts n (omega arith)))
 
--- what is found at a place joins what was found before it
-pub each_some : {A : Type 0} (see : List Tree → Option A) (ts : List Tree) (n : ℕ) (found next all : List A) (x : A) → n < length ts → found ++ each see (drop n ts) ≡ all → see (drop n ts) ≡ Some x
-    → next ≡ found ++ x ∷ [] → next ++ each see (drop (n + 1) ts) ≡ all
-each_some see ts n found next all x lt so_far is e =
-    ap (λ ys. ys ++ each see (drop (n + 1) ts)) e ∙ append_assoc found (x ∷ []) (each see (drop (n + 1) ts))
-    ∙ ap (λ ys. found ++ ys) (sym (each_here see ts n lt ∙ ap (λ o. cons_option o (each see (drop (n + 1) ts))) is)) ∙ so_far
+-- what is read at a place joins what was read before it
+pub each_more : {A E : Type 0} (see : List Tree → Option A) (ts us : List Tree) (n : ℕ) (found next all : List A) (read : Result (Option A) E) → n < length ts → us ≡ drop n ts
+    → found ++ each see (drop n ts) ≡ all → IfOk read (λ part. part ≡ see us) → IsOk read × IfOk read (λ part. next ≡ found ++ option_to_list part) → next ++ each see (drop (n + 1) ts) ≡ all
+each_more {A = A} see ts us n found next all (Ok o) lt at so_far is put =
+    let rest : List A = each see (drop (n + 1) ts) in
+    let here : each see (drop n ts) ≡ option_to_list o ++ rest = each_here see ts n lt ∙ ap (λ p. cons_option p rest) (sym (is ∙ ap see at)) ∙ cons_list o rest in
+    ap (λ ys. ys ++ rest) put.1 ∙ append_assoc found (option_to_list o) rest ∙ ap (λ ys. found ++ ys) (sym here) ∙ so_far
+each_more see ts us n found next all (Err e) lt at so_far is put = grind arith
 
-pub each_none : {A : Type 0} (see : List Tree → Option A) (ts : List Tree) (n : ℕ) (found next all : List A) → n < length ts → found ++ each see (drop n ts) ≡ all → see (drop n ts) ≡ None
-    → next ≡ found → next ++ each see (drop (n + 1) ts) ≡ all
-each_none see ts n found next all lt so_far is e =
-    ap (λ ys. ys ++ each see (drop (n + 1) ts)) e ∙ ap (λ ys. found ++ ys) (sym (each_here see ts n lt ∙ ap (λ o. cons_option o (each see (drop (n + 1) ts))) is)) ∙ so_far
+-- there is no more
+pub each_over : {A : Type 0} (see : List Tree → Option A) (ts : List Tree) (n : ℕ) (found all : List A) → length ts ≤ n → found ++ each see (drop n ts) ≡ all → found ≡ all
+each_over see ts n found all le so_far = sym (append-nil found) ∙ ap (λ us. found ++ each see us) (sym (drop_all n ts le)) ∙ so_far
+
+-- what is found at a place is the first, where nothing was found before it
+pub first_some : {A : Type 0} (see : List Tree → Option A) (ts : List Tree) (n : ℕ) (all : Option A) (x : A) → n < length ts → first see (drop n ts) ≡ all → see (drop n ts) ≡ Some x → Some x ≡ all
+first_some see ts n all x lt so_far is = sym (first_here see ts n lt ∙ ap (λ o. option_or o (first see (drop (n + 1) ts))) is) ∙ so_far
+
+pub first_none : {A : Type 0} (see : List Tree → Option A) (ts : List Tree) (n : ℕ) (all : Option A) → n < length ts → first see (drop n ts) ≡ all → see (drop n ts) ≡ None → first see (drop (n + 1) ts) ≡ all
+first_none see ts n all lt so_far is = sym (first_here see ts n lt ∙ ap (λ o. option_or o (first see (drop (n + 1) ts))) is) ∙ so_far
+
+-- nothing is found at all
+pub first_over : {A : Type 0} (see : List Tree → Option A) (ts : List Tree) (n : ℕ) (all : Option A) → length ts ≤ n → first see (drop n ts) ≡ all → None ≡ all
+first_over see ts n all le so_far = sym (ap (first see) (drop_all n ts le)) ∙ so_far
 
 -- trees beside what they add
 abbrev pub owns : List Tree → List Read
@@ -87,4 +101,4 @@ added_other r v under before h =
 
 pub ruleset added_laws = (added_one, added_statement, added_other)
 
-pub ruleset places = (each_here, first_here, each_some, each_none)
+pub ruleset places = (first_here)

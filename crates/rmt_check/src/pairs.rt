@@ -1,6 +1,6 @@
-//! Values that are made together.
+//! Values that are made together, or in several steps.
 
-ghost use Rattle.std.specs.Prelude.{◌≡◌, IfOk, Ok};
+ghost use Rattle.std.specs.Prelude.{◌≡◌, IfOk, IsOk, Ok};
 
 use std::alloc::AllocError;
 
@@ -13,4 +13,12 @@ pub fn both<A: Drop, B: Drop>(
     ensures second { IfOk result (λ both. second ≡ Ok both.1) }
 {
     Ok((first?, second?))
+}
+
+/// A value, if there was memory for what was done with it.
+pub fn kept<T: Drop>(value: T, done: Result<(), AllocError>) -> Result<T, AllocError>
+    ensures { IfOk result (λ kept. IsOk done × (kept ≡ value)) }
+{
+    done?;
+    Ok(value)
 }

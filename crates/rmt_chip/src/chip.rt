@@ -10,13 +10,13 @@ ghost use Rattle.rmt_chip.specs.FrameList.{frames_of};
 ghost use Rattle.rmt_chip.specs.Pending.{HaveRoomFor};
 ghost use Rattle.rmt_memory.specs.StageMemories.{MemoriesOf};
 
-use crate::counters::{bring, first_counters};
+use crate::counters::bring;
 use crate::cycle::{cycle, latency};
 use crate::fault::ChipFault;
 use crate::frame::Frame;
 use crate::frames::Frames;
 use crate::moment::Moment;
-use crate::open::all_places;
+use crate::open::parts_of;
 use crate::out::Out;
 use crate::packet_slot::PacketSlot;
 use crate::ring::{oldest, place_after, place_of};
@@ -27,7 +27,7 @@ use rmt_bits::counts::Counts;
 use rmt_config::cell_write::CellWrite;
 use rmt_config::config::Config;
 use rmt_memory::memory::SlotMemory;
-use rmt_memory::stages::{lay_all, write_cell};
+use rmt_memory::stages::write_cell;
 use std::alloc::Global;
 
 /// The chip: its configuration with the memories laid out for reading, and a ring of slots for the packets in flight.
@@ -72,20 +72,15 @@ impl Chip {
         requires limits { IsWithinLimits config }
         ensures { IfOk result (λ chip. Stands config [] chip) }
     {
-        let stages = config.stages.as_slice();
-        let latency = latency(stages);
-        let count = usize::from(latency) + 1;
-        let places = all_places(alloc, stages, count)?;
-        let memories = lay_all(alloc, stages)?;
-        let counters = first_counters(alloc, &config)?;
-        let frames = Frames::new(alloc, count)?;
+        let latency = latency(config.stages.as_slice());
+        let parts = parts_of(alloc, &config, usize::from(latency) + 1)?;
         let seed = config.seed;
         Ok(Chip {
             config,
-            memories,
-            places,
-            frames,
-            counters,
+            memories: parts.memories,
+            places: parts.places,
+            frames: parts.frames,
+            counters: parts.counters,
             newest: 0,
             entered: 0,
             version: 0,

@@ -90,11 +90,7 @@ fn no_chains(alloc: Global, count: usize) -> Result<Vec<Option<Chain>>, AllocErr
 fn no_sizes(alloc: Global, count: usize) -> Result<Vec<u32>, AllocError>
     ensures { IfOk result (λ sizes. sizes.items ≡ replicate count 0) }
 {
-    let mut sizes = Vec::with_capacity(alloc, count)?;
-    for _at in 0..count {
-        sizes.push(0)?;
-    }
-    Ok(sizes)
+    vec![in alloc; 0; count]
 }
 
 /// Gives the cells of a chain back, if one is there.

@@ -1,19 +1,38 @@
 //! What a chip has before the first cycle: empty packet slots with all room, and the memories laid out.
 
-ghost use Rattle.std.specs.Prelude.{◌≡◌, All, IfOk, vec_len};
+ghost use Rattle.std.specs.Prelude.{◌≡◌, ◌≤◌, [], All, IfOk, replicate, vec_len};
+ghost use Rattle.rmt_bits.specs.Counts.{counts};
+ghost use Rattle.rmt_config.specs.ChipRun.{counted_numbers};
+ghost use Rattle.rmt_config.specs.RunCells.{own_cells};
 ghost use Rattle.rmt_chip.specs.declared.packet_slot.PacketSlot.{PacketSlot as PlaceOf};
+ghost use Rattle.rmt_chip.specs.FrameList.{frames_of};
 ghost use Rattle.rmt_chip.specs.Held.{IsFree};
 ghost use Rattle.rmt_chip.specs.Pending.{HasRoomFor, HaveRoomFor};
 ghost use Rattle.rmt_chip.specs.Writes.{most_ops};
+ghost use Rattle.rmt_memory.specs.StageMemories.{AllSlotsFormed, MemoriesHold, MemoriesOf};
 
+use crate::counters::first_counters;
+use crate::frames::Frames;
 use crate::packet_slot::PacketSlot;
 use crate::pending::Pending;
-use rmt_config::config::{Stage, Vliw};
+use rmt_bits::counts::Counts;
+use rmt_config::config::{Config, Stage, Vliw};
 use rmt_config::tails::Tails;
 use rmt_config::vector::Vector;
+use rmt_memory::memory::SlotMemory;
 use rmt_memory::room::room;
+use rmt_memory::stages::lay_all;
 use rmt_ptcam::parse::Parsed;
 use std::alloc::{AllocError, Global};
+
+/// What a chip has beside its configuration.
+#[derive(Drop)]
+pub struct Parts {
+    pub counters: Counts,
+    pub frames: Frames,
+    pub memories: Vec<Vec<SlotMemory>>,
+    pub places: Vec<PacketSlot>,
+}
 
 /// The most operations that an instruction has.
 fn most_operations(code: &[Vliw]) -> usize
@@ -34,10 +53,13 @@ fn nothing_kept(alloc: Global, stage: &Stage) -> Result<Pending, AllocError>
     let Some(writes) = units.checked_mul(most_operations(stage.code.as_slice())) else {
         return Err(AllocError);
     };
+    let running = Vec::with_capacity(alloc, units)?;
+    let due = Vec::with_capacity(alloc, writes)?;
+    let looked = room(alloc, stage)?;
     Ok(Pending {
-        looked: room(alloc, stage)?,
-        running: Vec::with_capacity(alloc, units)?,
-        due: Vec::with_capacity(alloc, writes)?,
+        looked,
+        running,
+        due,
     })
 }
 
@@ -71,11 +93,7 @@ fn empty_place(alloc: Global, stages: &[Stage]) -> Result<PacketSlot, AllocError
 }
 
 /// So many packet slots, all without a packet.
-pub fn all_places(
-    alloc: Global,
-    stages: &[Stage],
-    count: usize,
-) -> Result<Vec<PacketSlot>, AllocError>
+fn all_places(alloc: Global, stages: &[Stage], count: usize) -> Result<Vec<PacketSlot>, AllocError>
     ensures full { IfOk result (λ places. vec_len places ≡ count) }
     ensures free { IfOk result (λ places. All IsFree places.items) }
     ensures room { IfOk result (λ places. All (λ (p : PlaceOf). HaveRoomFor stages.now p.pending.items) places.items) }
@@ -85,4 +103,29 @@ pub fn all_places(
         places.push(empty_place(alloc, stages)?)?;
     }
     Ok(places)
+}
+
+/// What a chip of so many packet slots has before the first cycle, beside its configuration.
+pub fn parts_of(alloc: Global, config: &Config, count: usize) -> Result<Parts, AllocError>
+    requires formed { AllSlotsFormed config.now.stages }
+    requires few { count ≤ 385 }
+    ensures counters { IfOk result (λ parts. parts.counters.counts ≡ counts (counted_numbers config.now) []) }
+    ensures frames { IfOk result (λ parts. frames_of parts.frames ≡ replicate count []) }
+    ensures fit { IfOk result (λ parts. MemoriesOf config.now.stages parts.memories.items) }
+    ensures hold { IfOk result (λ parts. MemoriesHold config.now (own_cells config.now) parts.memories.items) }
+    ensures full { IfOk result (λ parts. vec_len parts.places ≡ count) }
+    ensures free { IfOk result (λ parts. All IsFree parts.places.items) }
+    ensures room { IfOk result (λ parts. All (λ (p : PlaceOf). HaveRoomFor config.now.stages p.pending.items) parts.places.items) }
+{
+    let stages = config.stages.as_slice();
+    let counters = first_counters(alloc, config)?;
+    let frames = Frames::new(alloc, count)?;
+    let memories = lay_all(alloc, stages)?;
+    let places = all_places(alloc, stages, count)?;
+    Ok(Parts {
+        counters,
+        frames,
+        memories,
+        places,
+    })
 }

@@ -23,7 +23,7 @@ use rmt_config::config::{GateUnit, SlotUnit, Stage, Unit, UnitGuard};
 use rmt_memory::looked::Looked;
 
 /// Where a unit stands in its stage: its number there, and that of its first instruction.
-#[derive(Clone, Copy, Debug)]
+#[derive(Clone, Copy)]
 struct UnitAt {
     unit: u8,
     base: u16,

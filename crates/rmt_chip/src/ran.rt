@@ -1,7 +1,7 @@
 //! What runs in a stage.
 
 /// An instruction of a stage that runs for a packet.
-#[derive(Clone, Copy, Debug)]
+#[derive(Clone, Copy)]
 pub struct Ran {
     /// Its number in the stage.
     pub code: u16,

@@ -4,7 +4,7 @@ ghost use Rattle.std.specs.Prelude.{◌<◌, ◌^◌};
 ghost use Rattle.rmt_bits.specs.Words.{word_size as word_size_of};
 
 /// A value for a whole word of a vector.
-#[derive(Clone, Copy, Debug)]
+#[derive(Clone, Copy)]
 pub struct Write {
     pub word: u8,
     pub value: u32,

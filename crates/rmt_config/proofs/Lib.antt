@@ -46,6 +46,7 @@ pub mod CommitLaws
 pub mod HeldLaws
 pub mod NameRuleLaws
 pub mod NamePartLaws
+mod LoopLaws
 mod SpelledLists
 mod SpelledOrder
 pub mod SpelledRanks

@@ -1,7 +1,8 @@
 -- Answers on the rows of a memory, at equal layouts, rows and numbers.
 use Rattle.std.proofs.Common.{◌≡◌, ℕ, ◌*◌, ◌/◌, ◌%◌, List, length, Bool, true, false, sym, ap, ◌∙◌, subst, arith}
 use Rattle.std.specs.Prelude.{◌↔◌, IsTrue}
-use Rattle.std.proofs.lemmas.Bool.{both_ways, false≢true}
+use Rattle.std.proofs.lemmas.Bool.{and_parts, both_ways, false≢true}
+use Rattle.rmt_config.specs.Order.{rises_from}
 use Rattle.rmt_config.specs.declared.form.layout.CellLayout.{CellLayout}
 use Rattle.rmt_config.specs.Types.{Stage, SramRow, SlotUnit, CellNumber}
 use Rattle.rmt_config.specs.BlockCounts.{record_width, record_units}
@@ -50,3 +51,13 @@ no_records stage s p d rs none len j lt =
   where
     times_none : (a b : ℕ) → a * (b * 0) ≡ 0
     times_none a b = omega arith
+
+-- all blocks of a list are blocks of its layout
+pub all-there : (d units side len : ℕ) → len ≡ d * (units * side) → len ≡ d * units * side
+all-there d units side len e = let same : d * (units * side) ≡ d * units * side = omega arith in e ∙ same
+
+-- where entries hold, the listed cells rise
+pub numbers-rise : (stage : Stage) (s : SlotUnit) (visible first : ℕ) (l : CellLayout) (blocks : List ℕ) {numbers : List CellNumber} → numbers ≡ s.numbers
+    → EntriesHeld stage s visible first l blocks → IsTrue (rises_from 0 (listed_cells numbers))
+numbers-rise stage s visible first l blocks e held =
+    ap (λ ns. rises_from 0 (listed_cells ns)) e ∙ (and_parts _ _ (and_parts _ _ held.0).0).0

@@ -6,7 +6,7 @@ ghost use Rattle.rmt_config.specs.Parser.{no_tail};
 use std::marker::Model;
 
 /// Where a tail stands in a frame.
-#[derive(Clone, Copy, Debug, PartialEq, Eq)]
+#[derive(Clone, Copy, PartialEq, Eq)]
 pub struct TailAt {
     /// The number of its first byte in the frame, from 0.
     pub place: u16,
@@ -15,7 +15,7 @@ pub struct TailAt {
 }
 
 /// The tails of the headers 0 to 63. Contracts see it as the list of where they stand.
-#[derive(Drop, Debug)]
+#[derive(Drop)]
 pub struct Tails {
     stand: [TailAt; 64],
 }

@@ -40,10 +40,10 @@ abbrev pub image_limit : ℕ
 image_limit = 268435456
 
 abbrev pub map_limit : ℕ
-map_limit = image_limit
+map_limit = 268435456
 
 abbrev pub groups_limit : ℕ
-groups_limit = program_limit
+groups_limit = 1048576
 
 abbrev pub capture_limit : ℕ
 capture_limit = 16777216

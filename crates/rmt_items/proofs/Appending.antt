@@ -3,6 +3,13 @@ use Rattle.std.proofs.Common.{◌≡◌, ℕ, List, ◌++◌, ap, ◌∙◌, app
 use Rattle.std.specs.Prelude.{OnOk, is_ok}
 use Rattle.std.proofs.lemmas.Result.{on_ok_weaker}
 
+-- three pieces one behind the other, the last by a call whose result is returned
+pub appended_three : {T E : Type 0} (r : Result T E) (front a b c o1 o2 o3 : List ℕ) → o1 ≡ front ++ a → o2 ≡ o1 ++ b
+    → OnOk r (o3 ≡ o2 ++ c) → OnOk r (o3 ≡ front ++ (a ++ b ++ c))
+appended_three r front a b c o1 o2 o3 e1 e2 last =
+    let e : o2 ≡ front ++ (a ++ b) = e2 ∙ ap (λ (x : List ℕ). x ++ b) e1 ∙ append_assoc front a b in
+    on_ok_weaker r (λ l. l ∙ ap (λ (x : List ℕ). x ++ c) e ∙ append_assoc front (a ++ b) c) last
+
 -- four pieces one behind the other, the last by a call whose result is returned
 pub appended_four : {T E : Type 0} (r : Result T E) (front a b c d o1 o2 o3 o4 : List ℕ) → o1 ≡ front ++ a → o2 ≡ o1 ++ b → o3 ≡ o2 ++ c
     → OnOk r (o4 ≡ o3 ++ d) → OnOk r (o4 ≡ front ++ (a ++ b ++ c ++ d))

@@ -1,6 +1,9 @@
 -- Reading items one after the other, as a loop does.
-use Rattle.std.proofs.Common.{◌≡◌, ℕ, suc, ◌-◌, ◌+◌, ◌≤◌, ◌<◌, List, [], ◌∷◌, ◌++◌, Result, Ok, Err, refl, sym, ap, ◌∙◌, append_assoc, arith, length, get_or, drop, add-one}
-use Rattle.std.proofs.lemmas.List.{append-nil}
+use Rattle.std.proofs.Common.{◌≡◌, ℕ, suc, ◌-◌, ◌+◌, ◌≤◌, ◌<◌, List, [], ◌∷◌, ◌++◌, Result, Ok, Err, refl, sym, ap, ◌∙◌, append_assoc, arith, length, get_or, take, drop, add-one}
+use Rattle.std.specs.List.{flat_map}
+use Rattle.std.proofs.lemmas.List.{append-nil, take_more}
+use Rattle.std.proofs.lemmas.List.Concat.{flat_map-cons}
+use Rattle.std.proofs.lemmas.Grind.{flat_map-append}
 use Rattle.std.proofs.Math.ListN.{drop_of_length-le}
 use Rattle.std.proofs.Math.Seq.{drop-cons}
 use Rattle.rmt_items.specs.declared.fault.ReadFault.{ReadFault}
@@ -61,3 +64,12 @@ unfolding each
 each_is_done {P} {A} read front places i bytes total le so_far =
     let one : with_front front (each read (drop i places) bytes) ≡ Ok (front, bytes) = rw (drop_of_length-le places le) (ap (λ (ns : List A). Ok (ns, bytes)) (append-nil front)) in
     sym so_far ∙ one
+
+-- what a loop puts for each item: that of one more
+pub put_more : {X A : Type 0} (f : X → List A) (xs : List X) (i : ℕ) (x : X) (start so_far more : List A) → i < length xs → x ≡ get_or xs i x
+    → so_far ≡ start ++ flat_map f (take i xs) → more ≡ so_far ++ f x → more ≡ start ++ flat_map f (take (i + 1) xs)
+put_more {X} {A} f xs i x start so_far more lt is was put =
+    let one : flat_map f (x ∷ []) ≡ f x = flat_map-cons f x [] ∙ append-nil (f x) in
+    let grown : take (i + 1) xs ≡ take i xs ++ x ∷ [] = take_more xs i x lt ∙ ap (λ (y : X). take i xs ++ y ∷ []) (sym is) in
+    let parts : flat_map f (take (i + 1) xs) ≡ flat_map f (take i xs) ++ f x = ap (flat_map f) grown ∙ flat_map-append f (take i xs) (x ∷ []) ∙ ap (λ (l : List A). flat_map f (take i xs) ++ l) one in
+    put ∙ ap (λ (l : List A). l ++ f x) was ∙ append_assoc start (flat_map f (take i xs)) (f x) ∙ ap (λ (l : List A). start ++ l) (sym parts)

@@ -13,7 +13,7 @@ use Rattle.rmt_ast.specs.declared.names.RankOf.{RankOf}
 use Rattle.rmt_config.specs.Spelling.{two_bytes, four_bytes, spelled_list8, spelled_list16}
 use Rattle.rmt_config.specs.ImageSpelling.{spelled_name, spelled_action, spelled_rank, spelled_table_kind, spelled_ranks, spelled_table}
 use Rattle.rmt_items.specs.Readers.{give, at_most}
-use Rattle.rmt_items.specs.ReadingNames.{name_at, action_of_parts, action_at, rank_of_parts, rank_at, table_kind_of, table_kind_at, ranks_at, table_of_parts, table_at, names_of_parts, names_at}
+use Rattle.rmt_items.specs.ReadingNames.{name_at, action_of_parts, action_at, rank_of_parts, rank_at, table_kind_of, table_kind_at, ranks_at, table_of_parts, TableBody, table_body_at, table_at, names_of_parts, names_at}
 use Rattle.rmt_items.proofs.Codec.{Codec, codec_for, codec_behind, codec_made, codec_give, AllAlong, codec_items, codec_listed, codec_list, byte_codec, two_codec, four_codec, fours_codec, bytes_codec, alone}
 use Rattle.rmt_items.proofs.Items.{codec_byte}
 
@@ -121,13 +121,28 @@ pub record TableKeeps (t : TableName) : Type 0 where
   pub actions : list_all is_short t.actions ≡ true
   pub ranks : RanksKeep t.kind t.ranks
 
+abbrev body_text : TableBody → List ℕ
+body_text x =
+    (spelled_table_kind x.0 ∷ [])
+    ++ (four_bytes x.1.0 ++ ((two_bytes (length x.1.1.0) ++ x.1.1.0) ++ (((length x.1.1.1.0 ∷ []) ++ flat_map spelled_action x.1.1.1.0) ++ spelled_ranks x.0 x.1.1.1.1)))
+
+abbrev BodyKeeps : TableBody → Type 0
+BodyKeeps x =
+    (has_key x.0 ≡ true)
+    × ((x.1.0 < 2 ^ 32) × (((length x.1.1.0 < 2 ^ 16) × Unit {0}) × ((Unit {0} × (list_all is_short x.1.1.1.0 ≡ true)) × RanksKeep x.0 x.1.1.1.1)))
+
+body_codec : Codec table_body_at body_text BodyKeeps (λ _. Unit {0})
+unfolding table_body_at
+body_codec =
+    codec_for
+    (codec_behind kind_codec
+    (λ k. codec_behind four_codec (λ _. codec_behind (codec_listed two_codec bytes_codec) (λ _. codec_behind (codec_listed byte_codec (codec_list is_short action_codec)) (λ _. ranks_codec k)))))
+    BodyKeeps (λ x keeps. keeps)
+
 pub table_codec : Codec table_at spelled_table TableKeeps (λ _. Unit {0})
 unfolding table_at
 table_codec =
-    codec_made table_of_parts
-    (codec_behind (codec_behind byte_codec (λ _. name_codec))
-    (λ _. codec_behind kind_codec
-    (λ k. codec_behind four_codec (λ _. codec_behind (codec_listed two_codec bytes_codec) (λ _. codec_behind (codec_listed byte_codec (codec_list is_short action_codec)) (λ _. ranks_codec k))))))
+    codec_made table_of_parts (codec_behind (codec_behind byte_codec (λ _. name_codec)) (λ _. body_codec))
     spelled_table TableKeeps (λ x r. table_text x)
     (λ t keeps. (table_parts t, refl, table_text (table_parts t), ((tt, keeps.name), (keeps.keyed, (keeps.size, ((keeps.keys, tt), ((tt, keeps.actions), keeps.ranks)))))))
 

@@ -15,8 +15,8 @@ use Rattle.rmt_config.proofs.ExamplesParts.{lane, copy, instruction, plain_slot,
 use Rattle.rmt_config.specs.ImageSpelling.{spelled_names}
 use Rattle.rmt_items.specs.declared.fault.ReadFault.TheVariants.{Short, Form}
 use Rattle.rmt_items.specs.Readers.{byte_at, number_at, fours_at, items_at}
-use Rattle.rmt_items.specs.Reading.{word_at, lane_from_at, lane_at, lane_of_at, header_at, offset_at, state_at, states_at, entry_state_at, match_at, need_at, entry_head_at, entry_at, later_state_at, next_at, bits_at, extract_at, guard_at, test_at, gate_at, block_at, blocks_at, format_at, exact_at, ternary_at, memory_at, source_at, srow_at, trow_at}
-use Rattle.rmt_items.specs.ReadingNames.{bytes_at, name_at, action_at, rank_at, table_kind_at, table_at, names_at}
+use Rattle.rmt_items.specs.Reading.{word_at, lane_from_at, lane_at, lane_of_at, header_at, offset_at, state_at, states_at, entry_state_at, match_at, need_at, entry_head_at, entry_at, later_state_at, next_at, bits_at, extract_at, guard_at, test_at, gate_at, block_at, blocks_at, exact_format_at, format_at, exact_at, ternary_at, memory_at, source_at, srow_at, trow_at}
+use Rattle.rmt_items.specs.ReadingNames.{bytes_at, name_at, action_at, rank_at, table_kind_at, table_body_at, table_at, names_at}
 use Rattle.rmt_items.specs.ReadingTails.{tail_entry_at, field_at, lengths_at, tail_at, tails_at}
 
 -- ---- lanes and headers
@@ -124,7 +124,7 @@ keyed = with_data 0 true (lane 0 0 8) Without
 -- one quantum of units of one block, with a cell a row: four key blocks, a record block and four counter blocks
 memory-exact : memory_at keyed (1 ∷ 1 ∷ 0 ∷ 1 ∷ 1 ∷ 0 ∷ 0 ∷ 1 ∷ 2 ∷ 3 ∷ 4 ∷ 5 ∷ 6 ∷ 7 ∷ 8 ∷ 9 ∷ [])
     ≡ Ok (Exact 1 1 1 0 (0 ∷ 1 ∷ 2 ∷ 3 ∷ []) (4 ∷ []) (5 ∷ 6 ∷ 7 ∷ 8 ∷ []), 9 ∷ [])
-unfolding memory_at exact_at format_at blocks_at block_at byte_at number_at items_at
+unfolding memory_at exact_at format_at exact_format_at blocks_at block_at byte_at number_at items_at
 memory-exact = refl
 
 -- one quantum of 2,048 rows: a TCAM block, a record block and two counter blocks
@@ -142,7 +142,7 @@ unfolding memory_at ternary_at byte_at
 memory-no_quantum = refl
 
 memory-eight : memory_at keyed (1 ∷ 1 ∷ 0 ∷ 8 ∷ []) ≡ Err Form
-unfolding memory_at exact_at format_at byte_at number_at
+unfolding memory_at exact_at format_at exact_format_at byte_at number_at
 memory-eight = refl
 
 memory-needed : memory_at keyed (0 ∷ []) ≡ Err Form
@@ -235,7 +235,7 @@ names-spelled : spelled_names (Some names_of_b) ≡ names_bytes
 names-spelled = refl
 
 names-read : names_at names_bytes ≡ Ok (names_of_b, [])
-unfolding names_at table_at name_at action_at table_kind_at bytes_at items_at byte_at number_at
+unfolding names_at table_at table_body_at name_at action_at table_kind_at bytes_at items_at byte_at number_at
 names-read = refl
 
 -- a length of which a byte is missing, and a length above all that could be there
@@ -249,13 +249,13 @@ name-vast = refl
 
 -- no kind 3, though the bytes end behind it
 table-no_kind : table_at (1 ∷ 0 ∷ 0 ∷ 0 ∷ 1 ∷ 98 ∷ 3 ∷ []) ≡ Err Form
-unfolding table_at name_at table_kind_at bytes_at byte_at number_at
+unfolding table_at table_body_at name_at table_kind_at bytes_at byte_at number_at
 table-no_kind = refl
 
 -- a ternary table with the rank 7 of the entry 5
 table-ranks : table_at (1 ∷ 0 ∷ 0 ∷ 0 ∷ 1 ∷ 98 ∷ 2 ∷ 0 ∷ 0 ∷ 0 ∷ 1 ∷ 0 ∷ 0 ∷ 0 ∷ 0 ∷ 0 ∷ 0 ∷ 1 ∷ 0 ∷ 0 ∷ 0 ∷ 5 ∷ 0 ∷ 0 ∷ 0 ∷ 7 ∷ [])
     ≡ Ok (record { node = 1; name = codes "b"; kind = table.Ternary; size = 1; keys = []; actions = []; ranks = record { number = 5; rank = 7 } ∷ [] }, [])
-unfolding table_at name_at table_kind_at rank_at bytes_at items_at byte_at fours_at number_at
+unfolding table_at table_body_at name_at table_kind_at rank_at bytes_at items_at byte_at fours_at number_at
 table-ranks = refl
 
 -- ---- tails behind the names

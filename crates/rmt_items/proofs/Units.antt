@@ -18,7 +18,7 @@ use Rattle.rmt_config.specs.Spelling.{two_bytes, spelled_list16, spelled_list32,
 use Rattle.rmt_items.specs.declared.reading.memory.Blocks.{Blocks}
 use Rattle.rmt_items.specs.declared.reading.memory.ExactFormat.{ExactFormat}
 use Rattle.rmt_items.specs.Readers.{list_at, at_most, at_least, below}
-use Rattle.rmt_items.specs.Reading.{no_guard, guard_of_parts, mask_is_even, guard_at, test_of_parts, test_fits, test_at, gate_of_parts, gate_at, SlotHead, marks_of_parts, marks_at, slot_of_head, slot_head_at, block_at, blocks_of_parts, blocks_at, quanta_fit, cells_fit, format_of_parts, format_at, format_block_counts, exact_at, ternary_at, without, exact_of_parts, ternary_of_parts, memory_at, may_have_numbers, number_of_parts, cell_number_at, numbers_at, slot_of_parts, slot_at, unit_at}
+use Rattle.rmt_items.specs.Reading.{no_guard, guard_of_parts, mask_is_even, guard_at, test_of_parts, test_fits, test_at, gate_of_parts, gate_at, SlotHead, marks_of_parts, marks_at, slot_of_head, slot_keys_at, slot_head_at, block_at, blocks_of_parts, blocks_at, quanta_fit, cells_fit, format_of_parts, exact_format_at, format_at, format_block_counts, exact_at, ternary_at, without, exact_of_parts, ternary_of_parts, memory_at, may_have_numbers, number_of_parts, cell_number_at, numbers_at, slot_of_parts, slot_at, unit_at}
 use Rattle.rmt_bits.proofs.TestLaws.{split2, split3, split5, split8, split11}
 use Rattle.rmt_items.proofs.Codec.{Codec, codec_for, codec_kept, codec_where, codec_behind, codec_made, codec_give, choices_none, choices_when, codec_chosen, codec_listed, byte_codec, two_codec, four_codec, fours_codec, codec_respelled, codec_list, alone}
 use Rattle.rmt_items.proofs.Items.{codec_byte, flag_codec, lane_tests, lane_codec}
@@ -110,7 +110,7 @@ head_same x =
     sym (append_assoc (x.0.0 ∷ spelled_guard x.0.1) marks keys)
 
 slot_head_codec : Codec slot_head_at head_text (λ s. HeadKeeps s × (slot_of_head (head_parts s) ≡ s)) (λ _. Unit {0})
-unfolding slot_head_at
+unfolding slot_head_at slot_keys_at
 slot_head_codec =
     codec_made slot_of_head
     (codec_behind (codec_behind byte_codec (λ _. guard_codec)) (λ _. codec_behind marks_codec (λ _. codec_behind two_codec (λ _. codec_listed two_codec (codec_list lane_is_formed lane_codec)))))
@@ -162,7 +162,7 @@ abbrev format_text : ExactFormat → List ℕ
 format_text f = f.width ∷ (two_bytes f.per ++ (f.quanta ∷ f.first_way ∷ []))
 
 format_codec : (s : SlotUnit) → Codec (format_at s) format_text (FormatKeeps s) (λ _. Unit {0})
-unfolding format_at
+unfolding format_at exact_format_at
 format_codec s =
     codec_made format_of_parts
     (codec_behind (codec_byte (at_least 1)) (λ width. codec_behind (codec_kept (cells_fit (bits_of_lanes s.keys) width) two_codec) (λ _. codec_behind (codec_byte quanta_fit) (λ _. byte_codec))))

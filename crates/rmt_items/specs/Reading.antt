@@ -217,9 +217,13 @@ slot_with x memory numbers = record {
 abbrev pub slot_of_head : SlotHead → SlotUnit
 slot_of_head x = slot_with x Without []
 
+-- the numbers behind the guard of a slot, and the lanes of its key
+unfoldable pub slot_keys_at : Reader (Marks × (ℕ × List Lane))
+slot_keys_at bytes = (marks_at ⊗ number_at 2 ⊗ listed (number_at 2) lanes_at) bytes
+
 -- a slot that has no memory yet, nor numbers
 unfoldable pub slot_head_at : Reader SlotUnit
-slot_head_at bytes = made slot_of_head ((byte_at ⊗ guard_at) ⊗ marks_at ⊗ number_at 2 ⊗ listed (number_at 2) lanes_at) bytes
+slot_head_at bytes = made slot_of_head ((byte_at ⊗ guard_at) ⊗ slot_keys_at) bytes
 
 -- a block below that number
 unfoldable pub block_at : ℕ → Reader ℕ
@@ -243,11 +247,13 @@ cells_fit bits width per = nat_le 1 per && nat_le (per * (bits + 8)) (112 * widt
 abbrev pub format_of_parts : ℕ × (ℕ × (ℕ × ℕ)) → ExactFormat
 format_of_parts x = record { width = x.0; per = x.1.0; quanta = x.1.1.0; first_way = x.1.1.1 }
 
--- the width of a unit, the cells of a row, the quanta, and the first way
+-- the width of a unit, the cells of a row, the quanta, and the first way, where keys have that many bits
+unfoldable pub exact_format_at : ℕ → Reader ExactFormat
+exact_format_at bits bytes =
+    made format_of_parts (behind (kept (at_least 1) byte_at) (λ width. kept (cells_fit bits width) (number_at 2) ⊗ kept quanta_fit byte_at ⊗ byte_at)) bytes
+
 unfoldable pub format_at : SlotUnit → Reader ExactFormat
-format_at s bytes =
-    made format_of_parts
-    (behind (kept (at_least 1) byte_at) (λ width. kept (cells_fit (bits_of_lanes s.keys) width) (number_at 2) ⊗ kept quanta_fit byte_at ⊗ byte_at)) bytes
+format_at s bytes = exact_format_at (bits_of_lanes s.keys) bytes
 
 abbrev pub format_block_counts : SlotUnit → ExactFormat → BlockCounts
 format_block_counts s f = exact_block_counts f.width f.per f.quanta s.held s.counted

@@ -55,11 +55,16 @@ table_of_parts x = record {
   ranks = x.1.1.1.1.1;
 }
 
--- a table: its node and name, its kind, size, a byte for the width of each field of the key, its actions and its ranks
+abbrev pub TableBody : Type 0
+TableBody = Kind × (ℕ × (List ℕ × (List ActionName × List RankOf)))
+
+-- what stands behind the name of a table: its kind, size, a byte for the width of each field of the key, its actions and its ranks
+unfoldable pub table_body_at : Reader TableBody
+table_body_at bytes = behind table_kind_at (λ k. number_at 4 ⊗ listed (number_at 2) bytes_at ⊗ listed byte_at (list_at action_at) ⊗ ranks_at k) bytes
+
+-- a table: its node and name, and what stands behind them
 unfoldable pub table_at : Reader TableName
-table_at bytes =
-    made table_of_parts
-    ((byte_at ⊗ name_at) ⊗ behind table_kind_at (λ k. number_at 4 ⊗ listed (number_at 2) bytes_at ⊗ listed byte_at (list_at action_at) ⊗ ranks_at k)) bytes
+table_at bytes = made table_of_parts ((byte_at ⊗ name_at) ⊗ table_body_at) bytes
 
 abbrev pub names_of_parts : List TableName → Names
 names_of_parts tables = record { tables = tables }

@@ -1,5 +1,6 @@
 //! Items are read from the front of bytes, each in time and memory linear in its bytes.
 
+mod bounded;
 mod gate;
 pub mod header;
 mod items;

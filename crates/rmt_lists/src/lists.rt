@@ -22,7 +22,7 @@ use std::alloc::{AllocError, Global};
 use std::collections::BTreeSet;
 
 /// What a commit changes.
-#[derive(Drop, Debug)]
+#[derive(Drop)]
 pub struct Changes {
     /// The numbers of the entries that it takes away, by rising number.
     pub gone: Sequence<u32>,

@@ -7,6 +7,7 @@ mod FormedSlots
 mod FoundLaws
 mod LaidLaws
 mod LayLaws
+mod LayoutLaws
 mod MarkLaws
 pub mod MemoriesLaws
 mod PutLaws

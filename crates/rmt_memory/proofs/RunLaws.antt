@@ -2,7 +2,8 @@
 use Rattle.std.proofs.Common.{◌≡◌, ℕ, zero, suc, ◌+◌, ◌*◌, ◌<◌, List, [], ◌∷◌, ◌++◌, length, get_or, take, drop, sym, refl, ap, ◌∙◌, arith}
 use Rattle.std.specs.Prelude.{All}
 use Rattle.std.proofs.lemmas.List.Elements.{All-head, All-tail}
-use Rattle.std.proofs.lemmas.List.{length-append}
+use Rattle.std.proofs.lemmas.List.{length-append, append-nil, take_more}
+use Rattle.std.proofs.lemmas.List.Concat.{flat_map-append}
 use Rattle.std.proofs.Math.Seq.{take-append_seam, drop-append-add}
 use Rattle.rmt_bits.specs.Bits.{bytes_of}
 use Rattle.rmt_bits.proofs.ByteLaws.{length-bytes_of}
@@ -33,6 +34,14 @@ module _ (size : ℕ) (value : ℕ → ℕ) where
       ap (λ n. take size (drop n (front ++ runs_of size value cs))) next
       ∙ ap (take size) (drop-append-add front (runs_of size value cs) (at * size))
       ∙ run-is cs at d (omega (arith, lt))
+
+  -- the runs of one more
+  pub runs-next : (numbers : List CellNumber) (at : ℕ) (d : CellNumber) → at < length numbers
+      → runs_of size value (take (at + 1) numbers) ≡ runs_of size value (take at numbers) ++ bytes_of size (value (get_or numbers at d).cell)
+  runs-next numbers at d lt =
+      ap (λ (cs : List CellNumber). runs_of size value cs) (take_more numbers at d lt)
+      ∙ flat_map-append (λ (c : CellNumber). bytes_of size (value c.cell)) (take at numbers) (get_or numbers at d ∷ [])
+      ∙ ap (λ (bs : List ℕ). runs_of size value (take at numbers) ++ bs) (append-nil (bytes_of size (value (get_or numbers at d).cell)))
 
 -- runs of no bytes
 pub runs-none : (value : ℕ → ℕ) (numbers : List CellNumber) → runs_of 0 value numbers ≡ []

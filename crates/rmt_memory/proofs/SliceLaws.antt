@@ -26,6 +26,13 @@ vector-more w row first n value old new inside others here before =
 pub bits-below : (w first count n : ℕ) → n < count → (first + n + 1) * w ≤ (first + count) * w
 bits-below w first count n lt = mul-le (first + n + 1) w (first + count) w (omega (arith, lt)) (omega arith)
 
+-- the vector of a sight is among those of all
+pub seen-end : (words width sight : ℕ) → sight < 3 → (160 * words + sight) * width + width ≤ (160 * words + 3) * width
+seen-end words width sight few =
+    let most = bits-below width (160 * words) 3 sight few in
+    let next : (160 * words + sight + 1) * width ≡ (160 * words + sight) * width + width = omega arith in
+    omega (arith, most, next)
+
 -- a row has its bits in the first n of `count` vectors, and all other bits are as they were
 pub record RowBits (w row first count n : ℕ) (value : ℕ → Bool) (was bits : List ℕ) : Type 0 where
   pub size : length bits ≡ length was

@@ -19,7 +19,7 @@ use crate::marks::{Marks, marks_of};
 use crate::memory::SlotMemory;
 use crate::runs::{Runs, no_runs, run_at, zeros};
 use crate::ternary::sliced_of;
-use rmt_config::config::{CellNumber, Memory, SlotUnit, SramRow, Stage};
+use rmt_config::config::{CellNumber, SlotUnit, SramRow, Stage};
 use rmt_config::form::lane::key_bits;
 use rmt_config::form::parts::{exact_keys, exact_records, ternary_records};
 use rmt_config::part_ways::PartWays;
@@ -137,7 +137,7 @@ fn exact_data(
 }
 
 /// How an exact part keeps its keys.
-#[derive(Clone, Copy, Debug)]
+#[derive(Clone, Copy)]
 pub struct ExactFormat {
     /// How many blocks stand side by side for a key.
     pub width: u8,
@@ -147,33 +147,6 @@ pub struct ExactFormat {
     pub quanta: u8,
     /// The number of its first way.
     pub first_way: u8,
-}
-
-/// The format of a memory, which is all 0 where the memory is not exact.
-pub fn exact_format(memory: &Memory) -> ExactFormat
-    ensures { (k p d w : ℕ) (ks rs cs : List ℕ) → memory.now ≡ Exact k p d w ks rs cs →
-        result ≡ record { width = k; per = p; quanta = d; first_way = w } }
-{
-    match memory {
-        Memory::Exact {
-            width,
-            per,
-            quanta,
-            first_way,
-            ..
-        } => ExactFormat {
-            width: *width,
-            per: *per,
-            quanta: *quanta,
-            first_way: *first_way,
-        },
-        Memory::Without | Memory::Ternary { .. } => ExactFormat {
-            width: 0,
-            per: 0,
-            quanta: 0,
-            first_way: 0,
-        },
-    }
 }
 
 /// The memory of an exact part.

@@ -9,7 +9,7 @@ use crate::changes::{clear_head, set_run};
 use crate::entry_number::{number_bytes, number_in};
 use crate::exact::place_of;
 use crate::keys::{Keys, hide_key, put_key};
-use crate::lay::{exact_format, lay_exact, lay_ternary, without};
+use crate::lay::{ExactFormat, lay_exact, lay_ternary, without};
 use crate::looked::Looked;
 use crate::marks::{Marks, mark, may_have};
 use crate::runs::{Runs, run_at};
@@ -76,28 +76,34 @@ impl SlotMemory {
     {
         match &slot.memory {
             Memory::Without => Ok(without(alloc)),
-            Memory::Exact { keys, records, .. } => lay_exact(
-                alloc,
-                stage,
-                slot,
-                exact_format(&slot.memory),
-                keys.as_slice(),
-                records.as_slice(),
-            ),
+            Memory::Exact {
+                width,
+                per,
+                quanta,
+                first_way,
+                keys,
+                records,
+                ..
+            } => {
+                let format = ExactFormat {
+                    width: *width,
+                    per: *per,
+                    quanta: *quanta,
+                    first_way: *first_way,
+                };
+                let keys = keys.as_slice();
+                let records = records.as_slice();
+                lay_exact(alloc, stage, slot, format, keys, records)
+            }
             Memory::Ternary {
                 quanta,
                 keys,
                 records,
                 ..
             } => {
-                lay_ternary(
-                    alloc,
-                    stage,
-                    slot,
-                    *quanta,
-                    keys.as_slice(),
-                    records.as_slice(),
-                )
+                let keys = keys.as_slice();
+                let records = records.as_slice();
+                lay_ternary(alloc, stage, slot, *quanta, keys, records)
             }
         }
     }

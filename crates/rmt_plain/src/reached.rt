@@ -1,7 +1,7 @@
 //! How far a walk has come.
 
 /// Bytes of a frame that stand together.
-#[derive(Clone, Copy, Debug)]
+#[derive(Clone, Copy)]
 pub struct Span {
     /// The place of the first.
     pub from: usize,

@@ -13,7 +13,7 @@ use rmt_ast::program::{Header, Program, Tail, Target, Test};
 use std::alloc::{AllocError, Global};
 
 /// How the tail of a header ends.
-#[derive(Clone, Copy, Debug)]
+#[derive(Clone, Copy)]
 enum TailEnd {
     /// The frame ends inside it.
     Short,
@@ -24,7 +24,7 @@ enum TailEnd {
 }
 
 /// How a header ends.
-#[derive(Clone, Copy, Debug)]
+#[derive(Clone, Copy)]
 enum HeaderEnd {
     /// The frame ends inside it.
     Short,
@@ -37,7 +37,7 @@ enum HeaderEnd {
 }
 
 /// How a walk ends.
-#[derive(Clone, Copy, Debug)]
+#[derive(Clone, Copy)]
 pub enum WalkEnd {
     /// The frame ends inside a header.
     Short,

@@ -4,7 +4,7 @@ use Rattle.std.specs.Prelude.{All, nat_le, slice_get, slice_set}
 use Rattle.std.specs.List.{filter}
 use Rattle.std.specs.List.Sorted.{IsNonDecreasingBy}
 use Rattle.std.proofs.lemmas.Bool.{and_from, and_parts, cases_lt, eq-eqb, ne_eqb, eqb-true, eqb-false, le-leb, lt-leb, leb-true, leb-false}
-use Rattle.std.proofs.lemmas.List.{append-nil, map-append}
+use Rattle.std.proofs.lemmas.List.{append-nil, map-append, take_all}
 use Rattle.std.proofs.lemmas.Grind.{flat_map-append}
 use Rattle.std.proofs.lemmas.List.Elements.{All-append, All-nil, All-cons, All-head, All-tail, All-weaker, filter-append}
 use Rattle.std.proofs.lemmas.Option.{same_Some, slice_get_within}
@@ -17,6 +17,7 @@ use Rattle.rmt_config.specs.ParserForm.{entry_is_formed}
 use Rattle.rmt_config.specs.TailForm.{is_tail_of}
 use Rattle.rmt_ptcam.specs.Types.{ParserConfig, ParserState, ParserEntry, TailOf}
 use Rattle.rmt_ptcam.specs.declared.joining.rows.StateRows.{StateRows}
+use Rattle.rmt_ptcam.specs.Adding.{Adds}
 use Rattle.rmt_ptcam.specs.Grouping.{AreOwn, Stand, all_rows, by_state, groups_from, parser_in, state_in}
 use Rattle.rmt_ptcam.specs.Joining.{KeepsForm, Row, numbered, parser_of, rows_from, rows_in, rows_of, tails_in}
 use Rattle.rmt_ptcam.proofs.FormedRows.{IsRow, entries_of_rows, formed_parts, rows_are}
@@ -240,3 +241,13 @@ rows_more g i s there =
 
 pub states_more : (g : List StateRows) (i : ℕ) (s : StateRows) → slice_get g i ≡ Some s → map state_in (take (i + 1) g) ≡ map state_in (take i g) ++ state_in s ∷ []
 states_more g i s there = ap (map state_in) (take-slice_get g i s there) ∙ map-append state_in (take i g) (s ∷ [])
+
+-- all groups are in the parser
+pub all_flat : (g : List StateRows) (i : ℕ) (q : ParserConfig) → length g ≤ i → q.states ≡ map state_in (take i g) → Adds (all_rows (take i g)) [] q.entries [] q.tails → q ≡ parser_in g
+all_flat g i q le states rows =
+    let all : take i g ≡ g = take_all i g le in
+    let one : q.states ≡ map state_in g = states ∙ ap (map state_in) all in
+    let two : q.entries ≡ map (λ (x : Row). x.entry) (all_rows g) = rows.entries ∙ ap (λ (hs : List StateRows). map (λ (x : Row). x.entry) (all_rows hs)) all in
+    let three : q.tails ≡ tails_in 0 (all_rows g) = rows.tails ∙ ap (λ (hs : List StateRows). tails_in 0 (all_rows hs)) all in
+    ap (λ (l : List ParserState). record q { states = l }) one ∙ ap (λ (l : List ParserEntry). record q { states = map state_in g; entries = l }) two
+    ∙ ap (λ (l : List TailOf). record { states = map state_in g; entries = map (λ (x : Row). x.entry) (all_rows g); tails = l }) three

@@ -25,7 +25,7 @@ use Rattle.rmt_ptcam.specs.Words.{spread}
 use Rattle.rmt_ptcam.proofs.TestLaws.{widened_is}
 use Rattle.rmt_ptcam.specs.Joins.{behind_joins}
 use Rattle.rmt_ptcam.proofs.ClusteringLaws.{AsMany, good_same, many_stays}
-use Rattle.rmt_ptcam.proofs.FewerLaws.{filter_map}
+use Rattle.rmt_ptcam.proofs.BusyLaws.{filter_map}
 use Rattle.rmt_ptcam.proofs.FormedRows.{IsRow, rows_are}
 use Rattle.rmt_ptcam.proofs.GroupLaws.{made_by, parser_again, stand_again}
 use Rattle.rmt_ptcam.proofs.TailForms.{IsRowTail, other_tail}

@@ -29,6 +29,7 @@ pub mod CompactLaws
 pub mod ClusteringLaws
 pub mod PlainForm
 mod ClusterExamples
+pub mod BusyLaws
 pub mod FewerLaws
 pub mod StepsLaws
 pub mod JoinsHold

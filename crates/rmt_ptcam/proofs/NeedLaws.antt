@@ -1,6 +1,7 @@
 -- Fields of headers one behind another, and what is counted of them.
-use Rattle.std.proofs.Common.{◌||◌, ◌≡◌, ◌≢◌, ℕ, ◌+◌, ◌/◌, ◌%◌, ◌<◌, ◌≤◌, Bool, true, false, cond, eqb, nat_lt, min, List, [], ◌∷◌, ◌++◌, length, drop, replicate, Option, Some, None, Ok, refl, sym, ap, subst, ◌∙◌, inl, inr, arith}
+use Rattle.std.proofs.Common.{◌||◌, ◌≡◌, ◌≢◌, ℕ, ◌+◌, ◌/◌, ◌%◌, ◌<◌, ◌≤◌, Bool, true, false, cond, eqb, nat_lt, min, List, [], ◌∷◌, ◌++◌, get_or, length, drop, replicate, Option, Some, None, Ok, refl, sym, ap, subst, ◌∙◌, inl, inr, arith}
 use Rattle.std.specs.Prelude.{sum_by, slice_get, slice_index}
+use Rattle.std.specs.Option.{option_or}
 use Rattle.std.specs.List.{filter, list_any, range_with_len}
 use Rattle.std.proofs.lemmas.List.{at_drop_more, at_drop_all, length-append, length-replicate, append-nil}
 use Rattle.std.proofs.lemmas.List.Sums.{sum-map, sum_by-le-sum_by}
@@ -13,7 +14,7 @@ use Rattle.rmt_ast.specs.WellFormed.{IsProgram, bits_of}
 use Rattle.rmt_phv.specs.Packing.{pieces}
 use Rattle.rmt_ptcam.specs.declared.fault.ParserFault.{ParserFault}
 use Rattle.rmt_ptcam.specs.declared.fault.ParserFault.TheVariants.{ParserFull}
-use Rattle.rmt_ptcam.specs.Needs.{place_in, entries_in, first_fault, full_fault, refusal, unless}
+use Rattle.rmt_ptcam.specs.Needs.{place_in, entries_in, first_fault, full_fault, header_fault, refusal, unless}
 use Rattle.rmt_bits.proofs.OptionLaws.{option_or-none_right}
 
 -- a header of the program has at most 512 bits
@@ -69,6 +70,14 @@ few_pieces p fs =
 pub unless_ok : {X : Type 0} (o : Option ParserFault) (x y : X) → unless o x ≡ Ok y → o ≡ None
 unless_ok None x y e = refl
 unless_ok (Some f) x y e = absurd cc
+
+-- the next header of a program, as a loop sees it
+pub headers_more : (p : Program) (n : ℕ) (h : Header) (seen : List Header) → seen ≡ p.headers → n < length seen → h ≡ get_or seen n h
+    → first_fault p n (drop n p.headers) ≡ option_or (header_fault p n h) (first_fault p (n + 1) (drop (n + 1) p.headers))
+headers_more p n h seen same lt is =
+    let there : n < length p.headers = subst (λ (hs : List Header). n < length hs) same lt in
+    let item : get_or p.headers n h ≡ h = sym (is ∙ ap (λ (hs : List Header). get_or hs n h) same) in
+    at_drop_more (first_fault p n) p.headers n h there ∙ ap (λ (x : Header). first_fault p n (x ∷ drop (n + 1) p.headers)) item
 
 pub fits_in : (p : Program) → refusal p ≡ None → entries_in p.headers ≤ 256
 fits_in p e = by (nat_lt 256 (entries_in p.headers)) refl (option_or-none_right (first_fault p 0 p.headers) (full_fault p) e)

@@ -9,9 +9,10 @@ use Rattle.std.proofs.lemmas.Bool.Decides.{eqb_tells}
 use Rattle.rmt_bits.specs.Bits.{number_of, bytes_of}
 use Rattle.rmt_bits.specs.declared.lane.Lane.{Lane}
 use Rattle.rmt_bits.proofs.ListLaws.{range_more, filter-range_more}
-use Rattle.rmt_ptcam.specs.Types.{Program, Header, Tail, Test, ParserConfig, ParserState, ParserEntry, Extract, TailOf}
+use Rattle.rmt_ast.specs.declared.program.Target.TheVariants as target
+use Rattle.rmt_ptcam.specs.Types.{Program, Header, Tail, Target, Test, ParserConfig, ParserState, ParserEntry, Extract, TailOf}
 use Rattle.rmt_ast.specs.State.{width_of}
-use Rattle.rmt_ast.specs.WellFormed.{IsTest, AreTests, bits_of}
+use Rattle.rmt_ast.specs.WellFormed.{AreTests, IsTarget, IsTest, bits_of}
 use Rattle.rmt_phv.specs.Places.{high_first}
 use Rattle.rmt_config.specs.declared.config.Extract.TheVariants.{Bits}
 use Rattle.rmt_config.specs.LaneForm.{bits_of_lanes}
@@ -19,7 +20,7 @@ use Rattle.rmt_config.specs.Parser.{lookup_value}
 use Rattle.rmt_ptcam.specs.Needs.{place_in, entry_count, entries_in, refusal}
 use Rattle.rmt_phv.specs.Places.{KeepsApart}
 use Rattle.rmt_ast.specs.Places.{lanes_of}
-use Rattle.rmt_ptcam.specs.Plain.{bits_from, with_field, state_of, looked_up, tail_at, tails_from, entries_of, entries_from, plain}
+use Rattle.rmt_ptcam.specs.Plain.{IsNear, bits_from, with_field, state_of, looked_up, tail_at, tails_for, tails_from, entry_of_case, entry_to, entries_of, entries_from, plain}
 use Rattle.rmt_ptcam.proofs.NeedLaws.{fits_in}
 use Rattle.rmt_phv.proofs.LaneLaws.{lanes_width}
 use Rattle.rmt_bits.proofs.ByteLaws.{number_of-zeros}
@@ -200,6 +201,12 @@ tail_more p n h t first entry from len start so_far next le place width is pushe
 
 -- ---- headers
 
+-- the headers that targets go to have states
+pub near : (p : Program) (n : ℕ) (t : Target) → length p.headers ≤ 64 → IsTarget p n t → IsNear t
+near p n target.Accept few is = tt
+near p n target.Reject few is = tt
+near p n (target.Node m) few is = omega (arith, few, is.1)
+
 -- what holds of the parts of the parser that stand before the headers from number n on
 pub record AreBuilt (p : Program) (places : List (List Lane)) (n : ℕ) (states : List ParserState) (entries : List ParserEntry) (tails : List TailOf) : Type 0 where
   pub states_so_far : states ++ map (state_of p) (drop n p.headers) ≡ (plain p places).states
@@ -217,6 +224,31 @@ few_entries p places n h entries lt is fits so_far =
     sum_by-drop_more entry_count p.headers n h lt ∙ ap (λ (x : Header). entry_count x + entries_in (drop (n + 1) p.headers)) (sym is) in
     let few = fits_in p fits in
     omega (arith, all, parts, left, next, few)
+
+-- the next header
+pub built_more : (p : Program) (places : List (List Lane)) (n : ℕ) (h : Header) (before after : ParserConfig) → n < length p.headers → h ≡ get_or p.headers n h
+    → after.states ≡ before.states ++ state_of p h ∷ [] → after.entries ≡ before.entries ++ entries_of p places n h → after.tails ≡ before.tails ++ tails_for p n h (length before.entries) h.tail
+    → AreBuilt p places n before.states before.entries before.tails → AreBuilt p places (n + 1) after.states after.entries after.tails
+built_more p places n h before after lt is states entries tails built =
+    let left : drop n p.headers ≡ h ∷ drop (n + 1) p.headers = at_drop_more (λ (hs : List Header). hs) p.headers n h lt ∙ ap (λ (x : Header). x ∷ drop (n + 1) p.headers) (sym is) in
+    let hs : List Header = drop (n + 1) p.headers in
+    let own = length-append (map (entry_of_case p places n h) h.cases) (entry_to places n h 0 0 h.other ∷ []) in
+    let cases = length-map h.cases (entry_of_case p places n h) in
+    let all = ap length entries ∙ length-append before.entries (entries_of p places n h) in
+    let long : length after.entries ≡ length before.entries + entry_count h = omega (arith, own, cases, all) in
+    record {
+      states_so_far =
+          ap (λ (ss : List ParserState). ss ++ map (state_of p) hs) states ∙ append_assoc before.states (state_of p h ∷ []) (map (state_of p) hs)
+          ∙ ap (λ (gs : List Header). before.states ++ map (state_of p) gs) (sym left) ∙ built.states_so_far;
+      entries_so_far =
+          ap (λ (es : List ParserEntry). es ++ entries_from p places (n + 1) hs) entries ∙ append_assoc before.entries (entries_of p places n h) (entries_from p places (n + 1) hs)
+          ∙ ap (λ (gs : List Header). before.entries ++ entries_from p places n gs) (sym left) ∙ built.entries_so_far;
+      tails_so_far =
+          ap (λ (ts : List TailOf). ts ++ tails_from p (n + 1) (length after.entries) hs) tails
+          ∙ ap (λ k. (before.tails ++ tails_for p n h (length before.entries) h.tail) ++ tails_from p (n + 1) k hs) long
+          ∙ append_assoc before.tails (tails_for p n h (length before.entries) h.tail) (tails_from p (n + 1) (length before.entries + entry_count h) hs)
+          ∙ ap (λ (gs : List Header). before.tails ++ tails_from p n (length before.entries) gs) (sym left) ∙ built.tails_so_far;
+    }
 
 -- no header is left
 pub built_all : (p : Program) (places : List (List Lane)) (n : ℕ) (states : List ParserState) (entries : List ParserEntry) (tails : List TailOf) → length p.headers ≤ n

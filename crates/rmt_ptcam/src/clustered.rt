@@ -3,20 +3,39 @@
 ghost use Rattle.std.specs.Prelude.{◌≡◌, ◌≢◌, ◌≤◌, nat_lt, length, Some, Err, IfOk, IsTrue};
 ghost use Rattle.std.specs.List.{list_all};
 ghost use Rattle.rmt_ptcam.specs.Clauses.{AgreesWith, IsParser, IsProgram, KeepsApart, MeetsNoMore, TailOf, clustered_or, joins, parser_is_formed, plain, replayed};
+ghost use Rattle.rmt_ptcam.specs.Clustering.{all_joined as all_joined_of};
+ghost use Rattle.rmt_ptcam.specs.Joining.{KeepsForm};
 ghost use Rattle.rmt_ptcam.specs.declared.fault.ParserFault.TheVariants.{NoMemory};
 
 pub(crate) mod clustering;
 pub(crate) mod compaction;
 
 use crate::clustered::clustering::all_joined;
-use crate::clustered::compaction::compact;
+use crate::clustered::compaction::compacted;
 use crate::fault::ParserFault;
 use crate::joining::rows::{flattened, grouped};
 use crate::plain::plain_parser;
 use rmt_ast::program::Program;
 use rmt_config::config::ParserConfig;
 use rmt_phv::places::Places;
-use std::alloc::Global;
+use std::alloc::{AllocError, Global};
+use std::mem::drop;
+
+/// A copy of a plain parser behind the joins of the rule.
+fn behind_rule(
+    alloc: Global,
+    program: &Program,
+    plain: &ParserConfig,
+) -> Result<ParserConfig, AllocError>
+    requires few { length program.now.headers ≤ 64 }
+    requires keeps { KeepsForm plain.now }
+    ensures joined { IfOk result (λ parser. parser ≡ all_joined_of program.now plain.now) }
+    ensures keeps { IfOk result KeepsForm }
+{
+    let mut groups = grouped(alloc, plain)?;
+    all_joined(alloc, program, &mut groups)?;
+    flattened(alloc, &groups)
+}
 
 /// The clustered parser of a program, into these places of its fields: the plain parser, some of whose entries are joined.
 ///
@@ -53,8 +72,8 @@ pub fn clustered_parser(
     ensures few { IfOk result (λ parser. length parser.entries ≤ length (plain program.now places.now).entries) }
 {
     let plain = plain_parser(alloc, program, places)?;
-    let mut groups = grouped(alloc, &plain)?;
-    all_joined(alloc, program, &mut groups)?;
-    let parser = flattened(alloc, &groups)?;
-    Ok(compact(alloc, &parser)?)
+    let parser = behind_rule(alloc, program, &plain);
+    drop(plain);
+    let parser = parser?;
+    Ok(compacted(alloc, parser)?)
 }

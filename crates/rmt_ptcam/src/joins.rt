@@ -5,12 +5,12 @@ ghost use Rattle.rmt_ptcam.specs.Clauses.{IsProgram, KeepsApart, parser_is_forme
 ghost use Rattle.rmt_ptcam.specs.declared.fault.ParserFault.TheVariants.{NoMemory};
 ghost use Rattle.rmt_ptcam.specs.Clustering.{clustered};
 ghost use Rattle.rmt_ptcam.specs.Grouping.{Stand, parser_in};
-ghost use Rattle.rmt_ptcam.specs.Joining.{ParsesAlike};
+ghost use Rattle.rmt_ptcam.specs.Joining.{KeepsForm, ParsesAlike};
 ghost use Rattle.rmt_ptcam.specs.Joins.{behind_joins as behind_joins_of, joins_or, replayed as replayed_of};
 ghost use Rattle.rmt_ptcam.specs.Plain.{plain};
 
 use crate::clustered::clustering::all_joined;
-use crate::clustered::compaction::compact;
+use crate::clustered::compaction::compacted;
 use crate::fault::{JoinFault, ParserFault};
 use crate::joining::in_place::join_in;
 use crate::joining::rows::{StateRows, flattened, grouped};
@@ -20,6 +20,7 @@ use rmt_bits::sequence::Sequence;
 use rmt_config::config::ParserConfig;
 use rmt_phv::places::Places;
 use std::alloc::{AllocError, Global};
+use std::mem::drop;
 
 /// An entry that is joined to the entries of the state that it goes to.
 #[derive(Clone, Copy, Debug, PartialEq, Eq)]
@@ -67,6 +68,22 @@ fn all_in(alloc: Global, groups: &mut [StateRows], joins: &[Join]) -> Result<boo
     Ok(true)
 }
 
+/// A copy of a parser behind joins, one after another, where all can be made.
+fn behind_joins(
+    alloc: Global,
+    parser: &ParserConfig,
+    joins: &[Join],
+) -> Result<Option<ParserConfig>, AllocError>
+    requires keeps { KeepsForm parser.now }
+    ensures { IfOk result (λ o. o ≡ behind_joins_of parser.now joins.now) }
+{
+    let mut groups = grouped(alloc, parser)?;
+    if !all_in(alloc, &mut groups, joins)? {
+        return Ok(None);
+    }
+    Ok(Some(flattened(alloc, &groups)?))
+}
+
 /// Makes joins on a parser, one after another; then states that can't be met are left out, and the others numbered in order.
 ///
 /// It is `None` where the entry of a join isn't there by then, or can't be joined, as `join` says. A join that can't be made
@@ -92,10 +109,11 @@ pub fn replayed(
     // It keeps the rules of form.
     ensures formed { IfOk result (λ o. IfSome o (λ q. IsTrue (parser_is_formed q))) }
 {
-    let mut groups = grouped(alloc, &parser)?;
-    if !all_in(alloc, &mut groups, joins)? {
-        return Ok(None);
+    let behind = behind_joins(alloc, &parser, joins);
+    drop(parser);
+    let behind = behind?;
+    match behind {
+        Some(behind) => Ok(Some(compacted(alloc, behind)?)),
+        None => Ok(None),
     }
-    let behind = flattened(alloc, &groups)?;
-    Ok(Some(compact(alloc, &behind)?))
 }

@@ -1,11 +1,14 @@
 //! The plain parser of a program: one state for each header.
 
-ghost use Rattle.std.specs.Prelude.{◌≡◌, ◌≢◌, ◌≤◌, nat_lt, Err, IfOk, IsTrue, length};
+ghost use Rattle.std.specs.Prelude.{◌≡◌, ◌≢◌, ◌≤◌, ◌+◌, ◌++◌, ◌∷◌, [], nat_lt, Err, IfOk, IsTrue, OnOk, length};
 ghost use Rattle.std.specs.List.{list_all};
+ghost use Rattle.rmt_ast.specs.WellFormed.{IsHeader};
+ghost use Rattle.rmt_config.specs.LaneForm.{bits_of_lanes};
+ghost use Rattle.rmt_phv.specs.Places.{high_first};
 ghost use Rattle.rmt_ptcam.specs.Clauses.{AgreesWith, IsParser, IsProgram, KeepsApart, TailOf, bits_of, parser_is_formed};
 ghost use Rattle.rmt_ptcam.specs.declared.fault.ParserFault.TheVariants.{NoMemory};
-ghost use Rattle.rmt_ptcam.specs.Needs.{lookups_of};
-ghost use Rattle.rmt_ptcam.specs.Plain.{planned, state_of as state_of_header};
+ghost use Rattle.rmt_ptcam.specs.Needs.{entry_count};
+ghost use Rattle.rmt_ptcam.specs.Plain.{entries_of, planned, state_of as state_of_header, tails_for};
 
 mod cases;
 mod entries;
@@ -14,12 +17,12 @@ pub mod need;
 mod pieces;
 
 use crate::fault::ParserFault;
+use crate::joining::entry_rows::empty_parser;
 use crate::plain::entries::{push_entries, push_tails};
 use crate::plain::headers::is_looked_up;
 use crate::plain::need::parser_need;
 use rmt_ast::program::{Header, Program};
 use rmt_bits::answer::Bytes;
-use rmt_bits::sequence::Sequence;
 use rmt_config::config::{ParserConfig, ParserState};
 use rmt_phv::places::Places;
 use std::alloc::{AllocError, Global};
@@ -37,6 +40,39 @@ fn state_of(alloc: Global, program: &Program, header: &Header) -> Result<ParserS
         }
     }
     Ok(ParserState { lookups })
+}
+
+/// Adds the state of a header, its entries and their tails behind those that stand.
+fn push_header(
+    alloc: Global,
+    parser: &mut ParserConfig,
+    program: &Program,
+    places: &Places,
+    number: u8,
+    header: &Header,
+) -> Result<(), AllocError>
+    requires program { IsProgram program.now }
+    requires header { IsHeader program.now number header.now }
+    requires short { bits_of_lanes (high_first places.now header.now.fields) ≤ 512 }
+    requires few { length parser.old.entries + entry_count header.now ≤ 65536 }
+    ensures states { OnOk result (parser.new.states ≡ parser.old.states ++ state_of_header program.now header.now ∷ []) }
+    ensures entries { OnOk result (parser.new.entries ≡ parser.old.entries ++ entries_of program.now places.now number header.now) }
+    ensures tails { OnOk result (parser.new.tails ≡ parser.old.tails ++ tails_for program.now number header.now (length parser.old.entries) header.now.tail) }
+{
+    let first = parser.entries.len();
+    let state = state_of(alloc, program, header)?;
+    push_tails(&mut parser.tails, program, number, header, first)?;
+    push_entries(
+        alloc,
+        &mut parser.entries,
+        program,
+        places,
+        number,
+        header,
+        &state,
+    )?;
+    parser.states.push(state)?;
+    Ok(())
 }
 
 /// The plain parser of a program, into these places of its fields.
@@ -69,26 +105,9 @@ pub fn plain_parser(
     ensures agrees { IfOk result (λ parser. AgreesWith parser places.now program.now) }
 {
     parser_need(program)?;
-    let mut states = Sequence::new(alloc);
-    let mut entries = Sequence::new(alloc);
-    let mut tails = Sequence::new(alloc);
+    let mut parser = empty_parser(alloc);
     for (number, header) in program.headers.as_slice().iter().enumerate() {
-        let state = state_of(alloc, program, header)?;
-        push_tails(&mut tails, program, number as u8, header, entries.len())?;
-        push_entries(
-            alloc,
-            &mut entries,
-            program,
-            places,
-            number as u8,
-            header,
-            &state,
-        )?;
-        states.push(state)?;
+        push_header(alloc, &mut parser, program, places, number as u8, header)?;
     }
-    Ok(ParserConfig {
-        states,
-        entries,
-        tails,
-    })
+    Ok(parser)
 }

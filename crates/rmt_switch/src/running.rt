@@ -246,6 +246,14 @@ fn receivers<'a>(groups: &'a Groups, port: u16, own: &'a [u16]) -> &'a [u16]
     if line.is_empty() { own } else { line }
 }
 
+/// The captures of the ports, of all that there is of a run.
+fn captures_of(running: Running) -> Vec<Vec<u8>>
+    ensures { result.items ≡ running.ports.files.items }
+{
+    let ports = running.ports;
+    ports.files
+}
+
 /// What a run gives at its end.
 fn finish(alloc: Global, running: Running, capture: &Capture) -> Result<Switched, OutOfMemory>
     requires head { length capture.now.head ≡ 24 }
@@ -254,16 +262,15 @@ fn finish(alloc: Global, running: Running, capture: &Capture) -> Result<Switched
         Ends (switch_of c groups every) file capture.now running →
         s ≡ switched c groups every file capture.now) }
 {
-    let Running { ports, dropped, .. } = running;
     let counts = SwitchCounts {
         packets: capture.records.len() as u64,
         skipped: u64::from(capture.skipped),
-        out: ports.out,
-        dropped,
-        queue: ports.queue,
-        cells: ports.cells,
+        out: running.ports.out,
+        dropped: running.dropped,
+        queue: running.ports.queue,
+        cells: running.ports.cells,
     };
-    let files = files(alloc, ports.files)?;
+    let files = files(alloc, captures_of(running))?;
     Ok(Switched { files, counts })
 }
 

@@ -1,3 +1,4 @@
+pub mod AddedLaws
 pub mod AfterLaws
 pub mod ApartLaws
 pub mod BookFacts

@@ -65,6 +65,12 @@ told-more told seen [] k is = ap (λ b. map told (cond b (k.now ∷ []) [])) is
 told-more told seen (x ∷ ks) k is =
     told-cons told (seen x.now) x.now (filter seen (map (λ (x : Bor Kept). x.now) (ks ++ k ∷ []))) (filter seen (map (λ (x : Bor Kept). x.now) ks)) (told k.now ∷ []) (told-more told seen ks k is)
 
+-- a cell that is unseen tells nothing
+pub unseen-more : (seen : Kept → Bool) (ks : List (Bor Kept)) (k : Bor Kept) → seen k.now ≡ false
+    → filter seen (map (λ (x : Bor Kept). x.now) (ks ++ k ∷ [])) ≡ filter seen (map (λ (x : Bor Kept). x.now) ks)
+unseen-more seen [] k is = ap (λ b. cond b (k.now ∷ []) []) is
+unseen-more seen (x ∷ ks) k is = ap (λ (xs : List Kept). cond (seen x.now) (x.now ∷ xs) xs) (unseen-more seen ks k is)
+
 -- ---- the parts that are gone over
 
 pub parts-more : {X : Type 0} (f : X → List Entry) (xs seen : List X) (i : ℕ) (x : X) → seen ≡ xs → i < length seen → x ≡ get_or seen i x

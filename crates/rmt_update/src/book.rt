@@ -9,6 +9,7 @@ ghost use Rattle.rmt_config.specs.RunCells.{own_cells};
 ghost use Rattle.rmt_update.specs.BookStands.{BookStands};
 ghost use Rattle.rmt_book.specs.Listed.{IsTable};
 
+mod adding;
 mod after;
 pub mod book_index;
 mod changing;
@@ -34,6 +35,7 @@ pub mod settling;
 mod taking;
 mod turning;
 
+use crate::book::adding::add_made;
 use crate::book::book_index::BookIndex;
 use crate::book::seen::entries_at;
 use rmt_ast::entry::EntryLists;
@@ -122,10 +124,13 @@ impl Book {
         ensures entries { IfOk result (λ entries. (c : ConfigOf) (cells : RunCells) (lists : List (List Entry)) → BookStands c cells lists self.now → entries ≡ lists) }
         ensures fault { IfErr result (λ fault. fault ≡ UpdateFault.NoMemory) }
     {
-        let mut lists = EntryLists::new(alloc);
+        let mut lists = Vec::new(alloc);
         for node in 0..self.nodes {
-            lists.push(entries_at(alloc, self.odd, self.tables.as_slice(), node)?)?;
+            add_made(
+                &mut lists,
+                entries_at(alloc, self.odd, self.tables.as_slice(), node),
+            )?;
         }
-        Ok(lists)
+        Ok(EntryLists::from_vec(lists))
     }
 }

@@ -3,9 +3,9 @@ use Rattle.std.proofs.Common.{◌≡◌, ◌≢◌, ℕ, zero, suc, ◌+◌, ◌
 use Rattle.std.specs.Prelude.{All, IsSomeAnd, nat_lt, slice_get}
 use Rattle.std.specs.List.{AllZip, range_with_len}
 use Rattle.std.proofs.lemmas.Bool.{cases_lt, eq-eqb, eqb-true}
-use Rattle.std.proofs.lemmas.List.{append-nil, append_cancel_left, at_drop_more, drop_all, get_or-reverse, get_or-set_other, get_or-set_same, length-reverse, reverse-reverse, take-append-drop, take_all, take_more}
-use Rattle.std.proofs.lemmas.List.Elements.{All-contains, All-head, All-tail, All-weaker}
-use Rattle.std.proofs.lemmas.List.Sums.{sum_by-cons, sum_by_more}
+use Rattle.std.proofs.lemmas.List.{append-nil, append_cancel_left, at_drop_more, drop_all, get_or-reverse, get_or-set_other, get_or-set_same, length-reverse, map-append, reverse-reverse, take-append-drop, take_all, take_more}
+use Rattle.std.proofs.lemmas.List.Elements.{All-contains, All-head, All-tail, All-weaker, filter-append}
+use Rattle.std.proofs.lemmas.List.Sums.{fold-append, sum_by-cons, sum_by_more}
 use Rattle.std.proofs.Math.Seq.{drop-cons}
 use Rattle.rmt_bits.proofs.AlikeLaws.{filter_alike}
 use Rattle.rmt_bits.proofs.MostLaws.{greatest-le, items-le}
@@ -20,7 +20,7 @@ use Rattle.rmt_pack.specs.Starts.{stages_of}
 use Rattle.rmt_refine.specs.Types.{Program, Config, Stage, Test, GateTest}
 use Rattle.rmt_refine.specs.Units.{UnitCarried, UnitsCarried, last_stage, nodes_in, tests_from}
 use Rattle.rmt_verify.specs.Types.{Part}
-use Rattle.rmt_verify.specs.EdgeSpans.{IsPartOf, no_span, span_of}
+use Rattle.rmt_verify.specs.EdgeSpans.{IsPartOf, no_span, span_of, widened}
 use Rattle.rmt_verify.specs.declared.edges.spans.Span.{Span}
 use Rattle.rmt_verify.proofs.EdgeLaws.{IsSpan, is_span}
 
@@ -74,6 +74,40 @@ quanta_more parts i d k quanta more v lt within is_more is_v so_far n = by ((get
         let before = so_far n in
         let sums : get_or quanta n 0 ≡ told (quanta_in (take (i + 1) parts) n k) = omega (arith, before, step, none) in
         get_or-set_other quanta x.node n v 0 other ∙ sums
+
+-- the same of the stages in which a node stands
+pub spans_more : (parts : List Part) (i : ℕ) (d : Part) (spans : List (Option Span)) (v : Option Span) → i < length parts → (get_or parts i d).node < length spans
+    → v ≡ widened (get_or spans (get_or parts i d).node no_span) (get_or parts i d).stage
+    → ((n : ℕ) → get_or spans n no_span ≡ span_of (stages_of (take i parts) n))
+    → (n : ℕ) → get_or (set spans (get_or parts i d).node v) n no_span ≡ span_of (stages_of (take (i + 1) parts) n)
+spans_more parts i d spans v lt within is_v so_far n = by ((get_or parts i d).node == n) refl
+  where
+    x : Part
+    x = get_or parts i d
+
+    own : Part → Bool
+    own y = y.node == n
+
+    stage : Part → ℕ
+    stage y = y.stage
+
+    step : stages_of (take (i + 1) parts) n ≡ stages_of (take i parts) n ++ map stage (filter own (x ∷ []))
+    step =
+        ap (λ (ps : List Part). stages_of ps n) (take_more parts i d lt) ∙ ap (map stage) (filter-append own (take i parts) (x ∷ []))
+        ∙ map-append stage (filter own (take i parts)) (filter own (x ∷ []))
+
+    by : (b : Bool) → (x.node == n) ≡ b → get_or (set spans x.node v) n no_span ≡ span_of (stages_of (take (i + 1) parts) n)
+    by true e =
+        let same : x.node ≡ n = eqb-true x.node n e in
+        let here : get_or (set spans x.node v) n no_span ≡ v = subst (λ m. get_or (set spans x.node v) m no_span ≡ v) same (get_or-set_same spans x.node v no_span within) in
+        let value : v ≡ widened (span_of (stages_of (take i parts) n)) x.stage = is_v ∙ ap (λ m. widened (get_or spans m no_span) x.stage) same ∙ ap (λ o. widened o x.stage) (so_far n) in
+        let grown : stages_of (take (i + 1) parts) n ≡ stages_of (take i parts) n ++ x.stage ∷ [] = step ∙ ap (λ (c : Bool). stages_of (take i parts) n ++ map stage (cond c (x ∷ []) [])) e in
+        here ∙ value ∙ sym (ap span_of grown ∙ fold-append widened None (stages_of (take i parts) n) (x.stage ∷ []))
+    by false e =
+        let other : n ≢ x.node = λ (same : n ≡ x.node). absurd (let yes = eq-eqb x.node n (sym same) in cc) in
+        let grown : stages_of (take (i + 1) parts) n ≡ stages_of (take i parts) n =
+        step ∙ ap (λ (c : Bool). stages_of (take i parts) n ++ map stage (cond c (x ∷ []) [])) e ∙ append-nil (stages_of (take i parts) n) in
+        get_or-set_other spans x.node n v no_span other ∙ so_far n ∙ sym (ap span_of grown)
 
 -- the nodes that have quanta there, rising, are those that stand in the stage
 pub nodes_are : (p : Program) (parts : List Part) (k : ℕ) (quanta : List ℕ) → length quanta ≡ length p.nodes → ((n : ℕ) → get_or quanta n 0 ≡ told (quanta_in parts n k))

@@ -5,6 +5,7 @@ pub mod Spells
 pub mod Readers
 pub mod Reading
 pub mod ParserMade
+pub mod FirstParts
 pub mod EdgeSpans
 pub mod WrittenApart
 pub mod ReadThere

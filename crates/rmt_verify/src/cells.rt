@@ -69,24 +69,25 @@ fn node_holds(
         → (IsTrue holds ↔ TablesHeld given.now.program.now given.now.config.now cells given.now.entries.now node)) }
 {
     let program = given.program;
-    match (table_at(program, node), given.entries.get(node)) {
-        (Some(table), Some(list)) => {
-            let widths = widths_of(alloc, program, table)?;
-            table_holds(
-                alloc,
-                &TableAt {
-                    program,
-                    config: given.config,
-                    told,
-                    node: node as u32,
-                    table,
-                    widths: &widths,
-                    entries: list.as_slice(),
-                },
-            )
-        }
-        _ => Ok(true),
-    }
+    let Some(table) = table_at(program, node) else {
+        return Ok(true);
+    };
+    let Some(list) = given.entries.get(node) else {
+        return Ok(true);
+    };
+    let widths = widths_of(alloc, program, table)?;
+    table_holds(
+        alloc,
+        &TableAt {
+            program,
+            config: given.config,
+            told,
+            node: node as u32,
+            table,
+            widths: &widths,
+            entries: list.as_slice(),
+        },
+    )
 }
 
 /// Whether the cells of each table hold the table's entries.

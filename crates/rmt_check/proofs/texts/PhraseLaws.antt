@@ -1,8 +1,9 @@
 -- What is read in the trees of a rule, and what is among the parts of a phrase, in whatever form they stand: by the grammar.
-use Rattle.std.proofs.Common.{◌≡◌, ◌∙◌, inl, inr, ℕ, zero, suc, ◌≤◌, Bool, true, false, List, [], ◌∷◌, ◌++◌, Option, None, map, length, refl, sym, ap, ap₂, subst, append_assoc, arith, if◌then◌else◌, Some, unwrap_or, All}
-use Rattle.std.specs.Prelude.{◌&&◌, ◌||◌, IsSome, not}
+use Rattle.std.proofs.Common.{◌≡◌, ◌∙◌, inl, inr, ℕ, zero, suc, ◌≤◌, Bool, true, false, List, [], ◌∷◌, ◌++◌, Option, None, map, length, refl, sym, ap, ap₂, subst, append_assoc, arith, if◌then◌else◌, Some, unwrap_or, All, get_or, nat_lt}
+use Rattle.std.specs.Prelude.{◌==◌, ◌&&◌, ◌||◌, IsSome, not}
 use Rattle.std.specs.List.{AllByRecursion, list_any, list_all, cons_option}
 use Rattle.std.specs.Option.{option_or, IfSome}
+use Rattle.std.proofs.lemmas.Bool.Decides.{nat_tests}
 use Rattle.std.proofs.lemmas.Bool.{and_parts, or_cases, false≢true}
 use Rattle.rmt_check.specs.Parts.{Terminal, Rule, Tree}
 use Rattle.rmt_syntax.specs.declared.grammar.Part.{Part}
@@ -79,20 +80,35 @@ same_part _ _ = false
 part_is : (p q : Part) → same_part p q ≡ true → p ≡ q
 part_is p q e = grind (arith, same_is, rule_is)
 
--- a phrase that goes on with itself, of those that have a part to come
+-- the phrases that go on with themselves, of those that have a part to come
+abbrev looping : List Phrase
+looping =
+    phrase.Done ∷ Whole rule.Program ∷ phrase.HeaderFields ∷ phrase.SelectNames ∷ phrase.Cases ∷ phrase.MoreValues ∷ phrase.KeyFields ∷ phrase.KeyActions ∷ phrase.Arms ∷ []
+
+-- the place of a phrase among them, 0 for one that is none
+abbrev loop_number : Phrase → ℕ
+loop_number (Whole rule.Program) = 1
+loop_number phrase.HeaderFields = 2
+loop_number phrase.SelectNames = 3
+loop_number phrase.Cases = 4
+loop_number phrase.MoreValues = 5
+loop_number phrase.KeyFields = 6
+loop_number phrase.KeyActions = 7
+loop_number phrase.Arms = 8
+loop_number _ = 0
+
+-- whether two are the same such phrase
 abbrev again : Phrase → Phrase → Bool
-again (Whole rule.Program) (Whole rule.Program) = true
-again phrase.HeaderFields phrase.HeaderFields = true
-again phrase.SelectNames phrase.SelectNames = true
-again phrase.Cases phrase.Cases = true
-again phrase.MoreValues phrase.MoreValues = true
-again phrase.KeyFields phrase.KeyFields = true
-again phrase.KeyActions phrase.KeyActions = true
-again phrase.Arms phrase.Arms = true
-again _ _ = false
+again x y = nat_lt 0 (loop_number x) && (loop_number x == loop_number y)
+
+stands_at : (x : Phrase) → nat_lt 0 (loop_number x) ≡ true → get_or looping (loop_number x) phrase.Done ≡ x
+stands_at x e = grind arith
 
 again_is : (x y : Phrase) → again x y ≡ true → x ≡ y
-again_is x y e = grind arith
+again_is x y e =
+    let both = and_parts (nat_lt 0 (loop_number x)) (loop_number x == loop_number y) e in
+    let same : loop_number x ≡ loop_number y = grind (arith, nat_tests, both.1) in
+    sym (stands_at x both.0) ∙ ap (λ n. get_or looping n phrase.Done) same ∙ stands_at y (ap (nat_lt 0) (sym same) ∙ both.0)
 
 -- some parts begin with a run of parts
 abbrev begins : List Part → List Part → Bool

@@ -5,7 +5,7 @@ ghost use Rattle.rmt_check.specs.Meaning.{leaf_of, expr_of, assign_of, action_of
 ghost use Rattle.rmt_check.specs.Sizes.{IsSized, IsSizedAction};
 
 use crate::building::known::{field_number, number_among};
-use crate::building::mapped::{Build, mapped};
+use crate::building::mapped::{Build, mapped, mapped_with};
 use crate::names::lookup::Lookup;
 use crate::names::params::{ActionNames, InAction};
 use crate::pairs::both;
@@ -82,7 +82,7 @@ fn assigns_of<N: Lookup>(
     ensures { IfOk result (λ assigns. assigns ≡ map (assign_of (N.text names.now) action.now) action.now.assigns) }
 {
     let own = ActionNames::of(alloc, action)?;
-    mapped(alloc, &(names, own), action.assigns.as_slice())
+    mapped_with(alloc, (names, own), action.assigns.as_slice())
 }
 
 /// An action with the widths of its parameters.

@@ -47,14 +47,13 @@ fn tests_of<N: Lookup>(
     ensures { IfOk result (λ tests. tests.items
         ≡ map (λ (x : Ident × ValueText). test_of (width_of (N.text names.now) (selected (N.text names.now) header.now x.0)) x.1) (zip header.now.select values.now)) }
 {
-    let pairs = header.select.as_slice().iter().zip(values);
-    pairs
-        .map(
-            |(ident, value)|
-                requires { IsSized (N.text names.now) }
-            { test_at(names, own_key(names, header, ident), value) },
-        )
-        .collect(alloc)
+    let select = header.select.as_slice();
+    let mut tests = Vec::new(alloc);
+    for number in 0..select.len().min(values.len()) {
+        let key = own_key(names, header, &select[number]);
+        tests.push(test_at(names, key, &values[number]))?;
+    }
+    Ok(tests)
 }
 
 /// The number of a field that a header selects by.

@@ -39,3 +39,15 @@ pub fn mapped<C, T, U: Build<C, T>>(
     }
     Ok(built)
 }
+
+/// The same, where what the items share is of no further use.
+pub fn mapped_with<C: Drop, T, U: Build<C, T>>(
+    alloc: Global,
+    shared: C,
+    items: &[T],
+) -> Result<Sequence<U>, AllocError>
+    requires { All (U.fits shared) items.now }
+    ensures { IfOk result (λ built. built ≡ map (U.meant shared) items.now) }
+{
+    mapped(alloc, &shared, items)
+}

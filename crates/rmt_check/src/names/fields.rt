@@ -1,11 +1,12 @@
 //! The fields of a program by number, and what they are found by.
 
-ghost use Rattle.std.specs.Prelude.{◌≡◌, ◌<◌, ◌+◌, ◌^◌, ◌++◌, OnOk, IfOk};
+ghost use Rattle.std.specs.Prelude.{◌≡◌, ◌<◌, ◌+◌, ◌^◌, ◌++◌, [], OnOk, IfOk};
 ghost use Rattle.rmt_check.specs.Names as words;
 ghost use Rattle.rmt_check.specs.Names.{declared_fields, fields_of, header_fields, printed_name};
 ghost use Rattle.rmt_check.specs.StoredFields.{all_codes, named_at, owner_at, place_among, stored};
 ghost use Rattle.rmt_ast.specs.NameList.{HasNumbers};
 
+use crate::pairs::kept;
 use crate::source::{Declared, HeaderText, Source};
 use indexmap::IndexMap;
 use rmt_bits::sequence::Sequence;
@@ -143,6 +144,22 @@ fn known_fields<'a>(
     Ok(fields)
 }
 
+/// Adds the first place of each of the fields' keys to a map that has none.
+fn add_places<'a>(
+    numbers: &mut IndexMap<FieldKey<'a>, usize>,
+    fields: &[KnownField<'a>],
+) -> Result<(), AllocError>
+    requires { HasNumbers stored numbers.old.entries [] }
+    ensures { OnOk result (HasNumbers stored numbers.new.entries (all_codes fields.now)) }
+{
+    for (place, field) in fields.iter().enumerate() {
+        if numbers.get(&field.key).is_none() {
+            numbers.insert(field.key, place)?;
+        }
+    }
+    Ok(())
+}
+
 /// The first place of each of the fields' keys.
 fn first_places<'a>(
     alloc: Global,
@@ -151,12 +168,8 @@ fn first_places<'a>(
     ensures { IfOk result (λ m. HasNumbers stored m.entries (all_codes fields.now)) }
 {
     let mut numbers = IndexMap::new(alloc);
-    for (place, field) in fields.iter().enumerate() {
-        if numbers.get(&field.key).is_none() {
-            numbers.insert(field.key, place)?;
-        }
-    }
-    Ok(numbers)
+    let added = add_places(&mut numbers, fields);
+    kept(numbers, added)
 }
 
 /// The fields of a program's text, of which each is found by its key. Contracts see it as the fields by number.

@@ -3,7 +3,8 @@
 ghost use Rattle.std.specs.Prelude.{◌≡◌, IfOk};
 ghost use Rattle.rmt_check.specs.Reading.{at_token, leaf_part, leaf_at, sign_of, operation_at, expr_at, assign_at, each, param_at, action_at};
 
-use crate::reading::lists::{Among, Choice, Part, first_choice, parts_of};
+use crate::pairs::both;
+use crate::reading::lists::{Among, Choice, Part, add_read, first_choice, parts_of};
 use crate::reading::words::{no_number, place_at, place_of};
 use crate::rules::places::beyond;
 use crate::source::{
@@ -98,27 +99,33 @@ impl Part for AssignText {
         if place_at(Terminal::Assign, beyond(1, trees)).is_none() {
             return Ok(None);
         }
-        let Some(dest) = FieldText::read(alloc, trees)? else {
-            return Ok(None);
-        };
-        match ExprText::read(alloc, beyond(2, trees))? {
-            Some(expr) => Ok(Some(AssignText { dest, expr })),
+        let dest = FieldText::read(alloc, trees);
+        let (dest, expr) = both(dest, ExprText::read(alloc, beyond(2, trees)))?;
+        match dest.zip(expr) {
+            Some((dest, expr)) => Ok(Some(AssignText { dest, expr })),
             None => Ok(None),
         }
     }
 }
 
+/// The parameter that the trees begin with, if there is one.
+fn param(alloc: Global, trees: &[Tree]) -> Result<Option<Declared>, AllocError>
+    ensures { IfOk result (λ param. param ≡ param_at trees.now) }
+{
+    let Some(parts) = parts_of(Rule::Param, trees) else {
+        return Ok(None);
+    };
+    let (ident, width) = Among::among(alloc, parts)?;
+    Ok(Some(Declared { ident, width }))
+}
+
 /// The parameters of an action of these parts.
-#[tactic(auto, using(crate::proofs::ReadingLaws::places))]
 fn params(alloc: Global, trees: &[Tree]) -> Result<Sequence<Declared>, AllocError>
     ensures { IfOk result (λ params. params ≡ each param_at trees.now) }
 {
     let mut params = Sequence::new(alloc);
     for at in 0..trees.len() {
-        if let Some(parts) = parts_of(Rule::Param, beyond(at, trees)) {
-            let (ident, width) = Among::among(alloc, parts)?;
-            params.push(Declared { ident, width })?;
-        }
+        add_read(&mut params, param(alloc, beyond(at, trees)))?;
     }
     Ok(params)
 }
@@ -130,8 +137,7 @@ impl Part for ActionText {
         let Some(parts) = parts_of(Rule::Action, trees) else {
             return Ok(None);
         };
-        let params = params(alloc, parts)?;
-        let (ident, assigns) = Among::among(alloc, parts)?;
+        let (params, (ident, assigns)) = both(params(alloc, parts), Among::among(alloc, parts))?;
         Ok(Some(ActionText {
             ident,
             params,

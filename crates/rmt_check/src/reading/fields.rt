@@ -3,7 +3,7 @@
 ghost use Rattle.std.specs.Prelude.{◌≡◌, IfOk};
 ghost use Rattle.rmt_check.specs.Reading.{word_at, words, field_text, field_at};
 
-use crate::reading::lists::{Part, parts_of};
+use crate::reading::lists::{Part, add_read, parts_of};
 use crate::reading::words::{copy_ident, ident_of, no_name, nowhere};
 use crate::rules::places::beyond;
 use crate::source::{FieldText, Ident, OwnerText};
@@ -26,15 +26,12 @@ fn word_at(alloc: Global, trees: &[Tree]) -> Result<Option<Ident>, AllocError>
 }
 
 /// The words among some trees.
-#[tactic(auto, using(crate::proofs::ReadingLaws::places))]
 fn words(alloc: Global, trees: &[Tree]) -> Result<Sequence<Ident>, AllocError>
     ensures { IfOk result (λ found. found ≡ words trees.now) }
 {
     let mut found = Sequence::new(alloc);
     for at in 0..trees.len() {
-        if let Some(word) = word_at(alloc, beyond(at, trees))? {
-            found.push(word)?;
-        }
+        add_read(&mut found, word_at(alloc, beyond(at, trees)))?;
     }
     Ok(found)
 }

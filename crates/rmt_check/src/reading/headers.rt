@@ -4,6 +4,7 @@ ghost use Rattle.std.specs.Prelude.{◌≡◌, IfOk};
 ghost use Rattle.rmt_syntax.specs.Grammar.{terminal_of};
 ghost use Rattle.rmt_check.specs.Reading.{target_if, target_at, target_among, value_at, case_at, next_among, tail_at, header_at, meta_at};
 
+use crate::pairs::both;
 use crate::reading::lists::{Among, Part, Word, first_behind, first_choice, parts_of};
 use crate::reading::words::{ident_of, no_name, place_at};
 use crate::rules::places::beyond;
@@ -113,8 +114,10 @@ impl Part for HeaderText {
         let Some(parts) = parts_of(Rule::Header, trees) else {
             return Ok(None);
         };
-        let ((ident, fields), tail) = Among::among(alloc, parts)?;
-        let ((select, cases), other) = Among::among(alloc, next_among(parts))?;
+        let (((ident, fields), tail), ((select, cases), other)) = both(
+            Among::among(alloc, parts),
+            Among::among(alloc, next_among(parts)),
+        )?;
         Ok(Some(HeaderText {
             ident,
             fields,

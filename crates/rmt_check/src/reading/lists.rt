@@ -1,6 +1,7 @@
 //! What the readers of all kinds of parts share.
 
-ghost use Rattle.std.specs.Prelude.{◌≡◌, IfOk, List, Option, option_copied};
+ghost use Rattle.std.specs.Prelude.{◌≡◌, ◌++◌, IfOk, IsOk, OnOk, List, Option, option_copied};
+ghost use Rattle.std.specs.Option.{option_to_list};
 ghost use Rattle.rmt_check.specs.Parts.{Token, Tree};
 ghost use Rattle.rmt_check.specs.Reading.{at_rule, at_token, parts_at, each, first, place_at, seen_behind};
 
@@ -31,17 +32,27 @@ pub trait Among: Drop {
         ensures { IfOk result (λ said. said ≡ among trees.now) };
 }
 
+/// Adds what was read, if anything, at the end of a list.
+pub fn add_read<T: Drop>(
+    parts: &mut Sequence<T>,
+    read: Result<Option<T>, AllocError>,
+) -> Result<(), AllocError>
+    ensures { OnOk result (IsOk read × IfOk read (λ part. parts.new ≡ parts.old ++ option_to_list part)) }
+{
+    match read? {
+        Some(part) => parts.push(part),
+        None => Ok(()),
+    }
+}
+
 /// All parts of a kind.
 impl<T: Part> Among for Sequence<T> {
     ghost among = { each T.seen };
 
-    #[tactic(auto, using(crate::proofs::ReadingLaws::places))]
     fn among(alloc: Global, trees: &[Tree]) -> Result<Sequence<T>, AllocError> {
         let mut parts = Sequence::new(alloc);
         for at in 0..trees.len() {
-            if let Some(part) = T::read(alloc, beyond(at, trees))? {
-                parts.push(part)?;
-            }
+            add_read(&mut parts, T::read(alloc, beyond(at, trees)))?;
         }
         Ok(parts)
     }

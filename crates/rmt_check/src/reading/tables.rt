@@ -3,9 +3,10 @@
 ghost use Rattle.std.specs.Prelude.{◌≡◌};
 ghost use Rattle.rmt_check.specs.Reading.{kind_of, kind_at, key_at, table_at};
 
+use crate::pairs::both;
 use crate::reading::lists::{Among, Part, first_behind, first_place, parts_of};
 use crate::reading::words::no_name;
-use crate::source::{KeyText, Number, TableText};
+use crate::source::{KeyText, TableText};
 use rmt_ast::program::Kind;
 use rmt_syntax::terminal::{Terminal, terminal_of};
 use rmt_syntax::tree::{Rule, Tree};
@@ -41,12 +42,13 @@ impl Part for KeyText {
         let Some(parts) = parts_of(Rule::Key, trees) else {
             return Ok(None);
         };
+        let ((kind, size), (actions, fields)): ((Option<_>, _), _) = Among::among(alloc, parts)?;
         Ok(Some(KeyText {
-            kind: Option::among(alloc, parts)?.unwrap_or(Kind::Keyless),
-            size: Number::among(alloc, parts)?,
+            kind: kind.unwrap_or(Kind::Keyless),
+            fields,
+            actions,
+            size,
             counted: first_place(Terminal::Counted, parts).is_some(),
-            actions: Among::among(alloc, parts)?,
-            fields: Among::among(alloc, parts)?,
         }))
     }
 }
@@ -58,12 +60,14 @@ impl Part for TableText {
         let Some(parts) = parts_of(Rule::Table, trees) else {
             return Ok(None);
         };
-        let default = first_behind(alloc, Terminal::Default, parts)?.unwrap_or(no_name(alloc));
-        let ((ident, args), key) = Among::among(alloc, parts)?;
+        let (default, ((ident, args), key)) = both(
+            first_behind(alloc, Terminal::Default, parts),
+            Among::among(alloc, parts),
+        )?;
         Ok(Some(TableText {
             ident,
             key,
-            default,
+            default: default.unwrap_or(no_name(alloc)),
             args,
         }))
     }

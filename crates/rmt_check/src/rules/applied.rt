@@ -1,6 +1,8 @@
 //! Codes 13 and 20: tables that are applied again, and tables that are not applied.
 
-ghost use Rattle.std.specs.Prelude.{◌≡◌, IfOk, map, not, option_copied};
+ghost use Rattle.std.specs.Prelude.{◌≡◌, ◌++◌, IfOk, OnOk, map, not};
+ghost use Rattle.std.specs.Option.{option_to_list};
+ghost use Rattle.std.specs.List.{flat_map};
 ghost use Rattle.rmt_ast.specs.NameList.{is_known};
 ghost use Rattle.rmt_check.specs.Names as names;
 ghost use Rattle.rmt_check.specs.Rules.{broken_13, broken_20, earliest, when};
@@ -9,20 +11,20 @@ use crate::names::lists::names_of;
 use crate::rules::parts::nodes_of;
 use crate::rules::places::place_when;
 use crate::rules::repeats::repeated_names;
-use crate::rules::search::{Flaw, Found, earliest_of};
+use crate::rules::search::{Flaw, Found, earliest_with};
 use crate::source::{Ident, NodeText, Source, TableText, WhatText};
 use rmt_ast::name_list::NameList;
 use rmt_lexer::position::Position;
 use std::alloc::{AllocError, Global};
 
-/// The table that a node applies.
-fn applied(node: &NodeText) -> Option<&Ident>
-    ensures { option_copied result ≡ names.applied node.now.what }
+/// Adds the table that a node applies, if it applies one.
+fn add_applied<'a>(tables: &mut Vec<&'a Ident>, node: &'a NodeText) -> Result<(), AllocError>
+    ensures { OnOk result (map (λ t. t.now) tables.new.items ≡ map (λ t. t.now) tables.old.items ++ option_to_list (names.applied node.now.what)) }
 {
-    match &node.what {
-        WhatText::Apply { table, .. } => Some(table),
-        WhatText::If { .. } => None,
+    if let WhatText::Apply { table, .. } = &node.what {
+        tables.push(table)?;
     }
+    Ok(())
 }
 
 /// The tables that the control applies, one behind another.
@@ -31,9 +33,7 @@ fn applied_tables(alloc: Global, source: &Source) -> Result<Vec<&Ident>, AllocEr
 {
     let mut tables = Vec::new(alloc);
     for node in nodes_of(source) {
-        if let Some(table) = applied(node) {
-            tables.push(table)?;
-        }
+        add_applied(&mut tables, node)?;
     }
     Ok(tables)
 }
@@ -58,11 +58,18 @@ impl<'a> Flaw<NameList<'a>, TableText> for Unapplied {
     }
 }
 
+/// The earliest place of a table that is not among those that are applied.
+fn first_unapplied(alloc: Global, applied: &[&Ident], tables: &[TableText]) -> Found
+    ensures { IfOk result (λ p. p ≡ earliest (flat_map (λ t. when (not (is_known (map (λ i. i.now.name) applied.now) t.ident.name)) t.ident.place) tables.now)) }
+{
+    let applied = names_of(alloc, applied)?;
+    Ok(earliest_with::<Unapplied, _, _>(applied, tables))
+}
+
 /// Where a table is declared that no node applies.
 pub fn not_applied(alloc: Global, source: &Source) -> Found
     ensures { IfOk result (λ p. p ≡ earliest (broken_20 source.now)) }
 {
-    let tables = applied_tables(alloc, source)?;
-    let applied = names_of(alloc, tables.as_slice())?;
-    Ok(earliest_of::<Unapplied, _, _>(&applied, source.tables.as_slice()))
+    let applied = applied_tables(alloc, source)?;
+    first_unapplied(alloc, applied.as_slice(), source.tables.as_slice())
 }

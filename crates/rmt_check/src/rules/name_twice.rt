@@ -5,9 +5,9 @@ ghost use Rattle.std.specs.List.{flat_map};
 ghost use Rattle.rmt_check.specs.Rules.{broken_5, declared_names, earliest, fields_twice, listed_twice, params_twice, repeated};
 
 use crate::rules::parts::{listed, metadata};
-use crate::rules::places::{earlier, earliest_beyond};
+use crate::rules::places::earliest_beyond;
 use crate::rules::repeats::repeated_names;
-use crate::rules::search::{Found, TryFlaw, try_earliest_of};
+use crate::rules::search::{Found, TryFlaw, earlier_found, try_earliest_of};
 use crate::source::{ActionText, HeaderText, Ident, MetaText, Source, TableText};
 use std::alloc::Global;
 
@@ -61,17 +61,20 @@ pub fn name_twice(alloc: Global, source: &Source) -> Found
     let metas = source.metas.as_slice();
     let actions = source.actions.as_slice();
     let tables = source.tables.as_slice();
-    let header = repeated_names(alloc, headers)?;
-    let field = try_earliest_of::<NameTwice, _, _>(alloc, &(), headers)?;
+    let header = repeated_names(alloc, headers);
+    let field = try_earliest_of::<NameTwice, _, _>(alloc, &(), headers);
     let meta = earliest_beyond(1, metas);
-    let meta_field = meta_field_twice(alloc, metas)?;
-    let action = repeated_names(alloc, actions)?;
-    let param = try_earliest_of::<NameTwice, _, _>(alloc, &(), actions)?;
-    let table = repeated_names(alloc, tables)?;
-    let listed = try_earliest_of::<NameTwice, _, _>(alloc, &(), tables)?;
-    let found = earlier(earlier(earlier(header, field), meta), meta_field);
-    Ok(earlier(
-        earlier(earlier(earlier(found, action), param), table),
+    let meta_field = meta_field_twice(alloc, metas);
+    let action = repeated_names(alloc, actions);
+    let param = try_earliest_of::<NameTwice, _, _>(alloc, &(), actions);
+    let table = repeated_names(alloc, tables);
+    let listed = try_earliest_of::<NameTwice, _, _>(alloc, &(), tables);
+    let found = earlier_found(
+        earlier_found(earlier_found(header, field), Ok(meta)),
+        meta_field,
+    );
+    earlier_found(
+        earlier_found(earlier_found(earlier_found(found, action), param), table),
         listed,
-    ))
+    )
 }

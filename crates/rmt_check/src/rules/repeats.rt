@@ -1,6 +1,7 @@
 //! Items that repeat an earlier one, found by a set of the keys that are seen.
 
 ghost use Rattle.std.specs.Prelude.{◌≡◌, map, IfOk, IfErr};
+ghost use Rattle.indexmap.specs.IndexSet.{IsEmpty};
 ghost use Rattle.rmt_check.specs.Rules as rules;
 ghost use Rattle.rmt_check.specs.Rules.{earliest, repeated_by};
 
@@ -12,17 +13,25 @@ use rmt_lexer::position::Position;
 use std::alloc::Global;
 use std::hash::Hash;
 
-/// The earliest place of a key that repeats an earlier one.
-pub fn repeated<K: Eq + Hash + Copy>(alloc: Global, marks: &[(K, Position)]) -> Found
+/// The earliest place of a key that repeats an earlier one, by a set that has seen none.
+fn repeated_in<K: Eq + Hash + Copy>(seen: &mut IndexSet<K>, marks: &[(K, Position)]) -> Found
+    requires { IsEmpty seen.old }
     ensures { IfOk result (λ p. p ≡ earliest (repeated_by (λ x y. K.eq x.0 y.0) (λ x. x.1) marks.now)) }
 {
-    let mut seen = IndexSet::new(alloc);
     let mut first = None;
     for mark in marks {
         let is_new = seen.insert(mark.0)?;
         first = earlier(first, place_when(!is_new, mark.1));
     }
     Ok(first)
+}
+
+/// The earliest place of a key that repeats an earlier one.
+pub fn repeated<K: Eq + Hash + Copy>(alloc: Global, marks: &[(K, Position)]) -> Found
+    ensures { IfOk result (λ p. p ≡ earliest (repeated_by (λ x y. K.eq x.0 y.0) (λ x. x.1) marks.now)) }
+{
+    let mut seen = IndexSet::new(alloc);
+    repeated_in(&mut seen, marks)
 }
 
 /// The earliest place of a name that repeats an earlier one.

@@ -11,7 +11,7 @@ use crate::names::params::{ActionNames, InAction};
 use crate::rules::parts::nodes_of;
 use crate::rules::places::{earlier, place_when};
 use crate::rules::search::{
-    Flaw, Found, PairFlaw, TryFlaw, earliest_beside, earliest_of, try_earliest_of,
+    Flaw, Found, PairFlaw, TryFlaw, earliest_beside, earliest_of, earliest_with, try_earliest_of,
 };
 use crate::source::{
     ActionText, AssignText, CaseText, HeaderText, Ident, LeafText, NodeText, Number, ValueText,
@@ -75,7 +75,8 @@ impl<N: Lookup> TryFlaw<N, ActionText> for OtherWidth {
 
     fn at(alloc: Global, names: &N, action: &ActionText) -> Found {
         let own = ActionNames::of(alloc, action)?;
-        Ok(earliest_of::<OtherWidth, _, _>(&(names, own), action.assigns.as_slice()))
+        let assigns = action.assigns.as_slice();
+        Ok(earliest_with::<OtherWidth, _, _>((names, own), assigns))
     }
 }
 

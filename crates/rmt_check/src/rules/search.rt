@@ -1,6 +1,6 @@
 //! A search of a list for the earliest place at which one of its items breaks a rule.
 
-ghost use Rattle.std.specs.Prelude.{◌≡◌, IfOk, List, zip};
+ghost use Rattle.std.specs.Prelude.{◌≡◌, ◌++◌, IfOk, List, zip};
 ghost use Rattle.std.specs.List.{flat_map};
 ghost use Rattle.rmt_check.specs.Parts.{Position as PlaceValue};
 ghost use Rattle.rmt_check.specs.Rules.{earliest};
@@ -11,6 +11,15 @@ use std::alloc::{AllocError, Global};
 
 /// The earliest place that is found, if there is one; the only fault is want of memory.
 pub type Found = Result<Option<Position>, AllocError>;
+
+/// The earlier of two places that are found, if there was memory to look for both.
+pub fn earlier_found(a: Found, b: Found) -> Found
+    ensures { (xs ys : List PlaceValue) → IfOk a (λ p. p ≡ earliest xs) → IfOk b (λ p. p ≡ earliest ys) → IfOk result (λ p. p ≡ earliest (xs ++ ys)) }
+{
+    let first = a?;
+    let second = b?;
+    Ok(earlier(first, second))
+}
 
 /// What may be wrong with an item of a text, which is looked at with what all items share.
 pub trait Flaw<C, T> {
@@ -32,6 +41,15 @@ where
         first = earlier(first, F::at(shared, item));
     }
     first
+}
+
+/// The same, where what the items share is of no further use.
+pub fn earliest_with<F, C: Drop, T>(shared: C, items: &[T]) -> Option<Position>
+where
+    F: Flaw<C, T>,
+    ensures { result ≡ earliest (flat_map (F.places shared) items.now) }
+{
+    earliest_of::<F, _, _>(&shared, items)
 }
 
 /// A flaw that is found by means of memory.

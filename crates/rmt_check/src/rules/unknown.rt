@@ -12,7 +12,7 @@ use crate::names::lookup::{InHeader, Lookup, key, own_key};
 use crate::names::params::{ActionNames, InAction};
 use crate::rules::parts::{arm_names, key_fields, listed, nodes_of, target_names};
 use crate::rules::places::{earlier, place_when};
-use crate::rules::search::{Flaw, Found, TryFlaw, earliest_of, try_earliest_of};
+use crate::rules::search::{Flaw, Found, TryFlaw, earliest_of, earliest_with, try_earliest_of};
 use crate::source::{
     ActionText, ArmText, AssignText, CaseText, FieldText, HeaderText, Ident, LeafText, NodeText,
     OwnerText, TableText, WhatText,
@@ -176,7 +176,7 @@ impl<N: Lookup> TryFlaw<N, ActionText> for UnknownInAssign {
     fn at(alloc: Global, names: &N, action: &ActionText) -> Found {
         let own = ActionNames::of(alloc, action)?;
         let assigns = action.assigns.as_slice();
-        Ok(earliest_of::<UnknownInAssign, _, _>(&(names, own), assigns))
+        Ok(earliest_with::<UnknownInAssign, _, _>((names, own), assigns))
     }
 }
 

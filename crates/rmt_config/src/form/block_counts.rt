@@ -6,7 +6,7 @@ ghost use Rattle.rmt_config.specs.BlockCounts.{record_units as units_of_records,
 use crate::form::layout::{divided_up, record_width, records_a_row};
 
 /// How many blocks a memory lists: of keys, of records and of counters.
-#[derive(Clone, Copy, Debug, PartialEq, Eq)]
+#[derive(Clone, Copy, PartialEq, Eq)]
 pub struct BlockCounts {
     /// The blocks of keys: of SRAM in an exact part, of TCAM in a ternary part.
     pub keys: u64,

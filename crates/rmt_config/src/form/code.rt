@@ -10,7 +10,7 @@ use crate::form::search::items_rise;
 use rmt_bits::lane::{Lane, word_size};
 
 /// Where an instruction stands: the data bits of its slot, and whether it is the slot's default.
-#[derive(Clone, Copy, Debug, PartialEq, Eq)]
+#[derive(Clone, Copy, PartialEq, Eq)]
 pub struct InstructionRole {
     /// How many bits of data an entry of the slot holds.
     pub held: u16,
@@ -87,7 +87,12 @@ fn vliw_fits(place: InstructionRole, vliw: &Vliw) -> bool
 fn each_vliw_fits(place: InstructionRole, code: &[Vliw]) -> bool
     ensures { result ≡ list_all (vliw_is_formed place) code.now }
 {
-    code.iter().all(|vliw| vliw_fits(place, vliw))
+    for vliw in code {
+        if !vliw_fits(place, vliw) {
+            return false;
+        }
+    }
+    true
 }
 
 /// How many instructions a unit has: a slot one for each action and one for its default.

@@ -46,7 +46,12 @@ fn tail_fits(entries: &[ParserEntry], tail: TailOf) -> bool
 fn each_tail_fits(entries: &[ParserEntry], tails: &[TailOf]) -> bool
     ensures { result ≡ list_all (λ (t : TailOf). is_tail_of t (slice_get entries.now t.entry)) tails.now }
 {
-    tails.iter().all(|tail| tail_fits(entries, *tail))
+    for tail in tails {
+        if !tail_fits(entries, *tail) {
+            return false;
+        }
+    }
+    true
 }
 
 /// Whether the tails of the parser's entries fit.

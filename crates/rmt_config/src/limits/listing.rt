@@ -79,9 +79,12 @@ pub fn listings(units: &[Unit]) -> u32
     let mut sram = no_counts();
     let mut tcam = no_counts();
     for unit in units {
-        if let Unit::Slot(slot) = unit {
-            count_sram(&mut sram, &slot.memory);
-            count_tcam(&mut tcam, &slot.memory);
+        match unit {
+            Unit::Gate(_) => {}
+            Unit::Slot(slot) => {
+                count_sram(&mut sram, &slot.memory);
+                count_tcam(&mut tcam, &slot.memory);
+            }
         }
     }
     greatest(&sram).max(greatest(&tcam))

@@ -10,7 +10,7 @@ ghost use Rattle.rmt_config.specs.declared.config.Unit.TheVariants.{Slot};
 use crate::config::{Memory, SlotUnit, Unit};
 
 /// What units take of a stage.
-#[derive(Clone, Copy, Debug, PartialEq, Eq)]
+#[derive(Clone, Copy, PartialEq, Eq)]
 pub enum Resource {
     /// SRAM blocks, as often as they are listed.
     Sram,

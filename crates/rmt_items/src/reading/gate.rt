@@ -7,6 +7,7 @@ ghost use Rattle.rmt_items.specs.Readers.{Gives, kept, listed, list_at, byte_at,
 ghost use Rattle.rmt_items.specs.Reading.{mask_is_even, guard_at, test_fits, test_at, gate_at};
 
 use crate::fault::{Read, ReadError, ReadFault};
+use crate::reading::bounded::positive;
 use crate::reading::items::{Item, list_of};
 use crate::reading::lane::lane_of;
 use crate::reading::number::{byte_of, fours_of, kept, two_of};
@@ -61,8 +62,7 @@ impl Item<()> for GateTest {
 fn tests_of(alloc: Global, bytes: &[u8]) -> Read<Sequence<GateTest>>
     ensures { Gives (λ x. (x.0, x.1.now)) result (listed (kept (at_least 1) byte_at) (list_at test_at) bytes.now) }
 {
-    let (count, rest) = byte_of(bytes)?;
-    let (count, rest) = kept(1 <= count, count, rest)?;
+    let (count, rest) = positive(bytes)?;
     list_of(alloc, (), count as u64, rest)
 }
 

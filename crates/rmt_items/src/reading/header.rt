@@ -7,20 +7,14 @@ ghost use Rattle.rmt_items.specs.Readers.{Gives, kept, listed, list_at, byte_at}
 ghost use Rattle.rmt_items.specs.Reading.{lanes_at, header_size_fits, header_at, headers_at};
 
 use crate::fault::Read;
+use crate::reading::bounded::{one_to, up_to};
 use crate::reading::items::{Item, list_of, list8_of};
 use crate::reading::lane::lane_of_bits;
-use crate::reading::number::{byte_of, kept};
+use crate::reading::number::kept;
 use rmt_bits::sequence::Sequence;
 use rmt_config::config::OutHeader;
 use rmt_config::form::lane::count_bits;
 use std::alloc::Global;
-
-fn size_of(bytes: &[u8]) -> Read<u8>
-    ensures { Gives (λ x. (x.0, x.1.now)) result (kept header_size_fits byte_at bytes.now) }
-{
-    let (size, rest) = byte_of(bytes)?;
-    kept(1 <= size && size <= 64, size, rest)
-}
 
 impl Item<()> for OutHeader {
     const LEAST_SIZE: usize = 5;
@@ -29,7 +23,7 @@ impl Item<()> for OutHeader {
 
     fn read(alloc: Global, _given: (), bytes: &[u8]) -> Read<OutHeader> {
         let (valid, rest) = lane_of_bits(1, bytes)?;
-        let (bytes, rest) = size_of(rest)?;
+        let (bytes, rest) = one_to(64, rest)?;
         let (pieces, rest) = list8_of(alloc, (), rest)?;
         let bits = count_bits(pieces.as_slice());
         let header = OutHeader {
@@ -45,7 +39,6 @@ impl Item<()> for OutHeader {
 pub fn headers_of(alloc: Global, bytes: &[u8]) -> Read<Sequence<OutHeader>>
     ensures read { Gives (λ x. (x.0, x.1.now)) result (headers_at bytes.now) }
 {
-    let (count, rest) = byte_of(bytes)?;
-    let (count, rest) = kept(count <= 64, count, rest)?;
+    let (count, rest) = up_to(64, bytes)?;
     list_of(alloc, (), count as u64, rest)
 }

@@ -1,7 +1,7 @@
 //! Lists of items: some stand in an order, each read under a number that the one before it leaves, others in none.
 
 ghost use Rattle.std.specs.Prelude.{◌≡◌, ◌<◌, ◌≤◌, ◌++◌, ◌∷◌, [], ℕ, length, IfOk, OnOk};
-ghost use Rattle.rmt_items.specs.Readers.{Reader, Gives, items_at, list_at, listed, byte_at, number_at};
+ghost use Rattle.rmt_items.specs.Readers.{Reader, Gives, ◌⊗◌, items_at, list_at, listed, byte_at, number_at};
 
 use crate::fault::Read;
 use crate::reading::number::{byte_of, four_of, two_of};
@@ -153,4 +153,50 @@ pub fn list32_of<G: Copy, T: Item<G>>(alloc: Global, given: G, bytes: &[u8]) -> 
 {
     let (count, rest) = four_of(bytes)?;
     list_of(alloc, given, count as u64, rest)
+}
+
+// ---- lists and others behind one another
+
+/// That the items of a list stand behind their count, of one byte.
+#[derive(Clone, Copy)]
+pub struct Count8;
+
+impl<T: Item<()>> Item<Count8> for Sequence<T> {
+    const LEAST_SIZE: usize = 1;
+
+    ghost item_at = { λ _. listed byte_at (list_at (T.item_at tt)) };
+
+    fn read(alloc: Global, _given: Count8, bytes: &[u8]) -> Read<Sequence<T>> {
+        list8_of(alloc, (), bytes)
+    }
+}
+
+/// That they stand behind one of four bytes.
+#[derive(Clone, Copy)]
+pub struct Count32;
+
+impl<T: Item<()>> Item<Count32> for Sequence<T> {
+    const LEAST_SIZE: usize = 4;
+
+    ghost item_at = { λ _. listed (number_at 4) (list_at (T.item_at tt)) };
+
+    fn read(alloc: Global, _given: Count32, bytes: &[u8]) -> Read<Sequence<T>> {
+        list32_of(alloc, (), bytes)
+    }
+}
+
+/// Three things, one behind the other.
+pub fn three_of<F: Copy, G: Copy, H: Copy, A: Item<F>, B: Item<G>, C: Item<H>>(
+    alloc: Global,
+    first: F,
+    second: G,
+    third: H,
+    bytes: &[u8],
+) -> Read<(A, (B, C))>
+    ensures { Gives (λ x. ((x.0.0, (x.0.1.0, x.0.1.1)), x.1.now)) result ((A.item_at first ⊗ B.item_at second ⊗ C.item_at third) bytes.now) }
+{
+    let (first, rest) = A::read(alloc, first, bytes)?;
+    let (second, rest) = B::read(alloc, second, rest)?;
+    let (third, rest) = C::read(alloc, third, rest)?;
+    Ok(((first, (second, third)), rest))
 }

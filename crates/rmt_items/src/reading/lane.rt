@@ -7,6 +7,7 @@ ghost use Rattle.rmt_items.specs.Reading.{word_at, lane_from_at, lane_at, lane_o
 ghost use Rattle.std.specs.Prelude.{◌≡◌, ◌≤◌, ◌<◌, IfOk};
 
 use crate::fault::Read;
+use crate::reading::bounded::from_to;
 use crate::reading::items::Item;
 use crate::reading::number::{byte_of, kept};
 use rmt_bits::lane::Lane;
@@ -18,8 +19,7 @@ pub fn word_of(least: u32, bytes: &[u8]) -> Read<u8>
     ensures there { IfOk result (λ x. x.0 < 224) }
     ensures read { Gives (λ x. (x.0, x.1.now)) result (word_at least bytes.now) }
 {
-    let (word, rest) = byte_of(bytes)?;
-    kept(word < 224 && least <= word as u32, word, rest)
+    from_to(least, 224, bytes)
 }
 
 /// A lane whose word is at least that one.

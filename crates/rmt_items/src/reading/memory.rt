@@ -2,11 +2,12 @@
 
 ghost use Rattle.std.specs.Prelude.{◌≡◌, ◌<◌, length};
 ghost use Rattle.rmt_config.specs.LaneForm.{bits_of_lanes};
-ghost use Rattle.rmt_items.specs.Readers.{Gives, where_, kept, list_at, byte_at, number_at, at_least};
-ghost use Rattle.rmt_items.specs.Reading.{block_at, blocks_at, quanta_fit, cells_fit, format_at, format_block_counts, exact_at, ternary_at, exact_of_parts, ternary_of_parts, memory_at};
+ghost use Rattle.rmt_items.specs.Readers.{Gives, where_, kept, list_at, number_at};
+ghost use Rattle.rmt_items.specs.Reading.{block_at, blocks_at, cells_fit, exact_format_at, format_at, format_block_counts, exact_at, ternary_at, exact_of_parts, ternary_of_parts, memory_at};
 
 use crate::fault::{Read, ReadError, ReadFault};
-use crate::reading::items::{Item, list_of};
+use crate::reading::bounded::{one_to, positive};
+use crate::reading::items::{Item, list_of, three_of};
 use crate::reading::number::{byte_of, kept, two_of};
 use rmt_bits::answer::Bytes;
 use rmt_config::config::{Memory, SlotUnit};
@@ -40,6 +41,23 @@ impl Item<Below> for u8 {
     }
 }
 
+/// How many blocks there are, and what each is below.
+#[derive(Clone, Copy)]
+struct BlockList {
+    most: u8,
+    count: u64,
+}
+
+impl Item<BlockList> for Bytes {
+    const LEAST_SIZE: usize = 0;
+
+    ghost item_at = { λ list. list_at (block_at list.most) list.count };
+
+    fn read(alloc: Global, list: BlockList, bytes: &[u8]) -> Read<Bytes> {
+        list_of(alloc, Below(list.most), list.count, bytes)
+    }
+}
+
 /// The lists of blocks of a memory.
 #[derive(Drop)]
 struct Blocks {
@@ -52,9 +70,19 @@ struct Blocks {
 fn blocks_of(alloc: Global, most: u8, counts: BlockCounts, bytes: &[u8]) -> Read<Blocks>
     ensures { Gives (λ x. (x.0, x.1.now)) result (blocks_at most counts bytes.now) }
 {
-    let (keys, rest) = list_of(alloc, Below(most), counts.keys, bytes)?;
-    let (records, rest) = list_of(alloc, Below(106), counts.records, rest)?;
-    let (counters, rest) = list_of(alloc, Below(106), counts.counters, rest)?;
+    let keys = BlockList {
+        most,
+        count: counts.keys,
+    };
+    let records = BlockList {
+        most: 106,
+        count: counts.records,
+    };
+    let counters = BlockList {
+        most: 106,
+        count: counts.counters,
+    };
+    let ((keys, (records, counters)), rest) = three_of(alloc, keys, records, counters, bytes)?;
     let blocks = Blocks {
         keys,
         records,
@@ -65,25 +93,9 @@ fn blocks_of(alloc: Global, most: u8, counts: BlockCounts, bytes: &[u8]) -> Read
 
 // ---- the numbers before them
 
-fn quanta_of(bytes: &[u8]) -> Read<u8>
-    ensures { Gives (λ x. (x.0, x.1.now)) result (kept quanta_fit byte_at bytes.now) }
+fn per_of(bits: u32, width: u8, bytes: &[u8]) -> Read<u16>
+    ensures { Gives (λ x. (x.0, x.1.now)) result (kept (cells_fit bits width) (number_at 2) bytes.now) }
 {
-    let (quanta, rest) = byte_of(bytes)?;
-    kept(1 <= quanta && quanta <= 106, quanta, rest)
-}
-
-fn width_of(bytes: &[u8]) -> Read<u8>
-    ensures { Gives (λ x. (x.0, x.1.now)) result (kept (at_least 1) byte_at bytes.now) }
-{
-    let (width, rest) = byte_of(bytes)?;
-    kept(1 <= width, width, rest)
-}
-
-fn per_of<'a>(slot: &SlotUnit, width: u8, bytes: &'a [u8]) -> Read<'a, u16>
-    requires { length slot.now.keys < 65536 }
-    ensures { Gives (λ x. (x.0, x.1.now)) result (kept (cells_fit (bits_of_lanes slot.now.keys) width) (number_at 2) bytes.now) }
-{
-    let bits = count_bits(slot.keys.as_slice());
     let (per, rest) = two_of(bytes)?;
     let fits = 1 <= per && per as u64 * (bits as u64 + 8) <= 112 * width as u64;
     kept(fits, per, rest)
@@ -98,14 +110,14 @@ struct ExactFormat {
     first_way: u8,
 }
 
-#[tactic(auto, unfolding(crate::specs::Reading::format_at))]
-fn format_of<'a>(slot: &SlotUnit, bytes: &'a [u8]) -> Read<'a, ExactFormat>
-    requires { length slot.now.keys < 65536 }
-    ensures { Gives (λ x. (x.0, x.1.now)) result (format_at slot.now bytes.now) }
+/// These numbers where the keys have that many bits.
+#[tactic(auto, unfolding(crate::specs::Reading::exact_format_at))]
+fn format_of(bits: u32, bytes: &[u8]) -> Read<ExactFormat>
+    ensures { Gives (λ x. (x.0, x.1.now)) result (exact_format_at bits bytes.now) }
 {
-    let (width, rest) = width_of(bytes)?;
-    let (per, rest) = per_of(slot, width, rest)?;
-    let (quanta, rest) = quanta_of(rest)?;
+    let (width, rest) = positive(bytes)?;
+    let (per, rest) = per_of(bits, width, rest)?;
+    let (quanta, rest) = one_to(106, rest)?;
     let (first_way, rest) = byte_of(rest)?;
     let format = ExactFormat {
         width,
@@ -118,13 +130,13 @@ fn format_of<'a>(slot: &SlotUnit, bytes: &'a [u8]) -> Read<'a, ExactFormat>
 
 // ---- memories
 
-#[tactic(auto, unfolding(crate::specs::Reading::exact_at))]
+#[tactic(auto, unfolding(crate::specs::Reading::exact_at, crate::specs::Reading::format_at))]
 fn exact_of<'a>(alloc: Global, slot: &SlotUnit, bytes: &'a [u8]) -> Read<'a, (ExactFormat, Blocks)>
     requires { length slot.now.keys < 65536 }
     ensures { Gives (λ x. (x.0, x.1.now)) result (exact_at slot.now bytes.now) }
 {
     let (_, rest) = kept(can_take_memory(slot), (), bytes)?;
-    let (format, rest) = format_of(slot, rest)?;
+    let (format, rest) = format_of(count_bits(slot.keys.as_slice()), rest)?;
     let counts = exact_block_counts(
         format.width,
         format.per,
@@ -142,7 +154,7 @@ fn ternary_of<'a>(alloc: Global, slot: &SlotUnit, bytes: &'a [u8]) -> Read<'a, (
     ensures { Gives (λ x. (x.0, x.1.now)) result (ternary_at slot.now bytes.now) }
 {
     let (_, rest) = kept(can_take_memory(slot), (), bytes)?;
-    let (quanta, rest) = quanta_of(rest)?;
+    let (quanta, rest) = one_to(106, rest)?;
     let counts = ternary_block_counts(
         count_bits(slot.keys.as_slice()),
         quanta,

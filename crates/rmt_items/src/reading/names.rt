@@ -1,16 +1,16 @@
 //! Names, by their grammar alone: whether they keep the rules on names is looked at when all is read.
 
-#![tactic(auto, unfolding(crate::specs::ReadingNames::bytes_at, crate::specs::ReadingNames::name_at, crate::specs::ReadingNames::action_at, crate::specs::ReadingNames::rank_at, crate::specs::ReadingNames::table_kind_at, crate::specs::ReadingNames::table_at, crate::specs::ReadingNames::names_at))]
+#![tactic(auto, unfolding(crate::specs::ReadingNames::bytes_at, crate::specs::ReadingNames::name_at, crate::specs::ReadingNames::action_at, crate::specs::ReadingNames::rank_at, crate::specs::ReadingNames::table_kind_at, crate::specs::ReadingNames::table_body_at, crate::specs::ReadingNames::table_at, crate::specs::ReadingNames::names_at))]
 
 ghost use Rattle.std.specs.Prelude.{◌≡◌};
 ghost use Rattle.rmt_items.specs.Readers.{Gives, listed, byte_at, number_at};
-ghost use Rattle.rmt_items.specs.ReadingNames.{bytes_at, name_at, action_at, rank_at, table_kind_at, ranks_at, table_at, names_at};
+ghost use Rattle.rmt_items.specs.ReadingNames.{bytes_at, name_at, action_at, rank_at, table_kind_at, ranks_at, table_body_at, table_at, names_at};
 
 use crate::fault::{Read, ReadError, ReadFault};
-use crate::reading::items::{Item, list8_of, list32_of};
+use crate::reading::items::{Count8, Item, list8_of, list32_of, three_of};
 use crate::reading::number::{byte_of, four_of, fours_of, two_of};
 use rmt_ast::name::Name;
-use rmt_ast::names::{ActionName, Names, RankOf, Ranks, TableName};
+use rmt_ast::names::{ActionName, ActionNames, Names, RankOf, Ranks, TableName};
 use rmt_ast::program::Kind;
 use rmt_bits::answer::Bytes;
 use std::alloc::Global;
@@ -43,15 +43,6 @@ fn params_of(alloc: Global, bytes: &[u8]) -> Read<Bytes>
     ensures { Gives (λ x. (x.0, x.1.now)) result (listed byte_at bytes_at bytes.now) }
 {
     let (count, rest) = byte_of(bytes)?;
-    let (widths, rest) = bytes_of(alloc, count as usize, rest)?;
-    Ok((Bytes::from_vec(widths), rest))
-}
-
-/// The widths of a key's fields, a byte each, behind their count.
-fn keys_of(alloc: Global, bytes: &[u8]) -> Read<Bytes>
-    ensures { Gives (λ x. (x.0, x.1.now)) result (listed (number_at 2) bytes_at bytes.now) }
-{
-    let (count, rest) = two_of(bytes)?;
     let (widths, rest) = bytes_of(alloc, count as usize, rest)?;
     Ok((Bytes::from_vec(widths), rest))
 }
@@ -94,17 +85,64 @@ fn kind_of(bytes: &[u8]) -> Read<Kind>
     Ok((kind, rest))
 }
 
-/// The ranks of a ternary table; a table of another kind has none.
-fn ranks_of(alloc: Global, kind: Kind, bytes: &[u8]) -> Read<Ranks>
-    ensures { Gives (λ x. (x.0, x.1.now)) result (ranks_at kind bytes.now) }
-{
-    match kind {
-        Kind::Ternary => list32_of(alloc, (), bytes),
-        Kind::Keyless | Kind::Exact | Kind::Prefix => Ok((Ranks::new(alloc), bytes)),
+/// The ranks of a table of that kind: only a ternary one has any.
+impl Item<Kind> for Ranks {
+    const LEAST_SIZE: usize = 0;
+
+    ghost item_at = { ranks_at };
+
+    fn read(alloc: Global, kind: Kind, bytes: &[u8]) -> Read<Ranks> {
+        match kind {
+            Kind::Ternary => list32_of(alloc, (), bytes),
+            Kind::Keyless | Kind::Exact | Kind::Prefix => Ok((Ranks::new(alloc), bytes)),
+        }
+    }
+}
+
+/// That bytes are the widths of a key's fields.
+#[derive(Clone, Copy)]
+struct KeyWidths;
+
+/// A byte for each width, behind their count.
+impl Item<KeyWidths> for Bytes {
+    const LEAST_SIZE: usize = 2;
+
+    ghost item_at = { λ _. listed (number_at 2) bytes_at };
+
+    fn read(alloc: Global, _given: KeyWidths, bytes: &[u8]) -> Read<Bytes> {
+        let (count, rest) = two_of(bytes)?;
+        let (widths, rest) = bytes_of(alloc, count as usize, rest)?;
+        Ok((Bytes::from_vec(widths), rest))
     }
 }
 
 // ---- tables
+
+/// What stands behind the name of a table.
+#[derive(Drop)]
+struct TableBody {
+    kind: Kind,
+    size: u32,
+    keys: Bytes,
+    actions: ActionNames,
+    ranks: Ranks,
+}
+
+fn body_of(alloc: Global, bytes: &[u8]) -> Read<TableBody>
+    ensures { Gives (λ x. ((x.0.kind, (x.0.size, (x.0.keys, (x.0.actions, x.0.ranks)))), x.1.now)) result (table_body_at bytes.now) }
+{
+    let (kind, rest) = kind_of(bytes)?;
+    let (size, rest) = four_of(rest)?;
+    let ((keys, (actions, ranks)), rest) = three_of(alloc, KeyWidths, Count8, kind, rest)?;
+    let body = TableBody {
+        kind,
+        size,
+        keys,
+        actions,
+        ranks,
+    };
+    Ok((body, rest))
+}
 
 impl Item<()> for TableName {
     const LEAST_SIZE: usize = 13;
@@ -114,19 +152,15 @@ impl Item<()> for TableName {
     fn read(alloc: Global, _given: (), bytes: &[u8]) -> Read<TableName> {
         let (node, rest) = byte_of(bytes)?;
         let (name, rest) = name_of(alloc, rest)?;
-        let (kind, rest) = kind_of(rest)?;
-        let (size, rest) = four_of(rest)?;
-        let (keys, rest) = keys_of(alloc, rest)?;
-        let (actions, rest) = list8_of(alloc, (), rest)?;
-        let (ranks, rest) = ranks_of(alloc, kind, rest)?;
+        let (body, rest) = body_of(alloc, rest)?;
         let table = TableName {
             node: node as u32,
             name,
-            kind,
-            size,
-            keys,
-            actions,
-            ranks,
+            kind: body.kind,
+            size: body.size,
+            keys: body.keys,
+            actions: body.actions,
+            ranks: body.ranks,
         };
         Ok((table, rest))
     }

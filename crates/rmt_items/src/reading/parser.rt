@@ -8,6 +8,7 @@ ghost use Rattle.rmt_items.specs.Reading.{offset_at, one_more, state_at, states_
 ghost use Rattle.rmt_config.specs.ParserForm.{lookups_of};
 
 use crate::fault::{Read, ReadError, ReadFault};
+use crate::reading::bounded::from_to;
 use crate::reading::items::{InOrder, Item, items_of, list_of, list8_of};
 use crate::reading::lane::{lane_of, lane_of_bits};
 use crate::reading::number::{byte_of, fours_of, kept, two_of};
@@ -31,8 +32,7 @@ impl InOrder for Offsets {
     ghost after = { λ _. one_more };
 
     fn item<'a>(&self, _alloc: Global, least: u32, bytes: &'a [u8]) -> Read<'a, u8> {
-        let (offset, rest) = byte_of(bytes)?;
-        kept(offset < 128 && least <= offset as u32, offset, rest)
+        from_to(least, 128, bytes)
     }
 
     fn least_after(&self, offset: &u8) -> u32 {
@@ -65,12 +65,7 @@ fn states_of(alloc: Global, bytes: &[u8]) -> Read<Sequence<ParserState>>
 fn entry_state_of(states: usize, least: u32, bytes: &[u8]) -> Read<u8>
     ensures { Gives (λ x. (x.0, x.1.now)) result (entry_state_at states least bytes.now) }
 {
-    let (state, rest) = byte_of(bytes)?;
-    kept(
-        (state as usize) < states && least <= state as u32,
-        state,
-        rest,
-    )
+    from_to(least, states, bytes)
 }
 
 /// How many lookups a state has.

@@ -3,17 +3,17 @@
 #![tactic(auto, unfolding(crate::specs::Reading::srow_at, crate::specs::Reading::trow_at, crate::specs::Reading::stage_head_at, crate::specs::Reading::stage_at, crate::specs::Reading::stage_tail_at))]
 
 ghost use Rattle.std.specs.Prelude.{◌≡◌};
-ghost use Rattle.rmt_items.specs.Readers.{Gives, kept, listed, list_at, items_at, byte_at, number_at};
-ghost use Rattle.rmt_items.specs.Reading.{srow_at, trow_at, start_fits, stage_head_at, stage_tail_at, stage_at, next_start};
+ghost use Rattle.rmt_items.specs.Readers.{Gives, kept, listed, list_at, items_at, each, byte_at, number_at};
+ghost use Rattle.rmt_items.specs.Reading.{srow_at, trow_at, start_fits, vliw_at, stage_head_at, stage_tail_at, stage_at, next_start};
 ghost use Rattle.rmt_config.specs.CodeForm.{places_of};
 
 use crate::fault::Read;
-use crate::reading::items::{InOrder, Item, items_of, list8_of, list32_of};
+use crate::reading::items::{Count32, InOrder, Item, items_of, list8_of, three_of};
 use crate::reading::memory::block_of;
 use crate::reading::number::{byte_of, kept, number_from, two_of};
 use crate::reading::vliw::code_of;
 use rmt_bits::sequence::Sequence;
-use rmt_config::config::{SramRow, Stage, TcamRow, Unit};
+use rmt_config::config::{SramRow, Stage, TcamRow, Unit, Vliw};
 use std::alloc::Global;
 
 // ---- rows
@@ -73,6 +73,17 @@ fn stage_head_of(alloc: Global, least: u32, bytes: &[u8]) -> Read<(u16, Sequence
     Ok(((start, units), rest))
 }
 
+/// The code of a stage of these units.
+impl<'u> Item<&'u [Unit]> for Sequence<Vliw> {
+    const LEAST_SIZE: usize = 0;
+
+    ghost item_at = { λ units. each vliw_at (places_of units.now) };
+
+    fn read<'a>(alloc: Global, units: &'u [Unit], bytes: &'a [u8]) -> Read<'a, Sequence<Vliw>> {
+        code_of(alloc, units, bytes)
+    }
+}
+
 #[derive(Drop)]
 struct Stages;
 
@@ -87,9 +98,13 @@ impl InOrder for Stages {
 
     fn item<'a>(&self, alloc: Global, least: u32, bytes: &'a [u8]) -> Read<'a, Stage> {
         let ((start, units), rest) = stage_head_of(alloc, least, bytes)?;
-        let (code, rest) = code_of(alloc, units.as_slice(), rest)?;
-        let (srows, rest) = list32_of(alloc, (), rest)?;
-        let (trows, rest) = list32_of(alloc, (), rest)?;
+        let ((code, (srows, trows)), rest) = three_of(
+            alloc,
+            units.as_slice(),
+            Count32,
+            Count32,
+            rest,
+        )?;
         let stage = Stage {
             start,
             units,

@@ -7,6 +7,7 @@ ghost use Rattle.rmt_items.specs.Readers.{Gives, kept, below, byte_at};
 ghost use Rattle.rmt_items.specs.ReadingTails.{may_have_tail, need_of, tail_entry_at, field_at, lengths_fit, lengths_at, tail_at, next_entry, tails_at};
 
 use crate::fault::Read;
+use crate::reading::bounded::positive;
 use crate::reading::items::{InOrder, items_of};
 use crate::reading::number::{byte_of, kept, two_of};
 use rmt_bits::sequence::Sequence;
@@ -76,8 +77,7 @@ fn lengths_of(len: u8, bytes: &[u8]) -> Read<(u8, u8)>
     requires { len ≤ 8 }
     ensures { Gives (λ x. (x.0, x.1.now)) result (lengths_at len bytes.now) }
 {
-    let (unit, rest) = byte_of(bytes)?;
-    let (unit, rest) = kept(1 <= unit, unit, rest)?;
+    let (unit, rest) = positive(bytes)?;
     let (base, rest) = byte_of(rest)?;
     kept(is_length(len, unit, base), (unit, base), rest)
 }

@@ -3,7 +3,7 @@
 #![tactic(auto, unfolding(crate::specs::Reading::source_at, crate::specs::Reading::kind_at, crate::specs::Reading::operation_at, crate::specs::Reading::vliw_at))]
 
 ghost use Rattle.std.specs.Prelude.{◌≡◌, ◌≤◌, ◌<◌, ◌^◌, ◌++◌, OnOk, IfOk};
-ghost use Rattle.rmt_config.specs.CodeForm.{slot_places, places_of};
+ghost use Rattle.rmt_config.specs.CodeForm.{slot_places, unit_places, places_of};
 ghost use Rattle.rmt_items.specs.Readers.{Gives, kept, where_, each, items_at, byte_at, number_at, below};
 ghost use Rattle.rmt_items.specs.Reading.{fits_word, fits_held, source_at, kind_at, operation_at, next_word, vliw_at};
 
@@ -148,15 +148,22 @@ fn put_slot_places(places: &mut Vec<InstructionRole>, slot: &SlotUnit) -> Result
     Ok(())
 }
 
+fn put_unit_places(places: &mut Vec<InstructionRole>, unit: &Unit) -> Result<(), AllocError>
+    ensures { OnOk result (places.new.items ≡ places.old.items ++ unit_places unit.now) }
+{
+    match unit {
+        Unit::Gate(_) => Ok(()),
+        Unit::Slot(slot) => put_slot_places(places, slot),
+    }
+}
+
 /// Where the instructions of a stage stand, in their order.
 fn place_list(alloc: Global, units: &[Unit]) -> Result<Vec<InstructionRole>, AllocError>
     ensures { IfOk result (λ places. places.items ≡ places_of units.now) }
 {
     let mut places = Vec::new(alloc);
     for unit in units {
-        if let Unit::Slot(slot) = unit {
-            put_slot_places(&mut places, slot)?;
-        }
+        put_unit_places(&mut places, unit)?;
     }
     Ok(places)
 }

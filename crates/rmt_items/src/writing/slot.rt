@@ -1,17 +1,17 @@
 //! Gates and slots: guards, memories and cells.
 
 ghost use Rattle.std.specs.Prelude.{◌≡◌, ◌++◌, ◌∷◌, [], ◌<◌, ◌^◌, length, OnOk};
-ghost use Rattle.rmt_config.specs.Spelling.{spelled_flag, spelled_guard, spelled_test, spelled_gate, spelled_memory, spelled_number, spelled_slot_head, spelled_slot, spelled_unit, CountsFitSlot, CountsFitUnit};
+ghost use Rattle.rmt_config.specs.Spelling.{two_bytes, spelled_flag, spelled_guard, spelled_test, spelled_gate, spelled_memory, spelled_number, spelled_slot_head, spelled_slot, spelled_unit, CountsFitSlot, CountsFitUnit};
 ghost use Rattle.rmt_items.specs.Formats.{spelled_format};
 
 use crate::writing::spelled::{Spelled, put_four, put_list8, put_list16, put_list32, put_two};
 use rmt_config::config::{CellNumber, GateTest, GateUnit, Memory, SlotUnit, Unit, UnitGuard};
 use std::alloc::AllocError;
 
-fn put_flag(out: &mut Vec<u8>, flag: bool) -> Result<(), AllocError>
-    ensures { OnOk result (out.new.items ≡ out.old.items ++ spelled_flag flag ∷ []) }
+fn flag_byte(flag: bool) -> u8
+    ensures { result ≡ spelled_flag flag }
 {
-    out.extend_from_slice(&[if flag { 1 } else { 0 }])
+    if flag { 1 } else { 0 }
 }
 
 fn put_guard(out: &mut Vec<u8>, guard: &Option<UnitGuard>) -> Result<(), AllocError>
@@ -45,6 +45,21 @@ fn put_gate(out: &mut Vec<u8>, gate: &GateUnit) -> Result<(), AllocError>
     put_list8(out, gate.tests.as_slice())
 }
 
+/// The numbers of exact memory before its lists of blocks.
+fn put_exact_format(
+    out: &mut Vec<u8>,
+    width: u8,
+    per: u16,
+    quanta: u8,
+    first_way: u8,
+) -> Result<(), AllocError>
+    ensures { OnOk result (out.new.items ≡ out.old.items ++ (1 ∷ width ∷ two_bytes per ++ quanta ∷ first_way ∷ [])) }
+{
+    out.extend_from_slice(&[1, width])?;
+    put_two(out, per)?;
+    out.extend_from_slice(&[quanta, first_way])
+}
+
 /// The numbers of a memory before its lists of blocks.
 fn put_format(out: &mut Vec<u8>, memory: &Memory) -> Result<(), AllocError>
     ensures { OnOk result (out.new.items ≡ out.old.items ++ spelled_format memory.now) }
@@ -57,13 +72,23 @@ fn put_format(out: &mut Vec<u8>, memory: &Memory) -> Result<(), AllocError>
             quanta,
             first_way,
             ..
-        } => {
-            out.extend_from_slice(&[1, *width])?;
-            put_two(out, *per)?;
-            out.extend_from_slice(&[*quanta, *first_way])
-        }
+        } => put_exact_format(out, *width, *per, *quanta, *first_way),
         Memory::Ternary { quanta, .. } => out.extend_from_slice(&[2, *quanta]),
     }
+}
+
+/// Lists of blocks, one behind the other.
+fn put_blocks(
+    out: &mut Vec<u8>,
+    keys: &[u8],
+    records: &[u8],
+    counters: &[u8],
+) -> Result<(), AllocError>
+    ensures { OnOk result (out.new.items ≡ out.old.items ++ (keys.now ++ records.now ++ counters.now)) }
+{
+    out.extend_from_slice(keys)?;
+    out.extend_from_slice(records)?;
+    out.extend_from_slice(counters)
 }
 
 fn put_memory(out: &mut Vec<u8>, memory: &Memory) -> Result<(), AllocError>
@@ -83,11 +108,12 @@ fn put_memory(out: &mut Vec<u8>, memory: &Memory) -> Result<(), AllocError>
             records,
             counters,
             ..
-        } => {
-            out.extend_from_slice(keys.as_slice())?;
-            out.extend_from_slice(records.as_slice())?;
-            out.extend_from_slice(counters.as_slice())
-        }
+        } => put_blocks(
+            out,
+            keys.as_slice(),
+            records.as_slice(),
+            counters.as_slice(),
+        ),
     }
 }
 
@@ -105,9 +131,7 @@ fn put_slot_head(out: &mut Vec<u8>, slot: &SlotUnit) -> Result<(), AllocError>
 {
     out.push(slot.node)?;
     put_guard(out, &slot.guard)?;
-    put_flag(out, slot.counted)?;
-    out.push(slot.actions)?;
-    put_flag(out, slot.last)?;
+    out.extend_from_slice(&[flag_byte(slot.counted), slot.actions, flag_byte(slot.last)])?;
     put_two(out, slot.held)
 }
 

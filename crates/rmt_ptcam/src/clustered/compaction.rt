@@ -14,6 +14,7 @@ use rmt_bits::answer::Bytes;
 use rmt_bits::sequence::Sequence;
 use rmt_config::config::{Next, ParserConfig, ParserEntry, ParserState, TailOf};
 use std::alloc::{AllocError, Global};
+use std::mem::drop;
 
 /// Adds the state that is gone to, where it isn't there yet.
 fn push_next(met: &mut Bytes, next: Next) -> Result<(), AllocError>
@@ -121,8 +122,8 @@ fn push_kept(
     Ok(())
 }
 
-/// The parser without the states that can't be met, the others numbered in order.
-pub fn compact(alloc: Global, parser: &ParserConfig) -> Result<ParserConfig, AllocError>
+/// A copy of a parser without the states that can't be met, the others numbered in order.
+fn compact(alloc: Global, parser: &ParserConfig) -> Result<ParserConfig, AllocError>
     requires keeps { KeepsForm parser.now }
     requires some { 0 < length parser.now.states }
     requires few { length parser.now.states ≤ 256 }
@@ -139,4 +140,17 @@ pub fn compact(alloc: Global, parser: &ParserConfig) -> Result<ParserConfig, All
         entries,
         tails,
     })
+}
+
+/// The parser without the states that can't be met, the others numbered in order.
+pub fn compacted(alloc: Global, parser: ParserConfig) -> Result<ParserConfig, AllocError>
+    requires keeps { KeepsForm parser }
+    requires some { 0 < length parser.states }
+    requires few { length parser.states ≤ 256 }
+    ensures given { IfOk result (λ q. q ≡ compact_of parser) }
+    ensures good { IfOk result (IsGood parser) }
+{
+    let copy = compact(alloc, &parser);
+    drop(parser);
+    copy
 }

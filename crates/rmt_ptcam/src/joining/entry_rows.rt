@@ -8,8 +8,21 @@ ghost use Rattle.rmt_ptcam.specs.Joining.{moved as moved_of, joined_entry as joi
 
 use crate::joining::lookups::both;
 use rmt_bits::sequence::Sequence;
-use rmt_config::config::{Extract, ParserEntry, TailOf};
+use rmt_config::config::{Extract, ParserConfig, ParserEntry, TailOf};
 use std::alloc::{AllocError, Global};
+
+/// A parser without states.
+pub fn empty_parser(alloc: Global) -> ParserConfig
+    ensures states { result.states ≡ [] }
+    ensures entries { result.entries ≡ [] }
+    ensures tails { result.tails ≡ [] }
+{
+    ParserConfig {
+        states: Sequence::new(alloc),
+        entries: Sequence::new(alloc),
+        tails: Sequence::new(alloc),
+    }
+}
 
 /// Adds an entry with its tail behind those that stand.
 pub fn push_row(

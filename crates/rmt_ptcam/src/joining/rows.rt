@@ -1,12 +1,12 @@
 //! The rows of a parser, its entries with their tails, by state.
 
-ghost use Rattle.std.specs.Prelude.{◌≡◌, ◌≤◌, ◌+◌, [], length, IfOk, OnOk};
+ghost use Rattle.std.specs.Prelude.{◌≡◌, ◌≤◌, ◌+◌, ◌++◌, ◌∷◌, [], length, IfOk, OnOk};
 ghost use Rattle.rmt_ptcam.specs.Adding.{Adds};
-ghost use Rattle.rmt_ptcam.specs.Grouping.{all_rows, by_state, groups_from, parser_in};
+ghost use Rattle.rmt_ptcam.specs.Grouping.{all_rows, by_state, groups_from, parser_in, state_in};
 ghost use Rattle.rmt_ptcam.specs.Joining.{KeepsForm};
 
 use crate::joining::copied;
-use crate::joining::entry_rows::{copied_entry, push_row};
+use crate::joining::entry_rows::{copied_entry, empty_parser, push_row};
 use crate::parse::search::entry_tail;
 use rmt_bits::answer::Bytes;
 use rmt_bits::sequence::Sequence;
@@ -14,7 +14,7 @@ use rmt_config::config::{ParserConfig, ParserEntry, ParserState, TailOf};
 use std::alloc::{AllocError, Global};
 
 /// An entry with its tail, where it has one.
-#[derive(Drop, Debug)]
+#[derive(Drop)]
 pub struct Row {
     /// The entry.
     pub entry: ParserEntry,
@@ -23,7 +23,7 @@ pub struct Row {
 }
 
 /// What a state looks at, and its rows.
-#[derive(Drop, Debug)]
+#[derive(Drop)]
 pub struct StateRows {
     /// The offsets that it looks up.
     pub lookups: Bytes,
@@ -77,22 +77,30 @@ fn push_rows(
     Ok(())
 }
 
+/// Adds a state with copies of its rows behind those that stand.
+fn push_group(alloc: Global, parser: &mut ParserConfig, group: &StateRows) -> Result<(), AllocError>
+    requires { length parser.old.entries + length group.now.rows ≤ 65536 }
+    ensures states { OnOk result (parser.new.states ≡ parser.old.states ++ state_in group.now ∷ []) }
+    ensures rows { OnOk result (Adds group.now.rows parser.old.entries parser.new.entries parser.old.tails parser.new.tails) }
+{
+    let lookups = copied(alloc, group.lookups.as_slice())?;
+    parser.states.push(ParserState { lookups })?;
+    push_rows(
+        alloc,
+        &mut parser.entries,
+        &mut parser.tails,
+        group.rows.as_slice(),
+    )
+}
+
 /// The parser of rows by state.
 pub fn flattened(alloc: Global, groups: &[StateRows]) -> Result<ParserConfig, AllocError>
     requires { length (all_rows groups.now) ≤ 65536 }
     ensures { IfOk result (λ parser. parser ≡ parser_in groups.now) }
 {
-    let mut states = Sequence::new(alloc);
-    let mut entries = Sequence::new(alloc);
-    let mut tails = Sequence::new(alloc);
+    let mut parser = empty_parser(alloc);
     for group in groups {
-        let lookups = copied(alloc, group.lookups.as_slice())?;
-        states.push(ParserState { lookups })?;
-        push_rows(alloc, &mut entries, &mut tails, group.rows.as_slice())?;
+        push_group(alloc, &mut parser, group)?;
     }
-    Ok(ParserConfig {
-        states,
-        entries,
-        tails,
-    })
+    Ok(parser)
 }

@@ -14,7 +14,7 @@ use rmt_config::tails::Tails;
 use rmt_config::vector::Vector;
 
 /// How one state of the parser ends.
-#[derive(Clone, Copy, Debug, PartialEq, Eq)]
+#[derive(Clone, Copy)]
 pub enum Step {
     Short,
     Reject,

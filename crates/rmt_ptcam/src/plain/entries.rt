@@ -1,7 +1,7 @@
 //! The entries and tails of a header.
 
 ghost use Rattle.std.specs.Prelude.{◌≡◌, ◌≤◌, ◌+◌, ◌++◌, Some, map, OnOk, IfOk};
-ghost use Rattle.rmt_ast.specs.WellFormed.{IsProgram, IsHeader};
+ghost use Rattle.rmt_ast.specs.WellFormed.{IsCase, IsHeader, IsProgram};
 ghost use Rattle.rmt_config.specs.LaneForm.{bits_of_lanes};
 ghost use Rattle.rmt_ptcam.specs.Needs.{entry_count};
 ghost use Rattle.rmt_ptcam.specs.Plain.{IsNear, state_of, next_of as next_of_target, entry_to, entry_of_case, entries_of, tails_for};
@@ -10,7 +10,7 @@ ghost use Rattle.rmt_phv.specs.Places.{high_first};
 use crate::plain::cases::{Compared, compared_in};
 use crate::plain::headers::{place_of, width_of};
 use crate::plain::pieces::extracts_for;
-use rmt_ast::program::{Header, Program, Tail, Target};
+use rmt_ast::program::{Case, Header, Program, Tail, Target};
 use rmt_bits::sequence::Sequence;
 use rmt_config::config::{Next, ParserEntry, ParserState, TailOf};
 use rmt_phv::places::Places;
@@ -53,6 +53,27 @@ fn entry_for(
     })
 }
 
+/// The entry of a case of the header with this number.
+fn case_entry(
+    alloc: Global,
+    program: &Program,
+    places: &Places,
+    number: u8,
+    header: &Header,
+    state: &ParserState,
+    case: &Case,
+) -> Result<ParserEntry, AllocError>
+    requires program { IsProgram program.now }
+    requires header { IsHeader program.now number header.now }
+    requires short { bits_of_lanes (high_first places.now header.now.fields) ≤ 512 }
+    requires state { state.now ≡ state_of program.now header.now }
+    requires case { IsCase program.now number header.now.select case.now }
+    ensures { IfOk result (λ entry. entry ≡ entry_of_case program.now places.now number header.now case.now) }
+{
+    let compared = compared_in(alloc, program, header, state, case.tests.as_slice())?;
+    entry_for(alloc, places, number, header, compared, case.target)
+}
+
 /// Adds the entries of a header: those of its cases, and then that of all other packets.
 pub fn push_entries(
     alloc: Global,
@@ -70,8 +91,7 @@ pub fn push_entries(
     ensures { OnOk result (entries.new ≡ entries.old ++ entries_of program.now places.now number header.now) }
 {
     for case in header.cases.as_slice() {
-        let compared = compared_in(alloc, program, header, state, case.tests.as_slice())?;
-        entries.push(entry_for(alloc, places, number, header, compared, case.target)?)?;
+        entries.push(case_entry(alloc, program, places, number, header, state, case)?)?;
     }
     let all = Compared { value: 0, mask: 0 };
     entries.push(entry_for(alloc, places, number, header, all, header.other)?)?;

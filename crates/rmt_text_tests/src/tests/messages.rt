@@ -13,6 +13,18 @@ use rmt_explain::explain;
 use std::alloc::{AllocError, Global};
 use std::io::ErrorKind;
 
+/// A run of `compile`.
+const COMPILE: &[&str] = &["compile", "p", "e", "i"];
+
+/// A run of `plain`.
+const PLAIN: &[&str] = &["plain", "p", "e", "k"];
+
+/// A run of `sim`.
+const SIM: &[&str] = &["sim", "i", "k"];
+
+/// A run of `switch`.
+const SWITCH: &[&str] = &["switch", "i", "g", "c", "o", "7"];
+
 /// The message where words ended with a status and a last line, and with a fault of this file, if any.
 fn message_of(
     alloc: Global,

@@ -3,8 +3,7 @@
 ghost use Rattle.std.specs.Prelude.{◌<◌, length};
 
 use crate::tests::compare::same_text;
-use rmt_ast::name::NamesFault;
-use rmt_ast::names::Names;
+use rmt_ast::names::{Names, TableName};
 use rmt_ast::naming::names_of;
 use rmt_entries::entries;
 use rmt_tests::fixtures::programs::STRICT_AND_WEAK;
@@ -25,30 +24,38 @@ table t { ternary h.f; actions no, go; size 8; default no(); }
 control { if (h.f == 1) { apply t; } apply r; apply x; }
 ";
 
-/// Names, a table a line: its node, name, kind and size, the widths of its key, its actions with their widths, and its
-/// ranks.
-fn shown(alloc: Global, names: &Names) -> Result<String, AllocError> {
-    let mut out = String::new(alloc);
-    for table in names.tables.as_slice() {
-        write!(out, "{} ", table.node)?;
-        push_name(&mut out, &table.name)?;
-        write!(out, " {:?} {} of", table.kind, table.size)?;
-        for width in table.keys.as_slice() {
-            write!(out, " {width}")?;
-        }
-        for action in table.actions.as_slice() {
-            out.push_str(", ")?;
-            push_name(&mut out, &action.name)?;
-            for width in action.params.as_slice() {
-                write!(out, " {width}")?;
-            }
-        }
-        for rank in table.ranks.as_slice() {
-            write!(out, ", #{} rank {}", rank.number, rank.rank)?;
-        }
-        out.push_str("\n")?;
+/// Writes the names of a table on a line: its node, name, kind and size, the widths of its key, its actions with their
+/// widths, and its ranks.
+fn push_table(out: &mut String, table: &TableName) -> Result<(), AllocError> {
+    write!(out, "{} ", table.node)?;
+    push_name(out, &table.name)?;
+    write!(out, " {:?} {} of", table.kind, table.size)?;
+    push_widths(out, table.keys.as_slice())?;
+    for action in table.actions.as_slice() {
+        out.push_str(", ")?;
+        push_name(out, &action.name)?;
+        push_widths(out, action.params.as_slice())?;
     }
-    Ok(out)
+    for rank in table.ranks.as_slice() {
+        write!(out, ", #{} rank {}", rank.number, rank.rank)?;
+    }
+    out.push_str("\n")
+}
+
+/// Writes widths, each behind a space.
+fn push_widths(out: &mut String, widths: &[u8]) -> Result<(), AllocError> {
+    for width in widths {
+        write!(out, " {width}")?;
+    }
+    Ok(())
+}
+
+/// Writes names, a table a line.
+fn push_names(out: &mut String, names: &Names) -> Result<(), AllocError> {
+    for table in names.tables.as_slice() {
+        push_table(out, table)?;
+    }
+    Ok(())
 }
 
 /// Texts of a program and its entries, and the names that they have.
@@ -73,31 +80,27 @@ const ROWS: [Row; 4] = [
     ),
 ];
 
-/// A copy of the names that a program has with a copy of its entries, in short.
-fn copied(
-    rt: &(impl Abort + AllocGlobal),
-    program: &[u8],
-    text: &[u8],
-) -> Result<String, NamesFault>
+/// A copy of the names that a program has with a copy of its entries.
+fn copied(rt: &(impl Abort + AllocGlobal), program: &[u8], text: &[u8]) -> Names
     requires program { length program.now < 4294967295 }
     requires entries { length text.now < 4294967295 }
 {
     let alloc = rt.alloc();
     let program = program_of(alloc, program).expect(rt, "a program");
     let lists = entries(alloc, &program, text).expect(rt, "entries");
+    let lists = lists.copy(alloc).expect(rt, "memory");
     assert!(rt; program.nodes.len() <= 128);
-    let names = names_of(alloc, &program, &lists.copy(alloc)?)?;
-    match shown(alloc, &names.copy(alloc)?) {
-        Ok(shown) => Ok(shown),
-        Err(_) => Err(NamesFault::NoMemory),
-    }
+    let names = names_of(alloc, &program, &lists).expect(rt, "memory");
+    names.copy(alloc).expect(rt, "memory")
 }
 
 #[test]
 fn tells_names(rt: HostRuntime) {
     for &(program, text, wanted) in &ROWS {
         assert!(rt; program.len() < 10000 && text.len() < 10000);
-        let told = copied(&rt, program, text).expect(&rt, "memory");
+        let mut told = String::new(rt.alloc());
+        let names = copied(&rt, program, text);
+        push_names(&mut told, &names).expect(&rt, "memory");
         same_text(&rt, told.as_str(), wanted);
     }
 }

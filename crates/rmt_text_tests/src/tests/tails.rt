@@ -3,7 +3,7 @@
 ghost use Rattle.std.specs.Prelude.{◌<◌, length};
 
 use crate::tests::compare::same_text;
-use rmt_ast::program::Program;
+use rmt_ast::program::{Header, Program};
 use rmt_check::read_program;
 use rmt_lexer::fault::ProgramFault;
 use rmt_tests::fixtures::shown::push_name;
@@ -11,24 +11,35 @@ use std::alloc::{AllocError, Global};
 use std::process::Abort;
 use std::test::*;
 
-/// The fields of a program with their widths, and its headers with their tails.
-fn shown(alloc: Global, program: &Program) -> Result<String, AllocError> {
-    let mut out = String::new(alloc);
+/// Writes the fields of a program with their widths, and its headers with their tails.
+fn push_program(out: &mut String, program: &Program) -> Result<(), AllocError> {
     for field in program.fields.as_slice() {
-        push_name(&mut out, &field.name)?;
+        push_name(out, &field.name)?;
         write!(out, " {}, ", field.width)?;
     }
     for header in program.headers.as_slice() {
-        push_name(&mut out, &header.name)?;
-        write!(out, " valid {} bytes {} fields", header.valid, header.bytes)?;
-        for number in header.fields.as_slice() {
-            write!(out, " {number}")?;
-        }
-        if let Some(tail) = &header.tail {
-            write!(out, " tail {} * {} - {}", tail.field, tail.unit, tail.base)?;
-        }
-        out.push_str(";")?;
+        push_header(out, header)?;
     }
+    Ok(())
+}
+
+/// Writes a header with its tail.
+fn push_header(out: &mut String, header: &Header) -> Result<(), AllocError> {
+    push_name(out, &header.name)?;
+    write!(out, " valid {} bytes {} fields", header.valid, header.bytes)?;
+    for number in header.fields.as_slice() {
+        write!(out, " {number}")?;
+    }
+    if let Some(tail) = &header.tail {
+        write!(out, " tail {} * {} - {}", tail.field, tail.unit, tail.base)?;
+    }
+    out.push_str(";")
+}
+
+/// The program in short.
+fn shown(alloc: Global, program: &Program) -> Result<String, AllocError> {
+    let mut out = String::new(alloc);
+    push_program(&mut out, program)?;
     Ok(out)
 }
 

@@ -12,6 +12,7 @@ ghost use Rattle.rmt_update.specs.Planned.{changed_lists};
 ghost use Rattle.rmt_lists.specs.Running.{is_among};
 ghost use Rattle.rmt_book.specs.Seen.{HaveNumbers};
 
+use crate::book::adding::add_made;
 use crate::book::number_set::number_set;
 use rmt_ast::entry::{Entry, EntryLists};
 use rmt_bits::sequence::Sequence;
@@ -51,7 +52,7 @@ fn left_in_all(
 {
     let mut orders = Vec::with_capacity(alloc, lists.len())?;
     for list in lists.into_vec() {
-        orders.push(left_in(alloc, gone, list)?)?;
+        add_made(&mut orders, left_in(alloc, gone, list))?;
     }
     Ok(orders)
 }
@@ -75,11 +76,11 @@ fn in_order_all(alloc: Global, orders: Vec<Ordered>) -> Result<EntryLists, Alloc
     ensures { IfOk result (λ lists. (own : ℕ → List EntryOf) → AreOrders own orders.items →
         lists ≡ map (λ n. by_number (own n)) (range_with_len 0 (length orders.items))) }
 {
-    let mut lists = EntryLists::new(alloc);
+    let mut lists = Vec::new(alloc);
     for ordered in orders {
-        lists.push(in_order(alloc, ordered)?)?;
+        add_made(&mut lists, in_order(alloc, ordered))?;
     }
-    Ok(lists)
+    Ok(EntryLists::from_vec(lists))
 }
 
 /// The entry lists behind a commit. The only fault is want of memory.

@@ -9,6 +9,7 @@ ghost use Rattle.rmt_update.specs.IndexCells.{HasGathered, all_cells, part_cells
 ghost use Rattle.rmt_update.specs.RowIndex.{IsIndex, never};
 
 use crate::book::Book;
+use crate::book::adding::add_made;
 use crate::book::index::{TableIndex, index_of};
 use crate::book::placing::all_ordered;
 use rmt_book::kept::Kept;
@@ -100,7 +101,7 @@ fn indexes_of(
 {
     let mut indexes = Vec::with_capacity(alloc, tables.len())?;
     for table in tables {
-        indexes.push(index_of(alloc, odd, table)?)?;
+        add_made(&mut indexes, index_of(alloc, odd, table))?;
     }
     Ok(indexes)
 }

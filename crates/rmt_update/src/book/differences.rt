@@ -130,7 +130,7 @@ fn written(alloc: Global, changes: CellChanges) -> Result<Vec<CellWrite>, AllocE
     let ordered = in_order(changes)?;
     let mut writes = Vec::with_capacity(alloc, ordered.len())?;
     for (_, change) in ordered {
-        writes.push(change.write)?;
+        writes.push_reserved(change.write);
     }
     Ok(writes)
 }

@@ -8,6 +8,7 @@ ghost use Rattle.rmt_update.specs.Refill.{AreRefilled, FitsInto, HasRoomIn, IsCl
 ghost use Rattle.rmt_book.specs.declared.table.PartCells.{PartCells as PartOf};
 ghost use Rattle.std.specs.declared.vec.Vec.{Vec as VecOf};
 
+use crate::book::adding::add_made;
 use crate::book::coming::kept_of;
 use crate::book::loading::key_of;
 use rmt_ast::entry::{Entry, EntryLists};
@@ -103,7 +104,10 @@ pub fn moved_parts(
     for table in tables {
         let node = table.name.node as usize;
         let own = lists[node].as_slice();
-        moved.push(refilled(alloc, table, own, spots[node].as_slice())?)?;
+        add_made(
+            &mut moved,
+            refilled(alloc, table, own, spots[node].as_slice()),
+        )?;
     }
     Ok(moved)
 }

@@ -6,6 +6,7 @@ ghost use Rattle.rmt_config.specs.NamesForm.{by_number};
 ghost use Rattle.rmt_book.specs.Seen.{IsReadable, entries_at as entries_at_of, entries_by_part, entries_in, is_seen as is_seen_of};
 ghost use Rattle.rmt_book.specs.declared.table.TableCells.{TableCells as TableOf};
 
+use crate::book::adding::add_made;
 use rmt_ast::entry::Entry;
 use rmt_ast::names::TableName;
 use rmt_bits::sequence::Sequence;
@@ -35,7 +36,7 @@ fn put_entries(
 {
     for kept in part.cells.values() {
         if is_seen(odd, kept) {
-            entries.push(entry_told(alloc, table, part.first, kept)?)?;
+            add_made(entries, entry_told(alloc, table, part.first, kept))?;
         }
     }
     Ok(())

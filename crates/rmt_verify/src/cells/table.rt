@@ -170,16 +170,16 @@ fn parts_hold(alloc: Global, at: &TableAt, parts: &[Part]) -> Result<bool, Verif
     Ok(true)
 }
 
-/// Whether the cells of the parts of a table hold its entries, as many as there are and in the order of their rows.
-pub fn table_holds(alloc: Global, at: &TableAt) -> Result<bool, VerifyFault>
+/// Whether the cells of some parts, which are all of the table's, hold its entries, as many as there are and in the order
+/// of their rows.
+fn all_hold(alloc: Global, at: &TableAt, parts: &[Part]) -> Result<bool, VerifyFault>
     requires known { TableKnown at.now.program.now at.now.config.now at.now.node at.now.table.now at.now.widths.now at.now.entries.now }
-    requires parts { All (PartKnown at.now.config.now at.now.table.now (sum at.now.widths.now)) (parts_of_node at.now.config.now at.now.node) }
+    requires all { parts_at parts.now ≡ parts_of_node at.now.config.now at.now.node }
+    requires parts { All (PartKnown at.now.config.now at.now.table.now (sum at.now.widths.now)) (parts_at parts.now) }
     requires told { (cells : List CellOfMap) × AreTold cells at.now.told.now }
-    ensures { IfOk result (λ holds. (cells : List CellOfMap) → AreTold cells at.now.told.now
-        → (IsTrue holds ↔ TableHeld at.now.program.now at.now.config.now cells at.now.node at.now.table.now at.now.entries.now)) }
+    ensures { IfOk result (λ hold. (cells : List CellOfMap) → AreTold cells at.now.told.now
+        → (IsTrue hold ↔ TableHeld at.now.program.now at.now.config.now cells at.now.node at.now.table.now at.now.entries.now)) }
 {
-    let parts = parts_of(alloc, at.config, at.node)?;
-    let parts = parts.as_slice();
     if !parts_hold(alloc, at, parts)? {
         return Ok(false);
     }
@@ -189,4 +189,16 @@ pub fn table_holds(alloc: Global, at: &TableAt) -> Result<bool, VerifyFault>
         return Ok(false);
     }
     Ok(keep_order(at.table.kind, at.entries, numbers))
+}
+
+/// Whether the cells of the parts of a table hold its entries, as many as there are and in the order of their rows.
+pub fn table_holds(alloc: Global, at: &TableAt) -> Result<bool, VerifyFault>
+    requires known { TableKnown at.now.program.now at.now.config.now at.now.node at.now.table.now at.now.widths.now at.now.entries.now }
+    requires parts { All (PartKnown at.now.config.now at.now.table.now (sum at.now.widths.now)) (parts_of_node at.now.config.now at.now.node) }
+    requires told { (cells : List CellOfMap) × AreTold cells at.now.told.now }
+    ensures { IfOk result (λ holds. (cells : List CellOfMap) → AreTold cells at.now.told.now
+        → (IsTrue holds ↔ TableHeld at.now.program.now at.now.config.now cells at.now.node at.now.table.now at.now.entries.now)) }
+{
+    let parts = parts_of(alloc, at.config, at.node)?;
+    all_hold(alloc, at, parts.as_slice())
 }

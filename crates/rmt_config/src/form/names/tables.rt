@@ -41,7 +41,12 @@ fn is_named(names: &Names, unit: &Unit) -> bool
 fn units_are_named(names: &Names, units: &[Unit]) -> bool
     ensures { result ≡ list_all (is_named names.now) units.now }
 {
-    units.iter().all(|unit| is_named(names, unit))
+    for unit in units {
+        if !is_named(names, unit) {
+            return false;
+        }
+    }
+    true
 }
 
 fn stages_are_named(names: &Names, stages: &[Stage]) -> bool

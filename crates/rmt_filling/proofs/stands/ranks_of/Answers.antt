@@ -1,13 +1,21 @@
-use Rattle.std.proofs.Common.{◌<◌, ◌^◌, All, [], ◌∷◌, arith, get_or, sym, subst, take}
-use Rattle.std.proofs.lemmas.Grind.{common_steps}
-use Rattle.std.proofs.lemmas.List.{take_more}
+use Rattle.std.proofs.Common.{◌∙◌, ℕ, ◌<◌, ◌^◌, List, All, [], ◌∷◌, ◌++◌, get_or, map, ap, sym, subst, take}
+use Rattle.std.proofs.lemmas.List.{map-append, take_more}
 use Rattle.std.proofs.lemmas.List.Elements.{All-append, All-cons, All-nil}
 use Rattle.rmt_ast.specs.declared.entry.Entry.{Entry}
+use Rattle.rmt_filling.specs.Sorting.{rank_in}
 use Rattle.rmt_filling.proofs.stands.ranks_of.Goals as goal
 
 pub loop-entry-preserved : goal.loop-entry-preserved
 loop-entry-preserved c = record {
-  ranks = grind (arith, common_steps, c.loop-entry.invariant.ranks, c.in_ok-push.ensures.items, c.rank_of.ensures.rank);
+  ranks =
+      let f = rank_in c.args.kind in
+      let es = c.args.entries.now in
+      let i = c.loop-entry.entry-index in
+      let item = c.entry-item.result in
+      let front = map f (take i es) in
+      c.in_ok-push.ensures.items ∙ ap (λ (rs : List ℕ). rs ++ c.rank_of.result ∷ []) c.loop-entry.invariant.ranks
+      ∙ ap (λ r. front ++ r ∷ []) (c.rank_of.ensures.rank ∙ ap f c.entry-item.is)
+      ∙ sym (ap (map f) (take_more es i item c.loop-entry-test.true) ∙ map-append f (take i es) (get_or es i item ∷ []));
   fits =
       let P : Entry → Type 0 = λ e. e.rank < 2 ^ 32 in
       let es = c.args.entries.now in

@@ -1,8 +1,11 @@
-use Rattle.std.proofs.Common.{◌<◌, ◌∙◌, ◌++◌, ◌∷◌, List, [], Some, ap, arith, length, refl, take}
+use Rattle.std.proofs.Common.{◌<◌, ◌∙◌, ◌++◌, ◌∷◌, List, [], Option, Some, ap, arith, length, refl, subst, sym, take}
+use Rattle.std.proofs.lemmas.List.{append-nil, take_all}
 use Rattle.rmt_bits.proofs.ListLaws.{slice_get-seen}
 use Rattle.rmt_ast.specs.declared.entry.Entry.{Entry}
 use Rattle.rmt_ast.specs.Changes.{list_of}
+use Rattle.rmt_lists.specs.Settled.{Extends}
 use Rattle.rmt_lists.specs.Stands.{somes}
+use Rattle.rmt_lists.proofs.ResultLaws.{on_err}
 use Rattle.rmt_lists.proofs.SettleLaws.{extends_push, list_at, none_more, somes_at, somes_more}
 use Rattle.rmt_lists.proofs.settle.add_each.Goals as goal
 use Rattle.rmt_lists.proofs.settle.add_each.Goals.{in-Some+in_ok-copy+in_ok-push, in_default}
@@ -32,3 +35,12 @@ loop-place-preserved c =
           rw (somes_more c.args.come.now c.loop-place.place-index e at, w.lists-is) done
       | in_default w ↦ rw (none_more c.args.come.now c.loop-place.place-index (place ∙ ap Some w.in_default.is), w.lists-is) c.loop-place.invariant
     ]
+
+pub loop-place-init : goal.loop-place-init
+loop-place-init c = record { count = refl; at = λ m. sym (append-nil (list_of c.args.lists.now.items m)) }
+
+pub returns-clause-added : goal.returns-clause-added
+returns-clause-added c = subst (λ (xs : List (Option Entry)). Extends c.args.lists.now.items (somes xs) c.loop-place.lists.items) (take_all c.loop-place.place-index c.args.come.now c.loop-place-test.false) c.loop-place.invariant
+
+pub returns-in_err-copy-clause-some : goal.returns-in_err-copy-clause-some
+returns-in_err-copy-clause-some c = on_err c.from_residual.result _ (c.loop-place.place-index, c.loop-place.invariant)

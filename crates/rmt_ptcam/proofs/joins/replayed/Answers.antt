@@ -1,64 +1,38 @@
-use Rattle.std.proofs.Common.{ap, arith, length, subst, sym, ◌∙◌}
-use Rattle.std.specs.Prelude.{Some, option_map}
-use Rattle.std.proofs.lemmas.List.{length-map}
-use Rattle.rmt_config.specs.Parser.{parse}
+use Rattle.std.proofs.Common.{◌≡◌, Option, Some, ap, sym, ◌∙◌, arith}
+use Rattle.std.specs.Prelude.{option_map}
+use Rattle.std.proofs.lemmas.Result.{IfOk-at_ok}
 use Rattle.rmt_ptcam.specs.Types.{ParserConfig}
 use Rattle.rmt_ptcam.specs.Clustering.{compact}
-use Rattle.rmt_ptcam.specs.Grouping.{all_rows}
-use Rattle.rmt_ptcam.specs.Joining.{KeepsForm, Row}
+use Rattle.rmt_ptcam.specs.Joins.{behind_joins}
+use Rattle.rmt_ptcam.proofs.ClusteringLaws.{good_on}
 use Rattle.rmt_ptcam.proofs.FormedParsers.{formed_keeps, keeps_formed}
-use Rattle.rmt_ptcam.proofs.GroupLaws.{start_stands}
-use Rattle.rmt_ptcam.proofs.InPlaceLaws.{all_seen, none_made}
+use Rattle.rmt_ptcam.proofs.InPlaceLaws.{list_good}
 use Rattle.rmt_ptcam.proofs.joins.replayed.Goals as goal
 
-pub grouped-requires : goal.grouped-requires
-grouped-requires c = formed_keeps c.args.parser c.requires.formed
+pub behind_joins-behind-requires : goal.behind_joins-behind-requires
+behind_joins-behind-requires c = record { keeps = formed_keeps c.args.parser c.requires.formed }
 
-pub all_in-requires : goal.all_in-requires
-all_in-requires c = record { stand = start_stands c.args.parser (formed_keeps c.args.parser c.requires.formed) c.deref_mut.result.now (c.deref_mut.ensures.value ∙ c.in_ok-groups.ensures) }
-
-pub returns-then-not-branch-clause-given : goal.returns-then-not-branch-clause-given
-returns-then-not-branch-clause-given c =
+pub compacted-requires : goal.compacted-requires
+compacted-requires c =
     let parser : ParserConfig = c.args.parser in
-    ap (option_map compact)
-    (none_made parser (formed_keeps parser c.requires.formed) c.args.joins.now c.deref_mut.result.now c.all_in.new.groups c.in_ok-all_in.field-0 (c.deref_mut.ensures.value ∙ c.in_ok-groups.ensures) c.if-not-branch.true c.in_ok-all_in.ensures)
-
-pub flattened-requires : goal.flattened-requires
-flattened-requires c =
-    let made =
-    all_seen c.args.parser (formed_keeps c.args.parser c.requires.formed) c.args.joins.now c.deref_mut.result.now c.all_in.new.groups c.in_ok-groups.groups.items c.deref.result.now c.in_ok-groups.groups.len
-    c.in_ok-all_in.field-0 (c.deref_mut.ensures.value ∙ c.in_ok-groups.ensures) c.if-not-branch.false c.in_ok-all_in.ensures c.deref.ensures.value (c.all_in.auto.groups ∙ c.deref_mut.ensures.len) in
-    let few = made.good.keeps.few in
-    let long = length-map (all_rows c.deref.result.now) (λ (x : Row). x.entry) in
-    omega (arith, few, long)
-
-pub compact-requires-clause-keeps : goal.compact-requires-clause-keeps
-compact-requires-clause-keeps c =
-    let made =
-    all_seen c.args.parser (formed_keeps c.args.parser c.requires.formed) c.args.joins.now c.deref_mut.result.now c.all_in.new.groups c.in_ok-groups.groups.items c.deref.result.now c.in_ok-groups.groups.len
-    c.in_ok-all_in.field-0 (c.deref_mut.ensures.value ∙ c.in_ok-groups.ensures) c.if-not-branch.false c.in_ok-all_in.ensures c.deref.ensures.value (c.all_in.auto.groups ∙ c.deref_mut.ensures.len) in
-    subst KeepsForm (sym c.in_ok-behind.ensures) made.good.keeps
-
-pub compact-requires-clause-some : goal.compact-requires-clause-some
-compact-requires-clause-some c = (compact-requires-clause-keeps c).some
-
-pub compact-requires-clause-few : goal.compact-requires-clause-few
-compact-requires-clause-few c =
-    let made =
-    all_seen c.args.parser (formed_keeps c.args.parser c.requires.formed) c.args.joins.now c.deref_mut.result.now c.all_in.new.groups c.in_ok-groups.groups.items c.deref.result.now c.in_ok-groups.groups.len
-    c.in_ok-all_in.field-0 (c.deref_mut.ensures.value ∙ c.in_ok-groups.ensures) c.if-not-branch.false c.in_ok-all_in.ensures c.deref.ensures.value (c.all_in.auto.groups ∙ c.deref_mut.ensures.len) in
-    let same = ap (λ (q : ParserConfig). length q.states) c.in_ok-behind.ensures in
-    let states = made.states in
+    let given : c.in_ok-behind.behind ≡ behind_joins parser c.args.joins.now = IfOk-at_ok (λ (o : Option ParserConfig). o ≡ behind_joins parser c.args.joins.now) c.in_ok-behind.was c.behind_joins-behind.ensures in
+    let told = list_good parser c.args.joins.now c.in-Some.behind (formed_keeps parser c.requires.formed) (sym c.in-Some.is ∙ given) in
+    let states = told.1 in
     let few = c.requires.few in
-    omega (arith, same, states, few)
+    record { keeps = told.0.keeps; some = told.0.keeps.some; few = omega (arith, states, few) }
 
-pub returns : goal.returns
-returns c =
-    let made =
-    all_seen c.args.parser (formed_keeps c.args.parser c.requires.formed) c.args.joins.now c.deref_mut.result.now c.all_in.new.groups c.in_ok-groups.groups.items c.deref.result.now c.in_ok-groups.groups.len
-    c.in_ok-all_in.field-0 (c.deref_mut.ensures.value ∙ c.in_ok-groups.ensures) c.if-not-branch.false c.in_ok-all_in.ensures c.deref.ensures.value (c.all_in.auto.groups ∙ c.deref_mut.ensures.len) in
-    record {
-      given = ap Some (c.in_ok-compact.ensures.given ∙ ap compact c.in_ok-behind.ensures) ∙ ap (option_map compact) made.some;
-      alike = λ frame small. c.in_ok-compact.ensures.good.alike frame small ∙ ap (λ (q : ParserConfig). parse q frame) c.in_ok-behind.ensures ∙ made.good.alike frame small;
-      formed = keeps_formed c.in_ok-compact.field-0 c.in_ok-compact.ensures.good.keeps;
-    }
+pub returns-in_ok-compacted-in-Some : goal.returns-in_ok-compacted-in-Some
+returns-in_ok-compacted-in-Some c =
+    let parser : ParserConfig = c.args.parser in
+    let given : c.in_ok-behind.behind ≡ behind_joins parser c.args.joins.now = IfOk-at_ok (λ (o : Option ParserConfig). o ≡ behind_joins parser c.args.joins.now) c.in_ok-behind.was c.behind_joins-behind.ensures in
+    let some : Some c.in-Some.behind ≡ behind_joins parser c.args.joins.now = sym c.in-Some.is ∙ given in
+    let told = list_good parser c.args.joins.now c.in-Some.behind (formed_keeps parser c.requires.formed) some in
+    let own = c.in_ok-compacted-in-Some.ensures in
+    let good = good_on parser c.in-Some.behind c.in_ok-compacted-in-Some.field-0 told.0 own.good in
+    record { given = ap Some own.given ∙ ap (option_map compact) some; alike = good.alike; formed = keeps_formed c.in_ok-compacted-in-Some.field-0 good.keeps }
+
+pub returns-in-None : goal.returns-in-None
+returns-in-None c =
+    let parser : ParserConfig = c.args.parser in
+    let given : c.in_ok-behind.behind ≡ behind_joins parser c.args.joins.now = IfOk-at_ok (λ (o : Option ParserConfig). o ≡ behind_joins parser c.args.joins.now) c.in_ok-behind.was c.behind_joins-behind.ensures in
+    record { given = ap (option_map compact) (sym c.in-None.is ∙ given); alike = tt; formed = tt }

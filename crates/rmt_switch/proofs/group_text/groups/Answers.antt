@@ -1,7 +1,7 @@
-use Rattle.std.proofs.Common.{◌+◌, ◌∙◌, sym, subst, List, ℕ}
+use Rattle.std.proofs.Common.{◌+◌, ◌∙◌, sym, subst, List, ℕ, arith}
 use Rattle.rmt_switch.specs.GroupText.{groups_of}
 use Rattle.rmt_switch.specs.LinesSoFar.{Reads}
-use Rattle.rmt_switch.proofs.GroupLaws.{gives_fault, gives_handed, reads_added, reads_bad, reads_passed}
+use Rattle.rmt_switch.proofs.GroupLaws.{gives_fault, gives_handed, reads_added, reads_bad, reads_first, reads_passed}
 use Rattle.rmt_switch.proofs.group_text.groups.Goals as goal
 use Rattle.rmt_switch.proofs.group_text.groups.Goals.{then-not-is_passed_over+in_ok-add_line, else-not-is_passed_over}
 use Rattle.rmt_bits.proofs.ListLaws.{has_bytes}
@@ -32,3 +32,19 @@ loop-rest-preserved c =
           (reads_passed c.args.text.now l.rest.now l.number l.groups l.invariant c.cut.result.0.now c.cut.result.1.now c.cut.ensures.front c.cut.ensures.back short
           (sym c.is_passed_over.ensures ∙ w.if-not-is_passed_over.false))
     ]
+
+pub loop-rest-init : goal.loop-rest-init
+loop-rest-init c =
+    let text = c.args.text.now in
+    subst (λ (gs : List (List ℕ)). Reads text text 1 gs) (sym c.in-Ok.ensures) (reads_first text)
+
+pub overflow_add-number : goal.overflow_add-number
+overflow_add-number c =
+    let l = c.loop-rest in
+    let some = has_bytes l.rest.now (sym c.is_empty.ensures ∙ c.loop-rest-test.true) in
+    omega (arith, some, l.invariant.few, c.requires)
+
+pub loop-rest-smaller : goal.loop-rest-smaller
+loop-rest-smaller c =
+    let l = c.loop-rest in
+    c.cut.ensures.shorter (has_bytes l.rest.now (sym c.is_empty.ensures ∙ c.loop-rest-test.true))

@@ -1,14 +1,10 @@
 //! The codes of lines that change entries, of captures and of maps.
 
 use crate::tests::compare::same_bytes;
-use crate::tests::messages::message;
+use crate::tests::messages::{PLAIN, SIM, message};
 use rmt_explain::ending::Texts;
 use std::alloc::{AllocError, Global};
 use std::test::*;
-
-const PLAIN: &[&str] = &["plain", "p", "e", "k"];
-
-const SIM: &[&str] = &["sim", "i", "k"];
 
 /// Words, a code with the line that has it, and what the message says behind the line's place.
 const CHANGES: [(&[&str], u64, &str, &str); 7] = [

@@ -1,15 +1,11 @@
 //! The limit of each kind of file, told where the file is too long.
 
 use crate::tests::compare::same_bytes;
-use crate::tests::messages::message_of;
+use crate::tests::messages::{COMPILE, SWITCH, message_of};
 use rmt_explain::ending::Texts;
 use std::alloc::{AllocError, Global};
 use std::io::ErrorKind;
 use std::test::*;
-
-const COMPILE: &[&str] = &["compile", "p", "e", "i"];
-
-const SWITCH: &[&str] = &["switch", "i", "g", "c", "o", "7"];
 
 /// Words, the file that is too long, and what stands behind the first line of the message.
 const ROWS: [(&[&str], &str, &str); 11] = [

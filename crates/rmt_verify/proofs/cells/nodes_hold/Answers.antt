@@ -1,4 +1,4 @@
-use Rattle.std.proofs.Common.{◌≤◌, inl, inr, length, refl, arith}
+use Rattle.std.proofs.Common.{◌∙◌, sym, true≢false, ◌≤◌, inl, inr, length, refl, arith}
 use Rattle.std.proofs.lemmas.Bool.{cases_lt}
 use Rattle.rmt_verify.specs.CellsHeld.{TablesHeld}
 use Rattle.rmt_verify.proofs.CellsToldLaws.{nodes_more, past_nodes}
@@ -9,13 +9,13 @@ node_holds-requires-clause-known c = c.requires.known c.loop-node.node
 
 pub returns-then-not-branch : goal.returns-then-not-branch
 returns-then-not-branch c = λ cells told. (
-  λ no. absurd cc,
-  λ all. absurd (let yes = (c.in_ok-node_holds.ensures cells told).1 (all c.loop-node.node) in cc),
+  λ no. absurd (true≢false (sym no)),
+  λ all. absurd (let yes = (c.in_ok-node_holds.ensures cells told).1 (all c.loop-node.node) in true≢false (sym yes ∙ c.if-not-branch.true)),
 )
 
 pub loop-node-preserved : goal.loop-node-preserved
 loop-node-preserved c = λ cells told.
-    nodes_more (TablesHeld c.args.given.now.program.now c.args.given.now.config.now cells c.args.given.now.entries.now) c.loop-node.node (c.loop-node.invariant cells told) ((c.in_ok-node_holds.ensures cells told).0 cc)
+    nodes_more (TablesHeld c.args.given.now.program.now c.args.given.now.config.now cells c.args.given.now.entries.now) c.loop-node.node (c.loop-node.invariant cells told) ((c.in_ok-node_holds.ensures cells told).0 c.if-not-branch.false)
 
 pub returns : goal.returns
 returns c = λ cells told. (

@@ -1,11 +1,12 @@
 use Rattle.std.proofs.Common.{◌≡◌, ℕ, ◌++◌, [], ◌∷◌, List, length, refl, sym, ap, subst, ◌∙◌, arith}
 use Rattle.std.proofs.lemmas.List.{length-map, with_items_is}
 use Rattle.rmt_bits.specs.Counts.{Hit, count_for, counts, in_order}
-use Rattle.rmt_chip.specs.Types.{Config}
+use Rattle.rmt_chip.specs.Types.{Config, Stage}
 use Rattle.rmt_config.specs.RunInputs.{Writes, counts_in, hits_from, numbers_brought}
 use Rattle.rmt_config.specs.RunCells.{with_write}
 use Rattle.rmt_chip.specs.PacketsInFlight.{cells_after, numbers_after}
-use Rattle.rmt_memory.specs.StageMemories.{MemoriesHold}
+use Rattle.rmt_memory.specs.StageMemories.{MemoriesHold, MemoriesOf}
+use Rattle.rmt_memory.specs.Writable.{IsTaken}
 use Rattle.rmt_chip.proofs.KnownLaws.{hits-known}
 use Rattle.rmt_chip.proofs.StandsLaws.{numbers_push, stands_next, took_counting}
 use Rattle.rmt_chip.proofs.chip.Chip.clock_write.Goals as goal
@@ -59,3 +60,46 @@ returns-clause-spare c = λ config inputs stands.
     let room = c.bring.ensures.spare in
     let kept = c.turn-answer.ensures.spare in
     omega (arith, before, after, room, kept)
+
+pub bring-requires : goal.bring-requires
+bring-requires c = record { room = c.requires.room }
+
+pub write_cell-requires-clause-fit : goal.write_cell-requires-clause-fit
+write_cell-requires-clause-fit c =
+    let turned = c.turn-answer.new.self in
+    subst (λ (ss : List Stage). MemoriesOf ss c.deref_mut.result.now) (sym c.as_slice.ensures) (subst (MemoriesOf turned.config.stages) (sym c.deref_mut.ensures.value) turned.fit)
+
+pub write_cell-requires-clause-taken : goal.write_cell-requires-clause-taken
+write_cell-requires-clause-taken c =
+    subst (λ (ss : List Stage). IsTaken ss c.args.write.now) (sym (c.as_slice.ensures ∙ ap (λ (k : Config). k.stages) c.turn-answer.ensures.config)) c.requires.taken
+
+pub invariant_of-self : goal.invariant_of-self
+invariant_of-self c =
+    let self = c.args.self.now in
+    record {
+      formed = self.formed;
+      limits = self.limits;
+      fit = self.fit;
+      full = self.full;
+      framed = self.framed;
+      room = self.room;
+      in_ring = self.in_ring;
+      leaves = self.leaves;
+    }
+
+pub invariant_of-self-2 : goal.invariant_of-self-2
+invariant_of-self-2 c =
+    let turned = c.turn-answer.new.self in
+    let lent = c.deref_mut.ensures.len in
+    let same = c.write_cell.auto.memories in
+    let items = with_items_is turned.memories c.write_cell.new.memories (omega arith) in
+    record {
+      formed = turned.formed;
+      limits = turned.limits;
+      fit = subst (MemoriesOf turned.config.stages) (sym items) (subst (λ (ss : List Stage). MemoriesOf ss c.write_cell.new.memories) c.as_slice.ensures c.write_cell.ensures.fit);
+      full = turned.full;
+      framed = turned.framed;
+      room = turned.room;
+      in_ring = turned.in_ring;
+      leaves = turned.leaves;
+    }

@@ -1,4 +1,4 @@
-use Rattle.std.proofs.Common.{◌≡◌, ℕ, ◌+◌, ◌-◌, Bool, cond, List, [], length, get_or, All, Option, None, refl, sym, ap, subst, ◌∙◌, arith}
+use Rattle.std.proofs.Common.{◌≡◌, ℕ, ◌+◌, ◌-◌, Bool, cond, List, [], length, get_or, Option, None, refl, sym, ap, subst, ◌∙◌, arith}
 use Rattle.std.proofs.lemmas.Bool.{le-ltb}
 use Rattle.std.proofs.lemmas.List.{append-nil, length-replicate}
 use Rattle.rmt_bits.specs.Counts.{counts}
@@ -8,11 +8,9 @@ use Rattle.rmt_chip.specs.FrameList.{frames_of}
 use Rattle.rmt_chip.specs.Held.{Entered, FrameIs, HoldsIf, IsFree}
 use Rattle.rmt_chip.specs.Inputs.{entered_at, entered_in}
 use Rattle.std.specs.Prelude.{is_none}
-use Rattle.rmt_chip.specs.Types.{Config, Stage}
+use Rattle.rmt_chip.specs.Types.{Config}
 use Rattle.rmt_chip.specs.declared.packet_slot.PacketSlot.{PacketSlot}
-use Rattle.rmt_chip.specs.Pending.{HaveRoomFor}
 use Rattle.rmt_chip.specs.Ring.{ring_at}
-use Rattle.rmt_memory.specs.StageMemories.{AllSlotsFormed, MemoriesOf}
 use Rattle.rmt_config.specs.ChipRun.{latency_of}
 use Rattle.rmt_chip.proofs.FormedRuns.{runnable}
 use Rattle.rmt_chip.proofs.RingLaws.{ring_at-lt}
@@ -29,43 +27,43 @@ free_at config run age place free = subst (λ (o : Option Entered). HoldsIf conf
 none_at : (config : Config) (run : List Input) (age : ℕ) (frame : List ℕ) → FrameIs (entered_at config run 0 age) frame
 none_at config run age frame = subst (λ (o : Option Entered). FrameIs o frame) (sym (none_before config run age)) tt
 
-pub lay_all-requires : goal.lay_all-requires
-lay_all-requires c = subst AllSlotsFormed (sym c.as_slice-stages.ensures) (slots_formed c.args.config c.requires.form)
-
 pub latency-latency-requires : goal.latency-latency-requires
 latency-latency-requires c =
     let stages = (runnable c.args.config c.requires.form.items c.requires.limits).stages in
-    rw c.as_slice-stages.ensures stages
+    rw c.as_slice.ensures stages
+
+pub parts_of-requires-clause-formed : goal.parts_of-requires-clause-formed
+parts_of-requires-clause-formed c = slots_formed c.args.config c.requires.form
 
 pub invariant_of-result : goal.invariant_of-result
 invariant_of-result c = record {
   formed = c.requires.form.items;
   limits = ap is_none c.requires.limits;
-  fit = subst (λ (ss : List Stage). MemoriesOf ss c.in_ok-memories.memories.items) c.as_slice-stages.ensures c.in_ok-memories.ensures.fit;
-  full = let full = c.in_ok-places.ensures.full in omega arith;
-  framed = let size = ap length c.in_ok-frames.ensures ∙ length-replicate {A = List ℕ} (c.from-count.result + 1) [] in omega arith;
-  room = subst (λ (ss : List Stage). All (λ (p : PacketSlot). HaveRoomFor ss p.pending.items) c.in_ok-places.places.items) c.as_slice-stages.ensures c.in_ok-places.ensures.room;
+  fit = c.in_ok-parts.ensures.fit;
+  full = let full = c.in_ok-parts.ensures.full in omega arith;
+  framed = let size = ap length c.in_ok-parts.ensures.frames ∙ length-replicate {A = List ℕ} (c.from.result + 1) [] in omega arith;
+  room = c.in_ok-parts.ensures.room;
   in_ring = omega arith;
-  leaves = c.latency-latency.ensures.value ∙ ap latency_of c.as_slice-stages.ensures;
+  leaves = c.latency-latency.ensures.value ∙ ap latency_of c.as_slice.ensures;
 }
 
 pub returns : goal.returns
 returns c =
     let config = c.args.config in
-    let stages : c.as_slice-stages.result.now ≡ config.stages = c.as_slice-stages.ensures in
+    let parts = c.in_ok-parts.parts in
     record {
       formed = c.requires.form;
       config_is = refl;
-      memories_are = c.in_ok-memories.ensures.hold config (sym stages);
+      memories_are = c.in_ok-parts.ensures.hold;
       entered_is = refl;
       seed_is = refl;
       version_is = refl;
       in_flight = λ later. record {
         places_hold = λ age d h.
-            let places = c.in_ok-places.places.items in
+            let places = parts.places.items in
             let at = ring_at (length places) 0 age in
-            free_at config later age (get_or places at d) (c.in_ok-places.ensures.free at d (ring_at-lt (length places) 0 age (omega (arith, h)) h));
-        frames_stand = λ age h. none_at config later age (get_or (frames_of c.in_ok-frames.frames) (ring_at (length (frames_of c.in_ok-frames.frames)) 0 age) []);
-        counters_are = c.in_ok-counters.ensures ∙ ap (λ ns. counts ns []) (sym (append-nil (counted_numbers config)));
+            free_at config later age (get_or places at d) (c.in_ok-parts.ensures.free at d (ring_at-lt (length places) 0 age (omega (arith, h)) h));
+        frames_stand = λ age h. none_at config later age (get_or (frames_of parts.frames) (ring_at (length (frames_of parts.frames)) 0 age) []);
+        counters_are = c.in_ok-parts.ensures.counters ∙ ap (λ ns. counts ns []) (sym (append-nil (counted_numbers config)));
       };
     }

@@ -50,3 +50,32 @@ returns-clause-goes c = λ config numbers inputs input is took.
     (subst (λ (ps : List PacketSlot). Gives old.memories.items ps c.cycle-answer.new.places) c.deref_mut.ensures.value
     (subst (λ (ms : List (Vec SlotMemory Global)). Gives ms c.deref_mut.result.now c.cycle-answer.new.places) c.deref.ensures.value c.cycle-answer.ensures.gives)))
     took
+
+pub cycle-answer-requires-clause-frame : goal.cycle-answer-requires-clause-frame
+cycle-answer-requires-clause-frame c = c.requires.frame
+
+pub cycle-answer-requires-clause-framed : goal.cycle-answer-requires-clause-framed
+cycle-answer-requires-clause-framed c = c.args.self.now.framed
+
+pub cycle-answer-requires-clause-leaves : goal.cycle-answer-requires-clause-leaves
+cycle-answer-requires-clause-leaves c = c.args.self.now.leaves
+
+pub invariant_of-self : goal.invariant_of-self
+invariant_of-self c =
+    let self = c.args.self.now in
+    let same = c.cycle-answer.auto.places in
+    let lent = c.deref_mut.ensures.len in
+    let items = with_items_is self.places c.cycle-answer.new.places (omega arith) in
+    let within = c.place_after-newest.ensures.within in
+    let size = c.len.ensures in
+    let full = self.full in
+    record {
+      formed = self.formed;
+      limits = self.limits;
+      fit = self.fit;
+      full = self.full;
+      framed = c.cycle-answer.ensures.framed ∙ self.framed;
+      room = subst (All (λ (p : PacketSlot). HaveRoomFor self.config.stages p.pending.items)) (sym items) c.cycle-answer.ensures.room;
+      in_ring = omega (arith, within, size, full);
+      leaves = self.leaves;
+    }

@@ -1,9 +1,50 @@
-use Rattle.std.proofs.Common.{refl}
+use Rattle.std.proofs.Common.{◌≡◌, ◌*◌, ◌≤◌, length, map, refl, sym, subst, arith}
+use Rattle.std.specs.Prelude.{IsTrue}
+use Rattle.rmt_config.specs.BlockCounts.{record_units, record_width}
+use Rattle.rmt_config.specs.LaneForm.{bits_of_lanes}
+use Rattle.rmt_config.specs.Order.{rises_from}
+use Rattle.rmt_config.proofs.CellLayouts.{exact_records-is}
+use Rattle.rmt_config.proofs.LayoutLaws.{at_layout, keys_in}
 use Rattle.rmt_config.specs.StageForm.{srow_number}
 use Rattle.rmt_config.specs.Types.{SramRow}
-use Rattle.rmt_config.specs.Layouts.{exact_records}
-use Rattle.rmt_config.proofs.MemoryHolds.{breaks_first, entries-at, no_records, rows-same, then_second}
+use Rattle.rmt_config.specs.Layouts.{exact_keys, exact_records, HasHeads, IsLayout}
+use Rattle.rmt_config.proofs.MemoryHolds.{all-there, breaks_first, entries-at, no_records, numbers-rise, rows-same, then_second}
 use Rattle.rmt_config.proofs.form.memory.exact_holds.Goals as goal
+
+pub entries_hold-requires-clause-heads : goal.entries_hold-requires-clause-heads
+entries_hold-requires-clause-heads c =
+    let fit = c.requires.fits in
+    let bits = bits_of_lanes c.args.place.now.slot.now.keys in
+    let is = keys_in c.args.width c.args.per c.args.quanta bits fit.some_k fit.most_k fit.some_p fit.most_p fit.some_d fit.most_d fit.most_bits fit.fits in
+    at_layout HasHeads c.exact_entries-layout.result (exact_keys c.args.width c.args.per c.args.quanta bits) c.exact_entries-layout.ensures
+    (record { is = is.is; in_sram = is.in_sram; in_blocks = is.in_blocks; head = omega arith })
+
+pub entries_hold-requires-clause-blocks : goal.entries_hold-requires-clause-blocks
+entries_hold-requires-clause-blocks c =
+    let bits = bits_of_lanes c.args.place.now.slot.now.keys in
+    at_layout (λ l. length c.args.keys.now ≡ l.quanta * l.units * l.side) c.exact_entries-layout.result (exact_keys c.args.width c.args.per c.args.quanta bits) c.exact_entries-layout.ensures
+    (all-there c.args.quanta 4 c.args.width (length c.args.keys.now) c.requires.fits.keys)
+
+pub blocks_are_told-requires-clause-layout : goal.blocks_are_told-requires-clause-layout
+blocks_are_told-requires-clause-layout c =
+    let fit = c.requires.fits in
+    let held = c.args.place.now.slot.now.held in
+    at_layout IsLayout c.exact_records-layout.result (exact_records c.args.per c.args.quanta held) c.exact_records-layout.ensures
+    (exact_records-is c.args.per c.args.quanta held fit.some_p fit.most_p fit.some_d fit.most_d (omega (arith, c.if-place-eq0.false)) fit.most_held)
+
+pub blocks_are_told-requires-clause-blocks : goal.blocks_are_told-requires-clause-blocks
+blocks_are_told-requires-clause-blocks c =
+    let held = c.args.place.now.slot.now.held in
+    at_layout (λ l. length c.args.records.now ≤ l.quanta * l.units * l.side) c.exact_records-layout.result (exact_records c.args.per c.args.quanta held) c.exact_records-layout.ensures
+    (let all = all-there c.args.quanta (record_units (4 * c.args.per) held) (record_width held) (length c.args.records.now) c.requires.fits.records in omega (arith, all))
+
+pub blocks_are_told-requires-clause-rise : goal.blocks_are_told-requires-clause-rise
+blocks_are_told-requires-clause-rise c =
+    numbers-rise c.args.place.now.stage.now c.args.place.now.slot.now c.args.place.now.visible c.args.place.now.first c.exact_entries-layout.result c.args.keys.now c.as_slice-numbers.ensures
+    (c.entries_hold.ensures.0 c.if-not-entries_hold.false)
+
+pub blocks_are_told-requires-clause-order : goal.blocks_are_told-requires-clause-order
+blocks_are_told-requires-clause-order c = subst (λ rows. IsTrue (rises_from 0 (map srow_number rows))) (sym c.as_slice.ensures) c.requires.rows.srise
 
 pub returns-then-not-entries_hold : goal.returns-then-not-entries_hold
 returns-then-not-entries_hold c =

@@ -1,11 +1,60 @@
-use Rattle.std.proofs.Common.{◌≡◌, ◌+◌, ◌-◌, ◌*◌, ◌/◌, ℕ, Bool, true, false, arith, sym, subst, ◌∙◌, inl, inr}
+use Rattle.std.proofs.Common.{◌≡◌, ◌+◌, ◌-◌, ◌*◌, ◌/◌, ◌≤◌, ℕ, Bool, true, false, arith, sym, subst, ◌∙◌, inl, inr}
 use Rattle.std.specs.Prelude.{IsTrue, ◌⊎◌}
 use Rattle.std.proofs.lemmas.Bool.{false≢true}
+use Rattle.std.proofs.lemmas.Nat.{div-add-mod', mod_below, mul-le}
 use Rattle.rmt_bits.specs.Bits.{slice}
 use Rattle.rmt_config.specs.Layouts.{listed_cells, is_told as is_told_of}
 use Rattle.rmt_config.proofs.RowTold.{told-more, told-broken}
 use Rattle.rmt_config.proofs.form.set_bits.row_is_told.Goals as goal
 use Rattle.rmt_config.proofs.form.set_bits.row_is_told.Goals.{else-piece-ne0-via-then-piece-ne0+else-not-is_told, else-piece-ne0-via-else-piece-ne0}
+
+pub joined-start-requires : goal.joined-start-requires
+joined-start-requires c =
+    let l = c.args.listed.now.layout in
+    let is = c.requires.listed.layout in
+    let low = mul-le c.args.place l.bits 1024 112 (omega (arith, c.requires.place, is.most_side)) is.most_bits in
+    omega (arith, low)
+
+pub overflow_add-end : goal.overflow_add-end
+overflow_add-end c =
+    let l = c.args.listed.now.layout in
+    let is = c.requires.listed.layout in
+    let low = mul-le c.args.place l.bits 1024 112 (omega (arith, c.requires.place, is.most_side)) is.most_bits in
+    omega (arith, low, c.joined-start.ensures, is.most_bits)
+
+pub nonzero_div-position : goal.nonzero_div-position
+nonzero_div-position c = omega (arith, c.requires.listed.layout.some_entry)
+
+pub joined-low-requires : goal.joined-low-requires
+joined-low-requires c =
+    let l = c.args.listed.now.layout in
+    let is = c.requires.listed.layout in
+    let low = mul-le c.args.place l.bits 1024 112 (omega (arith, c.requires.place, is.most_side)) is.most_bits in
+    let split = div-add-mod' c.joined-start.result l.entry in
+    omega (arith, low, c.joined-start.ensures, split)
+
+pub loop-low-init : goal.loop-low-init
+loop-low-init c =
+    let l = c.args.listed.now.layout in
+    let start = c.joined-start.result in
+    let split = div-add-mod' start l.entry in
+    let rest = mod_below start l.entry c.requires.listed.layout.some_entry in
+    let low : c.joined-low.result ≤ start = omega (arith, c.joined-low.ensures, split) in
+    record {
+      at = omega (arith, c.joined-low.ensures);
+      most = omega (arith, low);
+      after = omega (arith, c.joined-low.ensures, split, rest);
+      told = λ t lt below one. absurd (omega (arith, low, below));
+    }
+
+pub is_told-requires-clause-listed : goal.is_told-requires-clause-listed
+is_told-requires-clause-listed c = c.requires.listed
+
+pub is_told-requires-clause-unit : goal.is_told-requires-clause-unit
+is_told-requires-clause-unit c = c.requires.unit
+
+pub is_told-requires-clause-row : goal.is_told-requires-clause-row
+is_told-requires-clause-row c = c.requires.row
 
 pub returns-then-not-is_told : goal.returns-then-not-is_told
 returns-then-not-is_told c =

@@ -78,3 +78,36 @@ returns-clause-pushed c q =
     put_seen c.self.inside.slots.items c.self.inside.firsts.items c.self.inside.keys.items (pairs_of c.self.inside.crowded) c.self.invariant c.args.key.items c.args.number c.place_of-place.result c.len-begin.result c.put_list.new.held.items
     (free _ _ _ _ h c.if-slot-gt0.false) h.place_is h.within (c.len-begin.ensures ∙ c.self.inside.keys.ok.0) (behind at.In_ok-put_list) q
     ∙ ap (λ (n : KeyNumbers). numbers_at n q ++ with_number c.args.key.items c.args.number q.items) c.self.view_is
+
+pub index-slot-requires : goal.index-slot-requires
+index-slot-requires c =
+    let within = c.place_of-place.ensures.within in
+    let len = c.len.ensures in
+    omega (arith, within, len)
+
+pub index-first-requires : goal.index-first-requires
+index-first-requires c =
+    let within = c.place_of-place.ensures.within in
+    let len = c.len.ensures in
+    let count = c.self.invariant.count in
+    let slots = c.self.inside.slots.ok.0 in
+    let firsts = c.self.inside.firsts.ok.0 in
+    omega (arith, within, len, count, slots, firsts)
+
+pub index_mut-requires : goal.index_mut-requires
+index_mut-requires c =
+    let within = c.place_of-place.ensures.within in
+    let len = c.len.ensures in
+    let count = c.self.invariant.count in
+    let slots = c.self.inside.slots.ok.0 in
+    let firsts = c.self.inside.firsts.ok.0 in
+    omega (arith, within, len, count, slots, firsts)
+
+pub index_mut-requires-2 : goal.index_mut-requires-2
+index_mut-requires-2 c =
+    let within = c.place_of-place.ensures.within in
+    let len = c.len.ensures in
+    let count = c.self.invariant.count in
+    let slots = c.self.inside.slots.ok.0 in
+    let firsts = c.self.inside.firsts.ok.0 in
+    omega (arith, within, len, count, slots, firsts)

@@ -1,4 +1,4 @@
-use Rattle.std.proofs.Common.{◌≡◌, ℕ, ◌+◌, ◌*◌, ◌<◌, List, true, sym, ap, ◌∙◌, subst, arith}
+use Rattle.std.proofs.Common.{◌≡◌, ℕ, List, true, sym, ap, ◌∙◌, subst, arith}
 use Rattle.rmt_memory.specs.Types.{Memory}
 use Rattle.rmt_config.specs.declared.config.Memory.TheVariants.{Without, Exact, Ternary}
 use Rattle.rmt_config.specs.MemoryRules.{ExactFits, TernaryFits}
@@ -6,47 +6,34 @@ use Rattle.rmt_config.specs.LaneForm.{bits_of_lanes}
 use Rattle.rmt_config.specs.Cells.{cells_in, content_of}
 use Rattle.rmt_config.specs.BlockCounts.{divided_up}
 use Rattle.rmt_memory.specs.declared.keys.Keys.{Keys}
-use Rattle.rmt_memory.specs.declared.lay.ExactFormat.{ExactFormat}
 use Rattle.rmt_memory.specs.Laid.{Laid}
-use Rattle.rmt_memory.specs.Memories.{NumbersFit, VectorsHold, keys_fit}
+use Rattle.rmt_memory.specs.Memories.{VectorsHold, keys_fit}
 use Rattle.rmt_memory.proofs.LayLaws.{IfOk-then}
 use Rattle.rmt_memory.proofs.LaidLaws.{laid-holds}
 use Rattle.rmt_memory.proofs.FormedMemory.{exact-facts, exact-numbers-fit, exact-ways, ternary-facts, ternary-numbers-fit, without-key, without-held}
 use Rattle.rmt_memory.proofs.memory.SlotMemory.lay.Goals as goal
-use Rattle.rmt_memory.proofs.memory.SlotMemory.lay.Goals.{After-exact_format}
-
--- the format of the part is that of the slot's memory
-format_is : (c : After-exact_format) → c.exact_format.result ≡ record { width = c.in-Exact.width; per = c.in-Exact.per; quanta = c.in-Exact.quanta; first_way = c.in-Exact.first_way }
-format_is c =
-    let x = c.in-Exact in c.exact_format.ensures x.width x.per x.quanta x.first_way x.keys x.records x.counters x.is
 
 pub lay_exact-requires-clause-fits : goal.lay_exact-requires-clause-fits
 lay_exact-requires-clause-fits c =
     let x = c.in-Exact in
     let facts = exact-facts c.args.stage.now c.args.slot.now c.requires x.width x.per x.quanta x.first_way x.keys x.records x.counters x.is in
-    subst (λ (f : ExactFormat). ExactFits c.args.slot.now f.width f.per f.quanta c.as_slice.result.now c.as_slice-in-Exact.result.now)
-    (sym (format_is (goal.at.lay_exact-requires-clause-fits c).After-exact_format))
-    (subst (λ (rs : List ℕ). ExactFits c.args.slot.now x.width x.per x.quanta c.as_slice.result.now rs) (sym c.as_slice-in-Exact.ensures)
-    (subst (λ (ks : List ℕ). ExactFits c.args.slot.now x.width x.per x.quanta ks x.records) (sym c.as_slice.ensures) facts))
+    subst (λ (rs : List ℕ). ExactFits c.args.slot.now x.width x.per x.quanta c.as_slice-keys.result.now rs) (sym c.as_slice-records.ensures)
+    (subst (λ (ks : List ℕ). ExactFits c.args.slot.now x.width x.per x.quanta ks x.records) (sym c.as_slice-keys.ensures) facts)
 
 pub lay_exact-requires-clause-ways : goal.lay_exact-requires-clause-ways
 lay_exact-requires-clause-ways c =
-    let x = c.in-Exact in
-    subst (λ (f : ExactFormat). f.first_way + 3 < 256) (sym (format_is (goal.at.lay_exact-requires-clause-ways c).After-exact_format))
-    (exact-ways c.args.stage.now c.args.slot.now c.requires x.width x.per x.quanta x.first_way x.keys x.records x.counters x.is)
+    let x = c.in-Exact in exact-ways c.args.stage.now c.args.slot.now c.requires x.width x.per x.quanta x.first_way x.keys x.records x.counters x.is
 
 pub lay_exact-requires-clause-numbers : goal.lay_exact-requires-clause-numbers
 lay_exact-requires-clause-numbers c =
-    let x = c.in-Exact in
-    subst (λ (f : ExactFormat). NumbersFit c.args.slot.now (4096 * f.quanta * f.per)) (sym (format_is (goal.at.lay_exact-requires-clause-numbers c).After-exact_format))
-    (exact-numbers-fit c.args.stage.now c.args.slot.now c.requires x.width x.per x.quanta x.first_way x.keys x.records x.counters x.is)
+    let x = c.in-Exact in exact-numbers-fit c.args.stage.now c.args.slot.now c.requires x.width x.per x.quanta x.first_way x.keys x.records x.counters x.is
 
 pub lay_ternary-requires-clause-fits : goal.lay_ternary-requires-clause-fits
 lay_ternary-requires-clause-fits c =
     let x = c.in-Ternary in
     let facts = ternary-facts c.args.stage.now c.args.slot.now c.requires x.quanta x.keys x.records x.counters x.is in
-    subst (λ (rs : List ℕ). TernaryFits c.args.slot.now x.quanta c.as_slice-in-Ternary.result.now rs) (sym c.as_slice-in-Ternary-2.ensures)
-    (subst (λ (ks : List ℕ). TernaryFits c.args.slot.now x.quanta ks x.records) (sym c.as_slice-in-Ternary.ensures) facts)
+    subst (λ (rs : List ℕ). TernaryFits c.args.slot.now x.quanta c.as_slice-keys-in-Ternary.result.now rs) (sym c.as_slice-records-in-Ternary.ensures)
+    (subst (λ (ks : List ℕ). TernaryFits c.args.slot.now x.quanta ks x.records) (sym c.as_slice-keys-in-Ternary.ensures) facts)
 
 pub lay_ternary-requires-clause-numbers : goal.lay_ternary-requires-clause-numbers
 lay_ternary-requires-clause-numbers c =
@@ -80,11 +67,9 @@ pub returns-in-Exact-clause-holds : goal.returns-in-Exact-clause-holds
 returns-in-Exact-clause-holds c =
     let x = c.in-Exact in
     let slot = c.args.slot.now in
-    let f = c.exact_format.result in
-    let memory : Exact f.width f.per f.quanta f.first_way c.as_slice.result.now c.as_slice-in-Exact.result.now x.counters ≡ slot.memory =
-    ap (λ (g : ExactFormat). Exact g.width g.per g.quanta g.first_way c.as_slice.result.now c.as_slice-in-Exact.result.now x.counters) (format_is (goal.at.returns-in-Exact-clause-holds c).After-exact_format)
-    ∙ ap (λ (ks : List ℕ). Exact x.width x.per x.quanta x.first_way ks c.as_slice-in-Exact.result.now x.counters) c.as_slice.ensures
-    ∙ ap (λ (rs : List ℕ). Exact x.width x.per x.quanta x.first_way x.keys rs x.counters) c.as_slice-in-Exact.ensures ∙ sym x.is in
+    let memory : Exact x.width x.per x.quanta x.first_way c.as_slice-keys.result.now c.as_slice-records.result.now x.counters ≡ slot.memory =
+    ap (λ (ks : List ℕ). Exact x.width x.per x.quanta x.first_way ks c.as_slice-records.result.now x.counters) c.as_slice-keys.ensures
+    ∙ ap (λ (rs : List ℕ). Exact x.width x.per x.quanta x.first_way x.keys rs x.counters) c.as_slice-records.ensures ∙ sym x.is in
     IfOk-then c.lay_exact.result _ _ c.lay_exact.ensures.laid
     (λ m laid. laid-holds c.args.stage.now slot c.requires m (subst (λ (y : Memory). Laid c.args.stage.now (record slot { memory = y }) m) memory (laid x.counters)))
 
@@ -95,9 +80,9 @@ pub returns-in-Ternary-clause-holds : goal.returns-in-Ternary-clause-holds
 returns-in-Ternary-clause-holds c =
     let x = c.in-Ternary in
     let slot = c.args.slot.now in
-    let memory : Ternary x.quanta c.as_slice-in-Ternary.result.now c.as_slice-in-Ternary-2.result.now x.counters ≡ slot.memory =
-    ap (λ (ks : List ℕ). Ternary x.quanta ks c.as_slice-in-Ternary-2.result.now x.counters) c.as_slice-in-Ternary.ensures
-    ∙ ap (λ (rs : List ℕ). Ternary x.quanta x.keys rs x.counters) c.as_slice-in-Ternary-2.ensures ∙ sym x.is in
+    let memory : Ternary x.quanta c.as_slice-keys-in-Ternary.result.now c.as_slice-records-in-Ternary.result.now x.counters ≡ slot.memory =
+    ap (λ (ks : List ℕ). Ternary x.quanta ks c.as_slice-records-in-Ternary.result.now x.counters) c.as_slice-keys-in-Ternary.ensures
+    ∙ ap (λ (rs : List ℕ). Ternary x.quanta x.keys rs x.counters) c.as_slice-records-in-Ternary.ensures ∙ sym x.is in
     IfOk-then c.lay_ternary.result _ _ c.lay_ternary.ensures.laid
     (λ m laid. laid-holds c.args.stage.now slot c.requires m (subst (λ (y : Memory). Laid c.args.stage.now (record slot { memory = y }) m) memory (laid x.counters)))
 

@@ -1,7 +1,8 @@
-use Rattle.std.proofs.Common.{◌≡◌, ◌+◌, ◌*◌, ◌/◌, ◌%◌, ◌<◌, sym, subst, arith, rules, w64, inl, inr}
+use Rattle.std.proofs.Common.{◌≡◌, ◌+◌, ◌*◌, ◌/◌, ◌%◌, ◌<◌, sym, ap, ◌∙◌, subst, arith, rules, w64, inl, inr}
+use Rattle.std.specs.Int.{bit_at}
 use Rattle.std.specs.Int.{trailing_zeros}
 use Rattle.std.proofs.lemmas.Bool.{cases_lt}
-use Rattle.std.proofs.lemmas.Nat.Bits.{bit_at-trailing_zeros}
+use Rattle.std.proofs.lemmas.Nat.Bits.{bit_at-trailing_zeros, bit_at-zero}
 use Rattle.rmt_memory.specs.Slicing.{IsOn}
 use Rattle.rmt_memory.proofs.sliced.Sliced.first_left.Goals as goal
 
@@ -32,3 +33,28 @@ returns-then-left-ne0 c =
                 omega (arith, one, none)
           ],
     )
+
+pub first_in_runs-requires-clause-within : goal.first_in_runs-requires-clause-within
+first_in_runs-requires-clause-within c = c.requires.within
+
+pub left-left-requires-clause-within : goal.left-left-requires-clause-within
+left-left-requires-clause-within c = c.requires.within
+
+pub loop-at-init : goal.loop-at-init
+loop-at-init c = λ r lt on. c.in_default.ensures r (omega arith) (omega (arith, lt)) on
+
+pub loop-at-preserved : goal.loop-at-preserved
+loop-at-preserved c = λ r lt on.
+    let s = c.args.self.now in
+    let at = c.loop-at.at in
+    elim (cases_lt r (64 * at)) as (λ _. ⊥) [
+      | inl less ↦ c.loop-at.invariant r less on
+      | inr more ↦
+          let here : r / 64 ≡ at = omega (arith, lt, more) in
+          let one = c.left-left.ensures.all (r % 64) (subst (λ k. IsOn s c.args.sight c.args.vectors.now (10 * s.words) k (r % 64)) here on) in
+          let none = ap (λ w. bit_at w (r % 64)) c.if-left-ne0.false ∙ bit_at-zero (r % 64) in
+          omega (arith, one, none)
+    ]
+
+pub returns : goal.returns
+returns c = λ j low lt on. c.loop-at.invariant j (omega (arith, lt)) on

@@ -1,8 +1,10 @@
-use Rattle.std.proofs.Common.{◌≡◌, ◌+◌, ◌-◌, ◌<◌, ℕ, List, min, drop, get_or, sym, ap, ◌∙◌, arith, below_more}
+use Rattle.std.proofs.Common.{◌≡◌, ◌+◌, ◌-◌, ◌*◌, ◌<◌, ℕ, List, min, drop, get_or, sym, ap, ◌∙◌, subst, arith, below_more}
 use Rattle.std.specs.Prelude.{bit_and}
 use Rattle.std.specs.Int.{bit_at}
 use Rattle.std.proofs.lemmas.List.{get_or-drop, get_or-take}
 use Rattle.std.proofs.lemmas.Nat.Bits.{bit_at_and, bit_at-lt}
+use Rattle.rmt_memory.specs.Slicing.{IsOn}
+use Rattle.rmt_memory.proofs.SliceLaws.{seen-end}
 use Rattle.rmt_memory.proofs.sliced.Sliced.left_of_eight.Goals as goal
 
 pub loop-nibble-preserved : goal.loop-nibble-preserved
@@ -39,3 +41,22 @@ loop-nibble-preserved c =
           let here = on.1 n (omega arith) in
           ap (λ w. bit_at w j) (kept k lt) ∙ bit_at_and (get_or old k 0) (other k) j ∙ omega (arith, was, here);
     }
+
+pub overflow_mul-from-2 : goal.overflow_mul-from-2
+overflow_mul-from-2 c = let s = c.args.self.now in let end = seen-end s.words s.width c.args.sight c.requires.sight in omega (arith, end, s.all)
+
+pub overflow_add-from-2 : goal.overflow_add-from-2
+overflow_add-from-2 c = let s = c.args.self.now in let end = seen-end s.words s.width c.args.sight c.requires.sight in omega (arith, end, s.all)
+
+pub overflow_add-from-3 : goal.overflow_add-from-3
+overflow_add-from-3 c = let s = c.args.self.now in let end = seen-end s.words s.width c.args.sight c.requires.sight in omega (arith, end, s.all)
+
+pub returns-clause-on : goal.returns-clause-on
+returns-clause-on c = λ k j lt h.
+    let end : c.loop-nibble.nibble ≡ 10 * c.args.self.now.words = omega arith in
+    subst (λ n. IsOn c.args.self.now c.args.sight c.args.vectors.now n (c.args.at + k) j) end (c.loop-nibble.invariant.on k j lt h)
+
+pub returns-clause-all : goal.returns-clause-all
+returns-clause-all c = λ k j lt on.
+    let end : c.loop-nibble.nibble ≡ 10 * c.args.self.now.words = omega arith in
+    c.loop-nibble.invariant.all k j lt (subst (λ n. IsOn c.args.self.now c.args.sight c.args.vectors.now n (c.args.at + k) j) (sym end) on)

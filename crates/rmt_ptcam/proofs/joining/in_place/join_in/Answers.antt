@@ -1,10 +1,29 @@
-use Rattle.std.proofs.Common.{◌≡◌, List, Some, ap, get_or, sym, subst, ◌∙◌}
+use Rattle.std.proofs.Common.{◌≡◌, ◌<◌, List, Some, ap, get_or, length, sym, subst, ◌∙◌}
 use Rattle.std.specs.Prelude.{map, slice_set}
-use Rattle.std.proofs.lemmas.Option.{get_or_from_slice_get}
+use Rattle.std.proofs.lemmas.Option.{get_or_from_slice_get, slice_get_within}
 use Rattle.rmt_ptcam.specs.declared.joining.rows.StateRows.{StateRows}
 use Rattle.rmt_ptcam.specs.Grouping.{put_in, stand_in_for, widened_row}
-use Rattle.rmt_ptcam.proofs.InPlaceLaws.{IsMade, made, made_in, made_same}
+use Rattle.rmt_ptcam.proofs.InPlaceLaws.{IsMade, made, made_in, made_low, made_same, made_some}
 use Rattle.rmt_ptcam.proofs.joining.in_place.join_in.Goals as goal
+
+pub bounds-groups-from : goal.bounds-groups-from
+bounds-groups-from c =
+    let g : List StateRows = c.args.groups.now in
+    let is : IsMade g c.args.join c.in-Some.others = made g c.args.join c.in-Some.others (sym c.in_ok-stand_in_for.ensures ∙ c.in-Some.is) in
+    subst (λ k. k < length g) (sym c.from.ensures) (slice_get_within g c.args.join.state is.s is.at_n)
+
+pub put_in-requires-clause-there : goal.put_in-requires-clause-there
+put_in-requires-clause-there c =
+    let g : List StateRows = c.args.groups.now in
+    let new : StateRows = c.in-Some.others in
+    let d : StateRows = c.index-groups-from.result in
+    let some : stand_in_for g c.args.join ≡ Some new = sym c.in_ok-stand_in_for.ensures ∙ c.in-Some.is in
+    let is : IsMade g c.args.join new = made g c.args.join new some in
+    let own : get_or g c.from.result d ≡ is.s = ap (λ k. get_or g k d) c.from.ensures ∙ get_or_from_slice_get g c.args.join.state is.s d is.at_n in
+    subst (λ k. k < length (get_or g c.from.result d).rows) (sym c.from-at.ensures) (subst (λ (u : StateRows). c.args.join.entry < length u.rows) (sym own) (made_low g c.requires.stand c.args.join new some))
+
+pub put_in-requires-clause-some : goal.put_in-requires-clause-some
+put_in-requires-clause-some c = made_some c.args.groups.now c.requires.stand c.args.join c.in-Some.others (sym c.in_ok-stand_in_for.ensures ∙ c.in-Some.is)
 
 pub put_in-requires-clause-same : goal.put_in-requires-clause-same
 put_in-requires-clause-same c =

@@ -26,3 +26,15 @@ returns-in-Short c =
           subst (λ (cs : List Call). Holds capture cs self.ports)
           (sym (ap (λ (left : Option Verdict). calls ++ offer_left groups time left self.leaving) c.in-Some.is ∙ ap (λ (cs : List Call). calls ++ cs) (unsent.offers groups time self.leaving) ∙ append-nil calls)) h;
     }
+
+pub offer-requires-clause-port : goal.offer-requires-clause-port
+offer-requires-clause-port c = (c.requires.sent c.in-Sent.port (c.in-Some.is ∙ ap Some c.in-Sent.is)).1.port_below
+
+pub offer-requires-clause-time : goal.offer-requires-clause-time
+offer-requires-clause-time c = (c.requires.sent c.in-Sent.port (c.in-Some.is ∙ ap Some c.in-Sent.is)).0
+
+pub offer-requires-clause-holds : goal.offer-requires-clause-holds
+offer-requires-clause-holds c = c.requires.holds
+
+pub offer-requires-clause-bytes : goal.offer-requires-clause-bytes
+offer-requires-clause-bytes c = (c.requires.sent c.in-Sent.port (c.in-Some.is ∙ ap Some c.in-Sent.is)).1.few

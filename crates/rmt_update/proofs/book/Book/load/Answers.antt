@@ -20,6 +20,8 @@ use Rattle.rmt_update.specs.Loads.{AreTables, IsLoaded, IsNotLoaded}
 use Rattle.rmt_update.specs.Refill.{IsMoved, SamePart, TableFits}
 use Rattle.rmt_update.specs.Planned.{IsUnplanned, MayChange, changed_lists}
 use Rattle.rmt_book.specs.Seen.{HaveNumbers}
+use Rattle.rmt_lists.proofs.ResultLaws.{on_err}
+use Rattle.rmt_lists.specs.declared.fault.UpdateFault.TheVariants as UpdateFault
 use Rattle.rmt_update.proofs.AfterLaws.{after-have}
 use Rattle.rmt_update.proofs.LoadSteps.{after-few, can-change, planned, tables-are, tables-fit, unplanned}
 use Rattle.rmt_update.proofs.book.Book.load.Goals as goal
@@ -137,3 +139,34 @@ returns-in_err-loaded-clause-refused c =
     let tables = subst (AreTables config names) (sym c.as_slice.ensures.value) (tables-are config names cells lists b stands named) in
     let refused = c.in_err-loaded.ensures.refused config names tables (subst (AreEntriesOf names) (sym after) may.formed) in
     unplanned config names cells lists (changed_lists lists ch) x none (subst (λ ls. IsNotLoaded config names ls x) after refused))
+
+-- the one other fault is want of memory, and then all is as before
+pub returns-in_err-before-clause-refused : goal.returns-in_err-before-clause-refused
+returns-in_err-before-clause-refused c =
+    let ch = c.args.changes.now in
+    caught c.from_residual.result c.in_err-before.field-0.0 _ c.from_residual.ensures.1
+    (λ config names cells lists stands named may none. subst (IsUnplanned config names cells lists (changed_lists lists ch)) (sym c.in_err-before.ensures.fault) tt)
+
+pub returns-in_err-after-clause-refused : goal.returns-in_err-after-clause-refused
+returns-in_err-after-clause-refused c = caught c.from_residual-in_err-after.result UpdateFault.NoMemory _ c.from_residual-in_err-after.ensures.1 (λ config names cells lists stands named may none. tt)
+
+pub returns-in_err-parts-clause-refused : goal.returns-in_err-parts-clause-refused
+returns-in_err-parts-clause-refused c = caught c.from_residual-in_err-parts.result UpdateFault.NoMemory _ c.from_residual-in_err-parts.ensures.1 (λ config names cells lists stands named may none. tt)
+
+pub returns-in_err-writes-clause-refused : goal.returns-in_err-writes-clause-refused
+returns-in_err-writes-clause-refused c = caught c.from_residual-in_err-writes.result UpdateFault.NoMemory _ c.from_residual-in_err-writes.ensures.1 (λ config names cells lists stands named may none. tt)
+
+pub returns-in_err-before-clause-kept : goal.returns-in_err-before-clause-kept
+returns-in_err-before-clause-kept c = on_err c.from_residual.result _ (λ config cells lists stands. stands)
+
+pub returns-in_err-after-clause-kept : goal.returns-in_err-after-clause-kept
+returns-in_err-after-clause-kept c = on_err c.from_residual-in_err-after.result _ (λ config cells lists stands. stands)
+
+pub returns-in_err-loaded-clause-kept : goal.returns-in_err-loaded-clause-kept
+returns-in_err-loaded-clause-kept c = on_err c.from_residual-in_err-loaded.result _ (λ config cells lists stands. stands)
+
+pub returns-in_err-parts-clause-kept : goal.returns-in_err-parts-clause-kept
+returns-in_err-parts-clause-kept c = on_err c.from_residual-in_err-parts.result _ (λ config cells lists stands. stands)
+
+pub returns-in_err-writes-clause-kept : goal.returns-in_err-writes-clause-kept
+returns-in_err-writes-clause-kept c = on_err c.from_residual-in_err-writes.result _ (λ config cells lists stands. stands)

@@ -108,3 +108,22 @@ returns-clause-few c =
     let long = c.len-at-end.ensures in
     few-placed w c.args.self.now c.args.changes.now run ordered c.loop-at.placing
     (place-some w c.args.self.now c.args.changes.now run ordered c.loop-at.at c.loop-at.placing (omega (arith, low, long)) (c.loop-at.invariant.come w run))
+
+pub index_mut-requires : goal.index_mut-requires
+index_mut-requires c =
+    let lt = c.loop-at-test.true in
+    let end = c.len-at-end.ensures in
+    let long = c.args.self.now.tables.ok.0 in
+    let own = c.loop-at.index.tables.ok.0 in
+    let count = c.loop-at.invariant.rows.count in
+    omega (arith, lt, end, long, own, count)
+
+pub place_in-requires-clause-ordered : goal.place_in-requires-clause-ordered
+place_in-requires-clause-ordered c = subst (All AreOrdered) c.as_slice.ensures.value c.all_ordered.ensures
+
+pub place_in-requires-clause-at : goal.place_in-requires-clause-at
+place_in-requires-clause-at c =
+    let lt = c.loop-at-test.true in
+    let end = c.len-at-end.ensures in
+    let long = c.args.self.now.tables.ok.0 in
+    omega (arith, lt, end, long)

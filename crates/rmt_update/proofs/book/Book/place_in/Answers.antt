@@ -113,3 +113,9 @@ returns-clause-come c = λ w run have.
     let long = ap (λ (es : List Entry). length es) c.as_slice-entry-items.ensures in
     progress-end w c.args.self.now c.args.changes.now run c.requires.ordered c.args.at c.index-table.result.now (slice_get_read c.args.self.now.tables.items (length c.args.self.now.tables.items) c.args.at c.index-table.result.now refl c.requires.at c.index-table.ensures)
     c.loop-entry.entry-index c.loop-entry.placing c.loop-entry.index (omega (arith, low, long)) (c.loop-entry.invariant.come w run have)
+
+pub index-table-requires : goal.index-table-requires
+index-table-requires c =
+    let lt = c.requires.at in
+    let long = c.args.self.now.tables.ok.0 in
+    omega (arith, lt, long)

@@ -7,4 +7,4 @@ use Rattle.rmt_update.proofs.book.after.in_order_all.Given as goal
 
 -- the lists so far
 abbrev pub invariant-loop-ordered : goal.invariant-loop-ordered
-invariant-loop-ordered l = (own : ℕ → List Entry) → AreOrders own l.yielded → l.lists ≡ map (λ n. by_number (own n)) (range_with_len 0 (length l.yielded))
+invariant-loop-ordered l = (own : ℕ → List Entry) → AreOrders own l.yielded → l.lists.items ≡ map (λ n. by_number (own n)) (range_with_len 0 (length l.yielded))

@@ -4,6 +4,7 @@ use Rattle.std.specs.List.{AllZip}
 use Rattle.std.proofs.lemmas.List.{take_all}
 use Rattle.rmt_bits.proofs.ListLaws.{slice_get-seen, take-slice_get, zip_push}
 use Rattle.rmt_update.specs.RowIndex.{IsIndex, never}
+use Rattle.rmt_update.proofs.AddedLaws.{added}
 use Rattle.rmt_update.proofs.GoingLaws.{own-rows}
 use Rattle.rmt_update.proofs.book.book_index.indexes_of.Goals as goal
 
@@ -21,9 +22,10 @@ loop-table-preserved c =
     let i = c.loop-table.table-index in
     let t = c.table-item.result in
     let at : slice_get ts i ≡ Some t = slice_get-seen ts ts i t refl c.loop-table-test.true c.table-item.is in
-    subst (λ us. AllZip (IsIndex c.args.odd never) us c.push.new.self.items) (sym (take-slice_get ts i t at))
-    (subst (AllZip (IsIndex c.args.odd never) (take i ts ++ t ∷ [])) (sym c.in_ok-push.ensures.items)
-    (zip_push (IsIndex c.args.odd never) (take i ts) c.loop-table.indexes.items t c.in_ok-index_of.field-0 c.loop-table.invariant c.in_ok-index_of.ensures))
+    let made = added c.index_of.result _ _ c.index_of.ensures c.in_ok-add_made.ensures in
+    subst (λ us. AllZip (IsIndex c.args.odd never) us c.add_made.new.list.items) (sym (take-slice_get ts i t at))
+    (subst (AllZip (IsIndex c.args.odd never) (take i ts ++ t ∷ [])) (sym made.2)
+    (zip_push (IsIndex c.args.odd never) (take i ts) c.loop-table.indexes.items t made.0 c.loop-table.invariant made.1))
 
 pub returns : goal.returns
 returns c = subst (λ us. AllZip (IsIndex c.args.odd never) us c.loop-table.indexes.items) (take_all c.loop-table.table-index c.args.tables.now c.loop-table-test.false) c.loop-table.invariant

@@ -1,5 +1,6 @@
 use Rattle.std.proofs.Common.{◌≡◌, ℕ, List, ◌+◌, ◌-◌, ◌*◌, ◌^◌, ◌<◌, ◌≤◌, length, get_or, drop, ap, sym, subst, arith}
 use Rattle.std.specs.Prelude.{sum}
+use Rattle.std.proofs.lemmas.List.{drop_all}
 use Rattle.std.proofs.lemmas.List.Elements.{AllZip-get_or, length_all_zip}
 use Rattle.rmt_bits.specs.Bits.{number_of}
 use Rattle.rmt_ast.specs.WellFormed.{Fits}
@@ -51,3 +52,24 @@ loop-at-preserved c =
       small = subst (λ n. number_of new < 2 ^ (n - (c.loop-at.above - get_or ws at 0))) long step.1;
       value = subst (λ n. number_of new + 2 ^ (n - (c.loop-at.above - get_or ws at 0)) * args_as_one (drop (at + 1) ws) (drop (at + 1) vs) ≡ total) long step.2;
     }
+
+pub loop-at-init : goal.loop-at-init
+loop-at-init c =
+    let n = number_of c.args.bytes.now in
+    let total = args_as_one c.args.widths.now c.args.args.now in
+    let room = c.requires.room in
+    let zero = c.requires.zero in
+    let left : 8 * length c.args.bytes.now - length c.args.bytes.now * 8 ≡ 0 = omega arith in
+    record {
+      room = omega (arith, room);
+      within = omega arith;
+      small = subst (λ k. n < 2 ^ k) (sym left) (omega (arith, zero));
+      value = subst (λ k. n + 2 ^ k * total ≡ total) (sym left) (omega (arith, zero));
+    }
+
+pub returns : goal.returns
+returns c =
+    let free = 2 ^ (8 * length c.loop-at.bytes - c.loop-at.above) in
+    let value = subst (λ (ws : List ℕ). number_of c.loop-at.bytes + free * args_as_one ws (drop c.loop-at.at c.args.args.now) ≡ args_as_one c.args.widths.now c.args.args.now)
+    (drop_all c.loop-at.at c.args.widths.now c.loop-at-test.false) c.loop-at.invariant.value in
+    omega (arith, value)

@@ -1,4 +1,4 @@
-use Rattle.std.proofs.Common.{◌≡◌, ℕ, ◌<◌, ◌+◌, ◌-◌, ◌*◌, ◌^◌, ◌∙◌, ap, arith, get_or, length, subst, sym, take}
+use Rattle.std.proofs.Common.{◌≡◌, ℕ, ◌<◌, ◌+◌, ◌-◌, ◌*◌, ◌^◌, ◌∙◌, ap, arith, get_or, length, refl, subst, sym, take}
 use Rattle.rmt_bits.specs.Bits.{deposit, number_of}
 use Rattle.rmt_config.specs.Rooms.{tests_as_one}
 use Rattle.rmt_config.specs.Rooms.{mask_or_value}
@@ -50,3 +50,12 @@ returns-clause-number c =
     let room = c.requires.room in
     key_end (mask_or_value c.args.mask) c.args.widths.now c.args.tests.now c.loop-at.at (number_of c.loop-at.bytes) c.args.first c.loop-at.from (8 * length c.loop-at.bytes) c.requires.tests c.loop-at-test.false c.loop-at.invariant.place
     (omega (arith, long, room)) c.loop-at.invariant.number
+
+pub bytes_of_bits-requires-clause-short : goal.bytes_of_bits-requires-clause-short
+bytes_of_bits-requires-clause-short c =
+    c.requires.narrow c.loop-at.at 0 (test_fits c.args.mask c.args.widths.now c.args.tests.now c.loop-at.at 0 (record { value = 0; mask = 0 }) c.requires.tests c.loop-at-test.true).0
+
+pub loop-at-init : goal.loop-at-init
+loop-at-init c =
+    let zero = c.requires.zero in
+    record { long = refl; place = omega arith; fits = λ k. let b = c.type_inv.bytes k in omega (arith, b); number = omega (arith, zero) }

@@ -34,3 +34,9 @@ loop-coming-preserved c =
 
 pub returns : goal.returns
 returns c = come-end c.args.tables.now c.requires.slots (changes_in c.args.changes.now.items) (changes_in c.loop-coming.changes.items) c.args.come.now c.loop-coming.coming-index c.loop-coming-test.false c.loop-coming.invariant
+
+pub put_kept-requires-clause-stage : goal.put_kept-requires-clause-stage
+put_kept-requires-clause-stage c = (c.requires.small c.coming-item.result.spot c.in-Some.part.now (sym c.in-Some.ensures)).0
+
+pub put_kept-requires-clause-place : goal.put_kept-requires-clause-place
+put_kept-requires-clause-place c = (c.requires.small c.coming-item.result.spot c.in-Some.part.now (sym c.in-Some.ensures)).1

@@ -1,4 +1,4 @@
-use Rattle.std.proofs.Common.{◌≡◌, ◌*◌, arith}
+use Rattle.std.proofs.Common.{◌≡◌, ◌+◌, ◌*◌, ◌≤◌, subst, sym, arith}
 use Rattle.std.proofs.lemmas.Result.{IfOk-weaker}
 use Rattle.rmt_bits.specs.Bits.{number_of, slice}
 use Rattle.rmt_config.specs.Cells.{cell_of, data_at, sram_row}
@@ -12,6 +12,9 @@ data_bytes-requires-clause-cell c =
     let memory = c.args.memory.now in
     data_cell memory.per memory.quanta c.args.held memory.records.now c.args.rows.now c.exact_records-layout.result c.args.cell c.requires.per (omega arith) c.requires.quanta c.requires.few (omega arith) (omega arith)
     c.requires.records c.requires.rows c.exact_records-layout.ensures c.requires.cell
+
+pub data_bytes-requires-clause-bits : goal.data_bytes-requires-clause-bits
+data_bytes-requires-clause-bits c = subst (λ (l : CellLayout). 0 + c.args.held ≤ l.entry) (sym c.exact_records-layout.ensures) (omega arith)
 
 pub returns-clause-number : goal.returns-clause-number
 returns-clause-number c =

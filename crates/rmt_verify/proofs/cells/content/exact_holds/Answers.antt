@@ -1,6 +1,10 @@
-use Rattle.std.proofs.Common.{◌≡◌, ◌==◌, ℕ, ◌-◌, ◌*◌, ◌/◌, ◌%◌, ◌^◌, false, Contains, List, sum, sym, ap, ◌∙◌}
+use Rattle.std.proofs.Common.{◌≡◌, ◌==◌, ℕ, ◌+◌, ◌-◌, ◌*◌, ◌/◌, ◌%◌, ◌^◌, ◌<◌, ◌≤◌, false, All, Contains, List, length, sum, sym, subst, ap, ◌∙◌, arith}
+use Rattle.std.specs.List.{AllZip}
 use Rattle.rmt_bits.specs.Bits.{bytes_of, number_of}
+use Rattle.rmt_bits.specs.declared.lane.Lane.{Lane}
 use Rattle.rmt_ast.specs.declared.program.Test.{Test}
+use Rattle.rmt_ast.specs.WellFormed.{Fits, IsTest}
+use Rattle.rmt_config.specs.declared.form.layout.CellLayout.{CellLayout}
 use Rattle.rmt_config.specs.Cells.{candidates, cell_of, data_at, entry_at, exact_content, sram_row}
 use Rattle.rmt_config.specs.LaneForm.{bits_of_lanes}
 use Rattle.rmt_config.specs.Rooms.{tests_as_one}
@@ -10,6 +14,47 @@ use Rattle.rmt_config.specs.Rooms.{mask_or_value}
 use Rattle.rmt_verify.proofs.ContentLaws.{args_along, code_told, exact_all, exact_head, exact_key, exact_key-lt, key_cell, key_few, key_room, key_small, stands_told, told_along, way_low}
 use Rattle.rmt_verify.proofs.cells.content.exact_holds.Goals as goal
 use Rattle.rmt_config.proofs.LayoutLaws.{bytes_hold}
+
+pub key_bits-bits-requires : goal.key_bits-bits-requires
+key_bits-bits-requires c = subst (λ (ls : List Lane). bits_of_lanes ls ≤ 640) (sym c.as_slice.ensures) c.requires.fits.most_bits
+
+pub exact_keys-layout-requires : goal.exact_keys-layout-requires
+exact_keys-layout-requires c = subst (λ n. n ≤ 640) (sym (c.key_bits-bits.ensures ∙ ap bits_of_lanes c.as_slice.ensures)) c.requires.fits.most_bits
+
+pub head_of-requires-clause-head : goal.head_of-requires-clause-head
+head_of-requires-clause-head c = subst (λ (l : CellLayout). 8 ≤ l.entry) (sym c.exact_keys-layout.ensures) (omega arith)
+
+pub entry_bytes-requires-clause-bits : goal.entry_bytes-requires-clause-bits
+entry_bytes-requires-clause-bits c = subst (λ (l : CellLayout). 8 + c.key_bits-bits.result ≤ l.entry) (sym c.exact_keys-layout.ensures) (omega arith)
+
+pub exact_data-requires : goal.exact_data-requires
+exact_data-requires c =
+    let fits = c.requires.fits in
+    record { rows = c.requires.rows; per = fits.some_p; quanta = fits.some_d; few = fits.most_d; records = fits.records; cell = c.requires.cell }
+
+pub stands_at-stands-requires : goal.stands_at-stands-requires
+stands_at-stands-requires c = record { per = c.requires.fits.some_p; quanta = c.requires.fits.some_d; ways = c.requires.ways; cell = c.requires.cell }
+
+pub are_arguments-has_data-requires : goal.are_arguments-has_data-requires
+are_arguments-has_data-requires c =
+    let wanted = c.requires.wanted in
+    let read = ap (λ (bs : List ℕ). length bs) c.deref-3.ensures.value in
+    let params = ap sum c.as_slice-4.ensures in
+    let all = wanted.all in
+    let long = c.in_ok-data.ensures.long in
+    record {
+      args = subst (λ (ps : List ℕ). AllZip Fits ps c.as_slice-5.result.now) (sym c.as_slice-4.ensures) (subst (λ (xs : List ℕ). AllZip Fits c.args.wanted.now.params.now xs) (sym c.as_slice-5.ensures) wanted.args);
+      narrow = subst (All (λ w. w ≤ 128)) (sym c.as_slice-4.ensures) wanted.short;
+      few = subst (λ (bs : List ℕ). length bs < 2 ^ 16) (sym c.deref-3.ensures.value) c.in_ok-data.ensures.few;
+      room = omega (arith, read, params, all, long);
+    }
+
+pub are_tests-has_key-requires-clause-tests : goal.are_tests-has_key-requires-clause-tests
+are_tests-has_key-requires-clause-tests c =
+    subst (λ (ws : List ℕ). AllZip IsTest ws c.as_slice-3.result.now) (sym c.as_slice-2.ensures) (subst (λ (ts : List Test). AllZip IsTest c.args.wanted.now.widths.now ts) (sym c.as_slice-3.ensures) c.requires.wanted.tests)
+
+pub are_tests-has_key-requires-clause-narrow : goal.are_tests-has_key-requires-clause-narrow
+are_tests-has_key-requires-clause-narrow c = subst (All (λ w. w ≤ 128)) (sym c.as_slice-2.ensures) c.requires.wanted.narrow
 
 pub head_of-requires-clause-cell : goal.head_of-requires-clause-cell
 head_of-requires-clause-cell c =

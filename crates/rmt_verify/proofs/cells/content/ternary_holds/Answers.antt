@@ -1,5 +1,10 @@
-use Rattle.std.proofs.Common.{◌≡◌, ◌==◌, ℕ, ◌*◌, ◌/◌, ◌%◌, List, length, sum, sym, ap, ◌∙◌}
+use Rattle.std.proofs.Common.{◌≡◌, ◌==◌, ℕ, ◌+◌, ◌*◌, ◌/◌, ◌%◌, ◌≤◌, All, List, length, sum, sym, subst, ap, ◌∙◌, arith}
+use Rattle.std.specs.List.{AllZip}
 use Rattle.rmt_bits.specs.Bits.{number_of, slice}
+use Rattle.rmt_bits.specs.declared.lane.Lane.{Lane}
+use Rattle.rmt_ast.specs.WellFormed.{Fits}
+use Rattle.rmt_config.specs.PrefixRow.{PrefixRows}
+use Rattle.rmt_config.proofs.CellLayouts.{up-most}
 use Rattle.rmt_config.specs.Cells.{blocks_at, row_record, sram_row, ternary_content}
 use Rattle.rmt_config.specs.LaneForm.{bits_of_lanes}
 use Rattle.rmt_config.specs.Layouts.{entry_in, local_of, quantum_of}
@@ -10,6 +15,46 @@ use Rattle.rmt_config.specs.declared.form.layout.CellLayout.{CellLayout}
 use Rattle.rmt_pack.specs.declared.tcam.TcamWord.{TcamWord}
 use Rattle.rmt_verify.proofs.ContentLaws.{args_along, blocks_there, code_told, row_cell, row_data, row_head, ternary_all, words_along, words_told}
 use Rattle.rmt_verify.proofs.cells.content.ternary_holds.Goals as goal
+
+pub key_bits-bits-requires : goal.key_bits-bits-requires
+key_bits-bits-requires c = subst (λ (ls : List Lane). bits_of_lanes ls ≤ 640) (sym c.as_slice.ensures) c.requires.fits.most_bits
+
+pub head_of-requires-clause-head : goal.head_of-requires-clause-head
+head_of-requires-clause-head c = subst (λ (l : CellLayout). 8 ≤ l.entry) (sym c.ternary_records-layout.ensures) (omega arith)
+
+pub data_bytes-requires-clause-bits : goal.data_bytes-requires-clause-bits
+data_bytes-requires-clause-bits c = subst (λ (l : CellLayout). 8 + c.args.slot.now.held ≤ l.entry) (sym c.ternary_records-layout.ensures) (omega arith)
+
+pub tcam_row-requires : goal.tcam_row-requires
+tcam_row-requires c = record { tests = c.requires.wanted.tests; widths = c.requires.wanted.narrow }
+
+pub divided_up-requires : goal.divided_up-requires
+divided_up-requires c =
+    let bits = c.key_bits-bits.ensures ∙ ap bits_of_lanes c.as_slice.ensures in
+    let most = c.requires.fits.most_bits in
+    record { some = omega arith; fits = omega (arith, bits, most) }
+
+pub are_words-has_key-requires : goal.are_words-has_key-requires
+are_words-has_key-requires c = record {
+  rows = subst PrefixRows (sym c.as_slice-3.ensures) c.requires.values;
+  row = omega arith;
+}
+
+pub are_arguments-has_data-requires : goal.are_arguments-has_data-requires
+are_arguments-has_data-requires c =
+    let wanted = c.requires.wanted in
+    let read = ap (λ (bs : List ℕ). length bs) c.deref.ensures.value in
+    let params = ap sum c.as_slice-5.ensures in
+    let all = wanted.all in
+    let long = c.in_ok-data.ensures.long in
+    let most = up-most c.args.slot.now.held 8 (omega arith) in
+    let held = c.requires.fits.most_held in
+    record {
+      args = subst (λ (ps : List ℕ). AllZip Fits ps c.as_slice-6.result.now) (sym c.as_slice-5.ensures) (subst (λ (xs : List ℕ). AllZip Fits c.args.wanted.now.params.now xs) (sym c.as_slice-6.ensures) wanted.args);
+      narrow = subst (All (λ w. w ≤ 128)) (sym c.as_slice-5.ensures) wanted.short;
+      few = omega (arith, read, long, most, held);
+      room = omega (arith, read, params, all, long);
+    }
 
 pub head_of-requires-clause-cell : goal.head_of-requires-clause-cell
 head_of-requires-clause-cell c =

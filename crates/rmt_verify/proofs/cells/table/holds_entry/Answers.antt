@@ -1,4 +1,5 @@
-use Rattle.std.proofs.Common.{sym, ap, subst, ◌∙◌, arith}
+use Rattle.std.proofs.Common.{◌<◌, ℕ, List, length, sym, ap, subst, ◌∙◌, arith}
+use Rattle.rmt_config.specs.KeysSeen.{WaysLow}
 use Rattle.std.proofs.lemmas.Result.{IfOk-weaker}
 use Rattle.rmt_config.specs.declared.config.Memory.TheVariants.{Exact, Ternary}
 use Rattle.rmt_config.specs.MemoryRules.{ExactFits, FormedRows, SramRows, TernaryFits}
@@ -7,8 +8,17 @@ use Rattle.rmt_config.proofs.PrefixRowLaws.{prefix-rows}
 use Rattle.rmt_refine.specs.Types.{Memory, Stage}
 use Rattle.rmt_refine.specs.Units.{HasKind}
 use Rattle.rmt_config.specs.PartsTold.{part_at}
-use Rattle.rmt_verify.proofs.TableLaws.{action_low, cell_below, exact_fit, exact_kind, exact_there, first_low, params_read, rows_stand, stage_is, ternary_fit, ternary_there, wanted, whole}
+use Rattle.rmt_verify.proofs.TableLaws.{action_low, cell_below, exact_fit, exact_kind, exact_there, first_low, its_action, params_read, rows_stand, stage_is, ternary_fit, ternary_there, wanted, whole}
 use Rattle.rmt_verify.proofs.cells.table.holds_entry.Goals as goal
+
+pub bounds-as_slice-entry : goal.bounds-as_slice-entry
+bounds-as_slice-entry c =
+    let at = c.args.at.now in
+    let own = its_action at.program.now at.config.now at.node at.table.now at.widths.now at.entries.now c.requires.known.its_table c.args.entry.now c.requires.entry in
+    subst (λ (xs : List ℕ). c.args.entry.now.action < length xs) (sym c.as_slice.ensures) own.within
+
+pub stage_of-stage-requires : goal.stage_of-stage-requires
+stage_of-stage-requires c = c.requires.known.its_part.stands
 
 pub overflow_add-code : goal.overflow_add-code
 overflow_add-code c =
@@ -31,6 +41,12 @@ exact_holds-requires-clause-fits c =
     subst (λ ks. ExactFits slot a.width a.per a.quanta ks c.as_slice-in-Exact-3.result.now) (sym c.as_slice-in-Exact-2.ensures)
     (subst (λ rs. ExactFits slot a.width a.per a.quanta a.keys rs) (sym c.as_slice-in-Exact-3.ensures)
     (exact_fit c.args.at.now.config.now (part_at c.args.part.now) c.requires.known.its_part.stands a.width a.per a.quanta a.first_way a.keys a.records a.counters a.is))
+
+pub exact_holds-requires-clause-ways : goal.exact_holds-requires-clause-ways
+exact_holds-requires-clause-ways c = let a = c.in-Exact in subst WaysLow a.is c.requires.known.its_part.ways
+
+pub exact_holds-requires-clause-bits : goal.exact_holds-requires-clause-bits
+exact_holds-requires-clause-bits c = c.requires.known.its_part.bits_are
 
 pub exact_holds-requires-clause-cell : goal.exact_holds-requires-clause-cell
 exact_holds-requires-clause-cell c =
@@ -71,6 +87,9 @@ ternary_holds-requires-clause-fits c =
     subst (λ ks. TernaryFits slot a.quanta ks c.as_slice-in-Ternary-2.result.now) (sym c.as_slice-in-Ternary.ensures)
     (subst (λ rs. TernaryFits slot a.quanta a.keys rs) (sym c.as_slice-in-Ternary-2.ensures)
     (ternary_fit c.args.at.now.config.now (part_at c.args.part.now) c.requires.known.its_part.stands a.quanta a.keys a.records a.counters a.is))
+
+pub ternary_holds-requires-clause-bits : goal.ternary_holds-requires-clause-bits
+ternary_holds-requires-clause-bits c = c.requires.known.its_part.bits_are
 
 pub ternary_holds-requires-clause-cell : goal.ternary_holds-requires-clause-cell
 ternary_holds-requires-clause-cell c =

@@ -1,4 +1,4 @@
-use Rattle.std.proofs.Common.{All, refl, sym, subst, arith}
+use Rattle.std.proofs.Common.{◌∙◌, true≢false, All, refl, sym, subst, arith}
 use Rattle.std.specs.Prelude.{sum}
 use Rattle.std.proofs.lemmas.List.{take_all}
 use Rattle.std.proofs.lemmas.List.Elements.{All-map, All-more}
@@ -19,13 +19,13 @@ part_holds-requires-clause-part c =
 
 pub returns-then-not-branch : goal.returns-then-not-branch
 returns-then-not-branch c = λ cells told. (
-  λ no. absurd cc,
+  λ no. absurd (true≢false (sym no)),
   λ all. absurd (
       let at = c.args.at.now in
       let x = c.part-item.result in
       let here = All-unmap (λ (y : PartAt). All (CellHeld at.program.now at.config.now cells at.table.now at.entries.now y) y.slot.numbers) part_at c.args.parts.now all c.loop-part.part-index x c.loop-part-test.true in
       let yes = (c.in_ok-part_holds.ensures cells told).1 (subst (λ (y : Part). All (CellHeld at.program.now at.config.now cells at.table.now at.entries.now (part_at y)) y.slot.now.numbers) (sym c.part-item.is) here) in
-      cc),
+      true≢false (sym yes ∙ c.if-not-branch.true)),
 )
 
 pub loop-part-preserved : goal.loop-part-preserved
@@ -33,7 +33,7 @@ loop-part-preserved c = λ cells told.
     (let at = c.args.at.now in
     All-more (λ (y : Part). All (CellHeld at.program.now at.config.now cells at.table.now at.entries.now (part_at y)) y.slot.now.numbers) c.args.parts.now c.loop-part.part-index c.part-item.result
     c.loop-part-test.true (c.loop-part.invariant cells told)
-    (subst (λ (y : Part). All (CellHeld at.program.now at.config.now cells at.table.now at.entries.now (part_at y)) y.slot.now.numbers) c.part-item.is ((c.in_ok-part_holds.ensures cells told).0 cc)))
+    (subst (λ (y : Part). All (CellHeld at.program.now at.config.now cells at.table.now at.entries.now (part_at y)) y.slot.now.numbers) c.part-item.is ((c.in_ok-part_holds.ensures cells told).0 c.if-not-branch.false)))
 
 pub returns : goal.returns
 returns c = λ cells told. (

@@ -1,48 +1,16 @@
-use Rattle.std.proofs.Common.{◌≡◌, ◌∙◌, All, refl, sym, ap, subst}
+use Rattle.std.proofs.Common.{All, ap, subst, sym, ◌∙◌}
 use Rattle.std.specs.Prelude.{sum}
-use Rattle.rmt_config.specs.PartsTold.{listed_numbers, parts_at}
+use Rattle.rmt_config.specs.PartsTold.{parts_at}
 use Rattle.rmt_verify.specs.TableKnown.{PartKnown}
-use Rattle.rmt_verify.proofs.TableHeldLaws.{all_listed, each_held, numbers_there, table_told}
 use Rattle.rmt_verify.proofs.cells.table.table_holds.Goals as goal
 
-pub parts_hold-requires-clause-parts : goal.parts_hold-requires-clause-parts
-parts_hold-requires-clause-parts c =
+pub all_hold-requires : goal.all_hold-requires
+all_hold-requires c =
     let at = c.args.at.now in
-    subst (All (PartKnown at.config.now at.table.now (sum at.widths.now))) (sym (ap parts_at c.as_slice-parts.ensures.value ∙ c.in_ok-parts.ensures)) c.requires.parts
-
-pub returns-then-not-branch : goal.returns-then-not-branch
-returns-then-not-branch c = λ cells told. (
-  λ no. absurd cc,
-  λ held. absurd (
-      let at = c.args.at.now in
-      let parts = parts_at c.as_slice-parts.result.now in
-      let yes = (c.in_ok-parts_hold.ensures cells told).1
-      (each_held at.program.now at.config.now cells at.node at.table.now at.entries.now parts (listed_numbers parts) (ap parts_at c.as_slice-parts.ensures.value ∙ c.in_ok-parts.ensures) refl held) in
-      cc),
-)
-
-pub returns-then-numbers-at : goal.returns-then-numbers-at
-returns-then-numbers-at c =
-    let at = c.args.at.now in
-    let numbers_are = c.as_slice-numbers.ensures.value ∙ c.in_ok-numbers.ensures in
-    λ cells told. (
-      λ no. absurd cc,
-      λ held. absurd (c.if-numbers-at.true (all_listed at.program.now at.config.now cells at.node at.table.now at.entries.now (parts_at c.as_slice-parts.result.now) c.as_slice-numbers.result.now
-          (ap parts_at c.as_slice-parts.ensures.value ∙ c.in_ok-parts.ensures) numbers_are held)),
-    )
-
-pub keep_order-requires-clause-there : goal.keep_order-requires-clause-there
-keep_order-requires-clause-there c =
-    let at = c.args.at.now in
-    let parts = parts_at c.as_slice-parts.result.now in
-    let told = c.requires.told in
-    numbers_there at.program.now at.config.now told.0 at.node at.table.now at.entries.now parts c.as_slice-numbers.result.now (ap parts_at c.as_slice-parts.ensures.value ∙ c.in_ok-parts.ensures)
-    (c.as_slice-numbers.ensures.value ∙ c.in_ok-numbers.ensures) ((c.in_ok-parts_hold.ensures told.0 told.1).0 cc)
-
-pub returns : goal.returns
-returns c = λ cells told.
-    (let at = c.args.at.now in
-    let parts = parts_at c.as_slice-parts.result.now in
-    let numbers_are : c.as_slice-numbers.result.now ≡ c.in_ok-numbers.numbers.items = c.as_slice-numbers.ensures.value in
-    table_told at.program.now at.config.now cells at.node at.table.now at.entries.now parts c.as_slice-numbers.result.now (ap parts_at c.as_slice-parts.ensures.value ∙ c.in_ok-parts.ensures)
-    (numbers_are ∙ c.in_ok-numbers.ensures) c.keep_order.result ((c.in_ok-parts_hold.ensures cells told).0 cc) c.if-numbers-at.false c.keep_order.ensures)
+    let are = ap parts_at c.as_slice.ensures.value ∙ c.in_ok-parts.ensures in
+    record {
+      known = c.requires.known;
+      all = are;
+      parts = subst (All (PartKnown at.config.now at.table.now (sum at.widths.now))) (sym are) c.requires.parts;
+      told = c.requires.told;
+    }

@@ -4,6 +4,9 @@ use Rattle.rmt_vliw.specs.Operations.{operations_of}
 use Rattle.rmt_verify.proofs.RisingLaws.{same_answer, words_rise}
 use Rattle.rmt_verify.proofs.instructions.one.is_of_action.Goals as goal
 
+pub instruction-requires : goal.instruction-requires
+instruction-requires c = record { program = c.requires.coding.program; folded = c.requires.folded; places = c.requires.coding.places }
+
 pub returns : goal.returns
 returns c =
     let folded = c.args.folded.now in

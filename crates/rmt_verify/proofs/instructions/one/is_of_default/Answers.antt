@@ -3,6 +3,9 @@ use Rattle.rmt_vliw.specs.Operations.{given, operations_of}
 use Rattle.rmt_verify.proofs.RisingLaws.{same_answer, words_rise}
 use Rattle.rmt_verify.proofs.instructions.one.is_of_default.Goals as goal
 
+pub default_instruction-requires : goal.default_instruction-requires
+default_instruction-requires c = record { program = c.requires.coding.program; folded = c.requires.folded; args = c.requires.args; places = c.requires.coding.places }
+
 pub returns : goal.returns
 returns c =
     let folded = c.args.folded.now in

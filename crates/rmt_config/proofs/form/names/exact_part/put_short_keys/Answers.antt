@@ -1,5 +1,6 @@
-use Rattle.std.proofs.Common.{◌≡◌, ℕ, List, ◌≤◌, length, sym, subst, ap, ◌∙◌, arith}
+use Rattle.std.proofs.Common.{◌≡◌, ℕ, ◌+◌, List, ◌≤◌, length, sym, subst, ap, ◌∙◌, arith}
 use Rattle.rmt_bits.specs.Bits.{bytes_of, number_of}
+use Rattle.std.proofs.lemmas.Nat.{row_fits}
 use Rattle.rmt_bits.proofs.ByteLaws.{length-bytes_of}
 use Rattle.rmt_config.specs.ExactCells.{key_of, key_size}
 use Rattle.rmt_config.proofs.ExactCellLaws.{cells-done, cells-more, cells-stop, key-there, number_at}
@@ -26,6 +27,39 @@ read c =
 
 pub lowest-bytes-requires-clause-few : goal.lowest-bytes-requires-clause-few
 lowest-bytes-requires-clause-few c = omega (arith, c.divided_up-size.ensures, c.requires.short)
+
+pub place_of-place-requires-clause-per : goal.place_of-place-requires-clause-per
+place_of-place-requires-clause-per c = c.requires.cells.per
+
+pub place_of-place-requires-clause-quanta : goal.place_of-place-requires-clause-quanta
+place_of-place-requires-clause-quanta c = c.requires.cells.quanta
+
+pub place_of-place-requires-clause-within : goal.place_of-place-requires-clause-within
+place_of-place-requires-clause-within c = c.requires.cells.within c.loop-number.number-index (record { cell = 0; number = 0 }) c.loop-number-test.true
+
+pub short_key-key-requires-clause-cells : goal.short_key-key-requires-clause-cells
+short_key-key-requires-clause-cells c = c.requires.cells
+
+pub short_key-key-requires-clause-four : goal.short_key-key-requires-clause-four
+short_key-key-requires-clause-four c = c.place_of-place.ensures.four
+
+pub short_key-key-requires-clause-low : goal.short_key-key-requires-clause-low
+short_key-key-requires-clause-low c = c.place_of-place.ensures.low
+
+pub short_key-key-requires-clause-fits : goal.short_key-key-requires-clause-fits
+short_key-key-requires-clause-fits c =
+    let p = c.args.cells.now in
+    let entry = row_fits c.place_of-place.result.position (p.bits + 8) p.per (p.bits + 8) c.place_of-place.ensures.inside (omega arith) in
+    omega (arith, entry, c.requires.cells.fits)
+
+pub stands_at-requires-clause-quanta : goal.stands_at-requires-clause-quanta
+stands_at-requires-clause-quanta c = c.requires.cells.quanta
+
+pub stands_at-requires-clause-ways : goal.stands_at-requires-clause-ways
+stands_at-requires-clause-ways c = c.requires.cells.ways
+
+pub stands_at-requires-clause-four : goal.stands_at-requires-clause-four
+stands_at-requires-clause-four c = c.place_of-place.ensures.four
 
 pub put_kept-requires : goal.put_kept-requires
 put_kept-requires c =

@@ -1,8 +1,11 @@
-use Rattle.std.proofs.Common.{◌≡◌, ℕ, List, ◌≤◌, drop, length, sym, ap, ◌∙◌, subst}
+use Rattle.std.proofs.Common.{◌≡◌, ℕ, ◌+◌, List, ◌++◌, ◌∷◌, ◌≤◌, drop, length, map, sym, ap, ◌∙◌, subst, append_assoc}
 use Rattle.std.specs.Prelude.{IfOk, sum}
 use Rattle.std.proofs.lemmas.List.{drop_all}
 use Rattle.rmt_config.specs.Rooms.{parts_of}
-use Rattle.rmt_config.specs.PrefixRows.{rows_of}
+use Rattle.rmt_config.specs.declared.form.names.part_list.Part.{Part}
+use Rattle.rmt_config.specs.PartsTold.{part_at, parts_at}
+use Rattle.rmt_config.specs.PrefixRows.{row_in, rows_of}
+use Rattle.rmt_config.proofs.SpelledLists.{drop-at}
 use Rattle.rmt_config.proofs.PrefixRows.{key-low, key-one, prefix-at, prefix-filled, prefix-full, rows-all}
 use Rattle.rmt_config.proofs.form.names.prefix.prefix_fits.Goals as goal
 
@@ -20,6 +23,22 @@ put_rows-requires-clause-kind c = (prefix-at c.args.of.now c.requires.stands c.r
 
 pub put_rows-requires-clause-short : goal.put_rows-requires-clause-short
 put_rows-requires-clause-short c = (prefix-at c.args.of.now c.requires.stands c.requires.kind c.requires.alone c.loop-part.part-index c.part-item.result c.loop-part-test.true c.part-item.is).short
+
+pub put_rows-requires-clause-memory : goal.put_rows-requires-clause-memory
+put_rows-requires-clause-memory c = c.requires.stands.memory
+
+pub loop-part-preserved : goal.loop-part-preserved
+loop-part-preserved c =
+    let config = c.args.of.now.config.now in
+    let before = c.loop-part.rows.items in
+    let part = c.part-item.result in
+    let i = c.loop-part.part-index in
+    let parts = c.args.of.now.parts.now in
+    let here = map (row_in config (part_at part)) part.slot.now.numbers in
+    let rest = rows_of config (parts_at (drop (i + 1) parts)) in
+    let step : before ++ rows_of config (parts_at (drop i parts)) ≡ before ++ (here ++ rest) =
+    ap (λ (ps : List Part). before ++ rows_of config (parts_at ps)) (drop-at parts i part c.loop-part-test.true ∙ ap (λ p. p ∷ drop (i + 1) parts) (sym c.part-item.is)) in
+    ap (λ rows. rows ++ rest) c.in_ok-put_rows.ensures ∙ append_assoc before here rest ∙ sym step ∙ c.loop-part.invariant
 
 pub rows_fit-requires : goal.rows_fit-requires
 rows_fit-requires c =

@@ -1,0 +1,19 @@
+use Rattle.std.proofs.Common.{ℕ, ◌++◌, ◌∷◌, List, [], get_or, sym, ap, ◌∙◌}
+use Rattle.std.proofs.lemmas.List.{map_more, take_all}
+use Rattle.rmt_ast.specs.declared.program.Test.{Test}
+use Rattle.rmt_plain.specs.Grouping.{masks_of}
+use Rattle.rmt_plain.proofs.grouping.masks.Goals as goal
+
+abbrev none : Test
+none = record { value = 0; mask = 0 }
+
+pub loop-test-init : goal.loop-test-init
+loop-test-init c = c.in_ok-masks.ensures.items
+
+pub loop-test-preserved : goal.loop-test-preserved
+loop-test-preserved c =
+    c.in_ok-push.ensures.items ∙ ap (λ (ns : List ℕ). ns ++ (get_or c.args.tests.now c.loop-test.test-index none).mask ∷ []) c.loop-test.invariant
+    ∙ sym (map_more (λ (t : Test). t.mask) c.args.tests.now c.loop-test.test-index none c.loop-test-test.true)
+
+pub returns : goal.returns
+returns c = c.loop-test.invariant ∙ ap masks_of (take_all c.loop-test.test-index c.args.tests.now c.loop-test-test.false)
