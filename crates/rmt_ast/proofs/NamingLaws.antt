@@ -45,12 +45,6 @@ unknown name (o ∷ os) h =
     let here : bytes_eq name o ≡ false = false_from_ne_true (bytes_eq name o) (λ e. All-head (λ x. name ≢ x) o os h ((bytes_eq-Decides name o).0 e)) in
     rw here (unknown name os (All-tail (λ x. name ≢ x) o os h))
 
-pub differ-from_distinct : (names : List (List ℕ)) → AreDistinct names → differ names ≡ true
-differ-from_distinct [] h = refl
-differ-from_distinct (name ∷ names) h =
-    both (not (is_known names name)) (differ names) (ap not (unknown name names (AllPairs-head (λ a b. a ≢ b) name names h)))
-    (differ-from_distinct names (AllPairs-tail (λ a b. a ≢ b) name names h))
-
 -- items of different places have different names, where names are distinct
 names_apart : {X : Type 0} (name : X → List ℕ) (xs : List X) (a b : ℕ) (x y : X) → AreDistinct (map name xs) → slice_get xs a ≡ Some x → slice_get xs b ≡ Some y → a ≢ b → name x ≢ name y
 names_apart name [] a b x y h at_x at_y ne e = absurd (let in_range = slice_get_within [] a x at_x in omega (arith, in_range))

@@ -1,6 +1,6 @@
 -- Changes of a program's entries: additions and removals, and the entries that they leave.
 use Rattle.std.specs.Prelude.{ℕ, ◌+◌, List, [], ◌∷◌, ◌++◌, Bool, ◌&&◌, ◌==◌, if◌then◌else◌, max, fold, map, slice_get, slice_set, unwrap_or}
-use Rattle.std.specs.List.{flat_map}
+use Rattle.std.specs.List.{flat_map, list_any}
 use Rattle.std.specs.Str.{bytes_eq}
 use Rattle.rmt_ast.specs.Types.{Test}
 use Rattle.rmt_ast.specs.declared.entry.Entry.{Entry}
@@ -61,3 +61,11 @@ changed s (Removes node key) = record { lists = removed s.lists node key; next =
 -- what the changes of a commit leave, in their order
 abbrev pub committed : Installed → List Change → Installed
 committed s changes = fold changed s changes
+
+-- the key of an entry
+abbrev pub key_of_entry : Entry → EntryKey
+key_of_entry e = record { tests = e.tests; rank = e.rank }
+
+-- some entry has a key
+abbrev pub is_held : EntryKey → List Entry → Bool
+is_held key es = list_any (is_keyed_by key) es

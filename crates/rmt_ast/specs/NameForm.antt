@@ -1,14 +1,12 @@
 -- Which words are names.
 use Rattle.std.specs.Prelude.{ℕ, List, [], ◌∷◌, Bool, false, not, ◌&&◌, ◌||◌, ◌==◌, nat_le, codes}
 use Rattle.std.specs.List.{list_all}
+use Rattle.rmt_bits.specs.Digits.{is_digit}
 use Rattle.rmt_ast.specs.NameList.{is_known}
 
 -- a letter or _
 abbrev pub is_letter : ℕ → Bool
 is_letter b = (nat_le 97 b && nat_le b 122) || (nat_le 65 b && nat_le b 90) || (b == 95)
-
-abbrev pub is_digit : ℕ → Bool
-is_digit b = nat_le 48 b && nat_le b 57
 
 -- what a name may go on with
 abbrev pub is_name_byte : ℕ → Bool

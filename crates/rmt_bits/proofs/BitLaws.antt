@@ -150,3 +150,7 @@ no_bit-above mask n small far =
 -- a run of the bits that two numbers have in common
 pub slice-and : (a b low len : ℕ) → slice (bit_and a b) low len ≡ bit_and (slice a low len) (slice b low len)
 slice-and a b low len = ap (λ n. n % 2 ^ len) (and_shr a b low) ∙ and_mod (a / 2 ^ low) (b / 2 ^ low) len
+
+-- a sum turned round
+pub turned : (a b m : ℕ) → a + m * b ≡ b * m + a
+turned a b m = omega arith

@@ -3,7 +3,7 @@ use Rattle.std.proofs.Common.{◌≡◌, ◌≢◌, ℕ, zero, suc, ◌+◌, ◌
 use Rattle.std.specs.Prelude.{All, count_by, sum_by, insert, slice_set}
 use Rattle.std.specs.Ordering.{nat_cmp}
 use Rattle.std.specs.List.Sorted.{IsBinarySearchResult}
-use Rattle.std.proofs.lemmas.Bool.{cases_eq, cases_order, ltb-true}
+use Rattle.std.proofs.lemmas.Bool.{cases_eq, cases_order, ltb-true, eq-eqb}
 use Rattle.std.proofs.lemmas.List.{same_lists, length-map, length-set, map-append, take-append-drop, get_or-map, get_or-set_same, get_or-set_other, get_or_default}
 use Rattle.std.proofs.lemmas.List.Elements.{All-cons, All-head, All-nil, All-tail}
 use Rattle.std.proofs.lemmas.List.Kept.{AllPairs-cons}
@@ -15,14 +15,11 @@ use Rattle.rmt_bits.specs.Counting.{BeginsWith, with_packet, with_hit, counted, 
 use Rattle.rmt_bits.proofs.PairLaws.{AllPairs-head, AllPairs-tail}
 use Rattle.rmt_bits.proofs.SearchLaws.{parted}
 
-is_own : (n m : ℕ) → n ≡ m → (n == m) ≡ true
-is_own n m h = grind (arith, tests)
-
 is_other : (n m : ℕ) → n ≢ m → (n == m) ≡ false
 is_other n m h = grind (arith, tests)
 
 hit_own : (n b : ℕ) (c : Count) → c.entry ≡ n → with_hit n b c ≡ with_packet b c
-hit_own n b c h = ap (λ t. cond t (with_packet b c) c) (is_own n c.entry (sym h))
+hit_own n b c h = ap (λ t. cond t (with_packet b c) c) (eq-eqb n c.entry (sym h))
 
 hit_other : (n b : ℕ) (c : Count) → c.entry ≢ n → with_hit n b c ≡ c
 hit_other n b c h = ap (λ t. cond t (with_packet b c) c) (is_other n c.entry (λ e. h (sym e)))
@@ -42,11 +39,6 @@ begins_set (c ∷ cs) (suc i) n x d inside own begins = begins
 -- and where one is put in behind the first, or is the first and has the number
 pub begins_here : (cs : List Count) (x : Count) → BeginsWith x.entry (insert cs 0 x)
 begins_here cs x = All-cons (λ (first : Count). x.entry ≡ first.entry) x [] refl (All-nil (λ (first : Count). x.entry ≡ first.entry))
-
-pub begins_later : (cs : List Count) (i n : ℕ) (x : Count) → 0 < i → i ≤ length cs → BeginsWith n cs → BeginsWith n (insert cs i x)
-begins_later [] i n x later inside begins = absurd (omega (arith, later, inside))
-begins_later (c ∷ cs) zero n x later inside begins = absurd (omega (arith, later))
-begins_later (c ∷ cs) (suc i) n x later inside begins = begins
 
 -- the counter of the entry alone changes
 pub counted_found : (cs : List Count) (i n b : ℕ) (d : Count) → AreRising cs → i < length cs → (get_or cs i d).entry ≡ n → slice_set cs i (with_packet b (get_or cs i d)) ≡ counted b cs n
@@ -165,7 +157,7 @@ with_count-there [] n i d rising inside own = absurd (omega (arith, inside))
 with_count-there (c ∷ cs) n zero d rising inside own =
     let not_less : nat_lt n c.entry ≡ false = grind (arith, tests) in
     sym (ap (λ t. cond t (zero_count n ∷ c ∷ cs) (cond (n == c.entry) (c ∷ cs) (c ∷ with_count n cs))) not_less
-    ∙ ap (λ t. cond t (c ∷ cs) (c ∷ with_count n cs)) (is_own n c.entry (sym own)))
+    ∙ ap (λ t. cond t (c ∷ cs) (c ∷ with_count n cs)) (eq-eqb n c.entry (sym own)))
 with_count-there (c ∷ cs) n (suc i) d rising inside own =
     let up = rising 0 (suc i) d (omega arith) inside in
     let lower : c.entry < n = omega (arith, up, own) in

@@ -22,3 +22,10 @@ bytes_eq-sym a b = same_Bool (bytes_eq a b) (bytes_eq b a) (along a b) (along b 
   where
     along : (x y : List ℕ) → bytes_eq x y ≡ true → bytes_eq y x ≡ true
     along x y e = (bytes_eq-Decides y x).1 (sym ((bytes_eq-Decides x y).0 e))
+
+-- bytes are equal to themselves, and bytes that are equal are the same
+pub bytes_eq-same : (q : List ℕ) → bytes_eq q q ≡ true
+bytes_eq-same q = (bytes_eq-Decides q q).1 refl
+
+pub bytes_eq-true : (key q : List ℕ) → bytes_eq key q ≡ true → key ≡ q
+bytes_eq-true key q = (bytes_eq-Decides key q).0

@@ -3,6 +3,7 @@ pub mod AllLaws
 pub mod BestLaws
 pub mod BitLaws
 pub mod ByteLaws
+pub mod CodecLaws
 pub mod DigitLaws
 pub mod CountLaws
 pub mod Examples
@@ -17,6 +18,7 @@ pub mod OptionLaws
 pub mod OrderLaws
 pub mod PairLaws
 pub mod PlaceLaws
+pub mod ReaderLoops
 pub mod RunLaws
 pub mod SearchLaws
 pub mod TestLaws

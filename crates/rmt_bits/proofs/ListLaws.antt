@@ -1,5 +1,5 @@
 -- Lists: where there is an item, lists without items, one item more, and parts one behind the other.
-use Rattle.std.proofs.Common.{◌≡◌, ◌≢◌, ℕ, zero, suc, ◌+◌, ◌<◌, ◌≤◌, ◌==◌, Bool, true, false, cond, List, [], ◌∷◌, ◌++◌, length, take, drop, Option, None, Some, refl, ap, sym, subst, ◌∙◌, arith, append_assoc, get_or}
+use Rattle.std.proofs.Common.{◌≡◌, ◌≢◌, ℕ, zero, suc, ◌+◌, ◌<◌, ◌≤◌, ◌==◌, Bool, true, false, cond, List, [], ◌∷◌, ◌++◌, length, take, drop, Option, None, Some, refl, ap, sym, subst, ◌∙◌, arith, append_assoc, get_or, ◌-◌}
 use Rattle.std.specs.Prelude.{All, IsSome, IsSomeAnd, find, nat_eq, slice_get, slice_set, map, filter}
 use Rattle.std.specs.Cmp.Lexicographic.{same_text}
 use Rattle.std.specs.List.{flat_map, list_all, prefix_len, range_with_len, starts_with, sum_by, take_while, AllZip}
@@ -122,10 +122,6 @@ prefix_len-until test (x ∷ xs) y ys all stops =
 pub take_while-until : {X : Type 0} (test : X → Bool) (xs : List X) (y : X) (ys : List X) → list_all test xs ≡ true → test y ≡ false → take_while test (xs ++ y ∷ ys) ≡ xs
 take_while-until test xs y ys all stops = ap (λ n. take n (xs ++ y ∷ ys)) (prefix_len-until test xs y ys all stops) ∙ take-append_seam xs (y ∷ ys)
 
-pub flat_map-map : {X Y A : Type 0} (g : Y → List A) (f : X → Y) (xs : List X) → flat_map g (map f xs) ≡ flat_map (λ x. g (f x)) xs
-flat_map-map g f [] = refl
-flat_map-map g f (x ∷ xs) = ap (λ l. g (f x) ++ l) (flat_map-map g f xs)
-
 -- a sum over the items that pass a test, where the others add nothing, or where those add nothing
 pub sum_by-filter_all : {X : Type 0} (f : X → ℕ) (test : X → Bool) (xs : List X) → All (λ x. test x ≡ false → f x ≡ 0) xs → sum_by f (filter test xs) ≡ sum_by f xs
 sum_by-filter_all f test [] none = refl
@@ -230,3 +226,10 @@ zip_push R [] [] x y h r = (r, tt)
 zip_push R [] (b ∷ ys) x y h r = absurd h
 zip_push R (a ∷ xs) [] x y h r = absurd h
 zip_push R (a ∷ xs) (b ∷ ys) x y h r = (h.0, zip_push R xs ys x y h.1 r)
+
+-- one number more of a range up to a number
+pub range-next : (start cell : ℕ) → start ≤ cell → range_with_len start (cell + 1 - start) ≡ range_with_len start (cell - start) ++ cell ∷ []
+range-next start cell le =
+    let at : start + (cell - start) ≡ cell = omega arith in
+    let more : cell + 1 - start ≡ (cell - start) + 1 = omega arith in
+    ap (range_with_len start) more ∙ range_more start (cell - start) ∙ ap (λ (c : ℕ). range_with_len start (cell - start) ++ c ∷ []) at

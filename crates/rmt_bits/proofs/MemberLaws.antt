@@ -1,12 +1,14 @@
 -- The items of a list, and of a list that is made of another.
-use Rattle.std.proofs.Common.{◌≡◌, ℕ, zero, suc, ◌<◌, ◌⊎◌, inl, inr, List, [], ◌∷◌, length, get_or, map, refl, subst, arith, Bool, true, sym, Some, ◌||◌, false}
+use Rattle.std.proofs.Common.{◌≡◌, ℕ, zero, suc, ◌<◌, ◌⊎◌, inl, inr, List, [], ◌∷◌, length, get_or, map, refl, subst, arith, Bool, true, sym, Some, ◌||◌, false, ◌≤◌, ◌+◌, ◌-◌, ◌∙◌, Option, None, filter_map, ap, eqb}
 use Rattle.std.specs.Prelude.{Contains, filter, slice_get, ◌==◌}
 use Rattle.std.proofs.lemmas.List.Elements.{All-contains, All-contains_itself, All-filter, filter_passes, Contains-append_cases, Contains-append_left, Contains-append_right}
 use Rattle.rmt_bits.proofs.AllLaws.{All-unfilter}
-use Rattle.std.specs.List.{list_any, flat_map}
-use Rattle.std.proofs.lemmas.List.Folds.{list_any_at, Any-from_list_any}
+use Rattle.rmt_bits.specs.Members.{is_among}
+use Rattle.std.specs.List.{list_any, flat_map, range_with_len, cons_option}
+use Rattle.std.proofs.lemmas.List.Folds.{list_any_at, Any-from_list_any, list_any-from_Any}
 use Rattle.std.proofs.lemmas.Option.{get_or_from_slice_get, slice_get_within}
-use Rattle.std.proofs.lemmas.Bool.{both_ways, eqb-true}
+use Rattle.std.proofs.lemmas.Bool.{both_ways, eqb-true, eq-eqb}
+use Rattle.std.proofs.lemmas.List.FromFn.{length-range_with_len, get_or-range_with_len}
 
 pub Contains-first : {X : Type 0} (x : X) (xs : List X) → Contains (x ∷ xs) x
 Contains-first x xs = (0, omega arith, refl)
@@ -88,3 +90,27 @@ Contains-from_any (y ∷ ys) x e = by (y == x) refl e (Contains-from_any ys x)
 -- a list some item of which passes a test has one that does
 pub any_item : {X : Type 0} (t : X → Bool) (xs : List X) → list_any t xs ≡ true → (x : X) × Contains xs x × (t x ≡ true)
 any_item t xs some = let (place, item, lt, at, passes) = Any-from_list_any t xs some in (item, (place, lt, at), passes)
+
+-- a number of a range
+pub Contains-between : (start per cell : ℕ) → start ≤ cell → cell < start + per → Contains (range_with_len start per) cell
+Contains-between start per cell le lt =
+    let i = cell - start in
+    let short : i < per = omega arith in
+    let same : start + i ≡ cell = omega arith in
+    (i, omega (arith, length-range_with_len start per), get_or-range_with_len start per i cell short ∙ same)
+
+-- what is made of an item is among what is made of all
+pub Contains-filter_map : {X Y : Type 0} (f : X → Option Y) (xs : List X) (x : X) (y : Y) → Contains xs x → f x ≡ Some y → Contains (filter_map f xs) y
+Contains-filter_map f [] x y there e = absurd (let lt = there.1 in omega (arith, lt))
+Contains-filter_map {X} {Y} f (z ∷ zs) x y there e = elim (Contains-split z zs x there) [
+  | inl same ↦ subst (λ o. Contains (cons_option o (filter_map f zs)) y) (sym (ap f same ∙ e)) (Contains-first y (filter_map f zs))
+  | inr later ↦ behind (f z) (Contains-filter_map f zs x y later e)
+]
+  where
+    behind : (o : Option Y) → Contains (filter_map f zs) y → Contains (cons_option o (filter_map f zs)) y
+    behind None h = h
+    behind (Some w) h = Contains-later w (filter_map f zs) y h
+
+-- and one that a list has is among its numbers
+pub among-Contains : (ls : List ℕ) (o : ℕ) → Contains ls o → is_among ls o ≡ true
+among-Contains ls o own = list_any-from_Any (λ l. eqb l o) ls (own.0, o, own.1, own.2, eq-eqb o o refl)

@@ -1,7 +1,7 @@
 -- Values that are there, values behind references, and truth values.
-use Rattle.std.proofs.Common.{◌≡◌, ℕ, Bool, true, false, eqb, inl, inr, Option, Some, None, Result, Ok, Err, option_copied, option_map, refl, ap, sym, ◌∙◌}
+use Rattle.std.proofs.Common.{◌≡◌, ℕ, Bool, true, false, eqb, inl, inr, Option, Some, None, Result, Ok, Err, option_copied, option_map, refl, ap, sym, ◌∙◌, ◌≢◌, subst}
 use Rattle.std.specs.Borrow.{Bor}
-use Rattle.std.specs.Prelude.{IsSome, is_none}
+use Rattle.std.specs.Prelude.{IsSome, is_none, IfErr}
 use Rattle.std.specs.Option.{option_or}
 use Rattle.std.proofs.lemmas.Bool.{cases_eq, eq-eqb, false≢true, ne_eqb}
 
@@ -47,3 +47,11 @@ same_Ok {A} {E} x y e = ap held e
     held : Result A E → A
     held (Ok a) = a
     held (Err a) = x
+
+-- what is done has not failed
+pub done_not_failed : {A E : Type 0} (x : A) (e : E) → (let r : Result A E = Ok x in r) ≢ Err e
+done_not_failed {A} {E} x e same = subst (λ (r : Result A E). IfErr r (λ _. ⊥)) same tt
+
+pub option_or-none : {A : Type 0} (o : Option A) → option_or o None ≡ o
+option_or-none (Some x) = refl
+option_or-none None = refl

@@ -2,7 +2,7 @@
 use Rattle.std.proofs.Common.{◌≡◌, ◌≢◌, ℕ, ◌%◌, ◌^◌, ◌<◌, ◌++◌, ◌⊎◌, ◌||◌, Bool, true, false, ◌==◌, cond, List, [], ◌∷◌, length, map, get_or, inl, inr, true≢false, refl, sym, ap, subst, ◌∙◌, tests, arith}
 use Rattle.std.specs.Prelude.{All, AllPairs, Contains, nat_lt}
 use Rattle.std.specs.List.{list_any}
-use Rattle.std.proofs.lemmas.Bool.{cases_order, ltb-true}
+use Rattle.std.proofs.lemmas.Bool.{cases_order, ltb-true, eqb-true}
 use Rattle.std.proofs.lemmas.List.{get_or-map, length-map}
 use Rattle.std.proofs.lemmas.List.Elements.{All-head, All-tail, All-nil, All-cons, All-weaker, All-contains}
 use Rattle.std.proofs.lemmas.List.Kept.{AllPairs-cons}
@@ -14,6 +14,7 @@ use Rattle.rmt_bits.proofs.AlikeLaws.{map_alike}
 use Rattle.rmt_bits.proofs.ListLaws.{sum_by-filter, sum_by-filter_none}
 use Rattle.rmt_bits.proofs.MemberLaws.{Contains-first, Contains-later, Contains-split}
 use Rattle.rmt_bits.proofs.PairLaws.{AllPairs-head, AllPairs-tail}
+use Rattle.rmt_bits.specs.Members.{is_among}
 
 -- each number is below the later ones
 abbrev Rise : List ℕ → Type 0
@@ -86,23 +87,15 @@ with_count-with_number hits n (m ∷ ms) new = by (nat_lt n m) (n == m) (with_co
     by false true h = refl
     by false false h = ap (λ (cs : List Count). count_for hits m ∷ cs) h
 
--- the hits of other numbers don't count
-same_number : (n m : ℕ) → (n == m) ≡ true → n ≡ m
-same_number n m h = grind (arith, tests)
-
 -- a count with the same sums
 pub count_parts : (m : ℕ) {x y z w : ℕ} → x ≡ z → y ≡ w → ◌≡◌ {A = Count} (record { entry = m; packets = x % 2 ^ 48; bytes = y % 2 ^ 64 }) (record { entry = m; packets = z % 2 ^ 48; bytes = w % 2 ^ 64 })
 count_parts m {x} {y} {z} {w} e f = ap (λ (v : ℕ). record { entry = m; packets = v % 2 ^ 48; bytes = y % 2 ^ 64 }) e ∙ ap (λ (v : ℕ). record { entry = m; packets = z % 2 ^ 48; bytes = v % 2 ^ 64 }) f
-
--- a hit is of another number where the one is among these numbers and the other is not
-abbrev is_among : List ℕ → ℕ → Bool
-is_among numbers n = list_any (λ k. k == n) numbers
 
 other_number : (numbers : List ℕ) (h : Hit) (m : ℕ) → is_among numbers m ≢ is_among numbers h.number → (x : ℕ) → cond (h.number == m) x 0 ≡ 0
 other_number numbers h m apart x = by (h.number == m) refl
   where
     by : (b : Bool) → (h.number == m) ≡ b → cond b x 0 ≡ 0
-    by true e = absurd (apart (ap (is_among numbers) (sym (same_number h.number m e))))
+    by true e = absurd (apart (ap (is_among numbers) (sym (eqb-true h.number m e))))
     by false e = refl
 
 among-kept : (numbers : List ℕ) (hits : List Hit) (m : ℕ) → list_any (λ k. k == m) numbers ≡ true → count_for (hits_among numbers hits) m ≡ count_for hits m
@@ -150,7 +143,7 @@ with_number-own n (m ∷ ms) = by (nat_lt n m) (n == m) refl (with_number-own n 
   where
     by : (b e : Bool) → (n == m) ≡ e → Contains (with_number n ms) n → Contains (cond b (n ∷ m ∷ ms) (cond e (m ∷ ms) (m ∷ with_number n ms))) n
     by true e same h = Contains-first n (m ∷ ms)
-    by false true same h = subst (λ (k : ℕ). Contains (m ∷ ms) k) (sym (same_number n m same)) (Contains-first m ms)
+    by false true same h = subst (λ (k : ℕ). Contains (m ∷ ms) k) (sym (eqb-true n m same)) (Contains-first m ms)
     by false false same h = Contains-later m (with_number n ms) n h
 
 with_number-others : (n : ℕ) (ms : List ℕ) (k : ℕ) → Contains ms k → Contains (with_number n ms) k
@@ -170,7 +163,7 @@ in_order-has [] m h = absurd (true≢false (sym h))
 in_order-has (n ∷ ns) m h = by (in_order-has ns m) (n == m) refl h
   where
     by : (list_any (λ k. k == m) ns ≡ true → Contains (in_order ns) m) → (b : Bool) → (n == m) ≡ b → (b || list_any (λ k. k == m) ns) ≡ true → Contains (with_number n (in_order ns)) m
-    by rest true e h = subst (λ (k : ℕ). Contains (with_number n (in_order ns)) k) (same_number n m e) (with_number-own n (in_order ns))
+    by rest true e h = subst (λ (k : ℕ). Contains (with_number n (in_order ns)) k) (eqb-true n m e) (with_number-own n (in_order ns))
     by rest false e h = with_number-others n (in_order ns) m (rest h)
 
 with_number-there : (n : ℕ) (ms : List ℕ) → Rise ms → Contains ms n → with_number n ms ≡ ms

@@ -10,7 +10,7 @@ use Rattle.std.proofs.lemmas.List.{length-take, length-drop, get_or-take, get_or
 higher : (a b x : ℕ) → a ≤ b → ordering_index (nat_cmp a x) ≤ ordering_index (nat_cmp b x)
 higher a b x le = grind (arith, tests)
 
-less : (a x : ℕ) → nat_cmp a x ≡ Less → a < x
+pub less : (a x : ℕ) → nat_cmp a x ≡ Less → a < x
 less a x h = grind (arith, tests)
 
 greater : (a x : ℕ) → nat_cmp a x ≡ Greater → x < a

@@ -1,7 +1,7 @@
 -- Tests joined by &&: each of them holds where all of them do; and what holds of either value that a test chooses.
-use Rattle.std.proofs.Common.{◌≡◌, ℕ, ◌+◌, ◌==◌, Bool, true, false, cond, ◌&&◌, refl, arith}
+use Rattle.std.proofs.Common.{◌≡◌, ℕ, ◌+◌, ◌==◌, Bool, true, false, cond, ◌&&◌, refl, arith, not, ◌||◌, ◌≤◌, ap, ◌∙◌}
 use Rattle.std.specs.Prelude.{nat_lt}
-use Rattle.std.proofs.lemmas.Bool.{and_parts}
+use Rattle.std.proofs.lemmas.Bool.{and_parts, false≢true}
 use Rattle.std.proofs.lemmas.Bool.Decides.{nat_tests}
 
 pub split2 : {a1 a2 : Bool} → (a1 && a2) ≡ true → (a1 ≡ true) × (a2 ≡ true)
@@ -77,3 +77,17 @@ nothing_either false q none = refl
 pub and_false_right : (a b : Bool) → b ≡ false → (a && b) ≡ false
 and_false_right true b h = h
 and_false_right false b h = refl
+
+-- what is so if a test is
+pub then_so : (x y : Bool) → (not x || y) ≡ true → x ≡ true → y ≡ true
+then_so true y h e = h
+then_so false y h e = absurd (false≢true e)
+
+-- a test counts one at most
+pub at_most_one : (b : Bool) → cond b 1 0 ≤ 1
+at_most_one true = omega arith
+at_most_one false = omega arith
+
+-- three tests that hold
+pub all_three : (a b c : Bool) → a ≡ true → b ≡ true → c ≡ true → (a && b && c) ≡ true
+all_three a b c is_a is_b is_c = ap (λ x. x && b && c) is_a ∙ ap (λ x. true && x && c) is_b ∙ ap (λ x. true && true && x) is_c

@@ -7,14 +7,11 @@ use Rattle.std.proofs.lemmas.List.Elements.{All-cons, All-head, All-nil, All-tai
 use Rattle.std.proofs.Math.Nat.{mod-eq_of_lt}
 use Rattle.std.proofs.Math.Pow.{pow_mono}
 use Rattle.rmt_bits.specs.Bits.{bytes_of, slice}
-use Rattle.rmt_bits.proofs.BitLaws.{slice-add, slice-from_low, slice-lt}
+use Rattle.rmt_bits.proofs.BitLaws.{slice-add, slice-from_low, slice-lt, turned}
 use Rattle.rmt_config.specs.Cells.{Blocks, unit_row}
 use Rattle.rmt_config.proofs.UnitBits.{Within}
 use Rattle.rmt_config.proofs.SpelledBytes.{mod-turned, mod-within, slice-shr}
 use Rattle.rmt_book.specs.Words.{joined}
-
-turned : (a b m : ℕ) → a + m * b ≡ b * m + a
-turned a b m = omega arith
 
 -- bits within one word
 joined-slice : (size : ℕ) (words : List ℕ) (o t n : ℕ) → All (λ w. w < 2 ^ size) words → o < length words → t + n ≤ size

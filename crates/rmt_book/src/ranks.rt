@@ -1,6 +1,6 @@
 //! The ranks of entries, which no cell holds.
 
-ghost use Rattle.std.specs.Prelude.{◌≡◌, ◌-◌, ◌^◌, ◌<◌, ◌≤◌, ℕ, IfOk, IsTrue, length, sum, unwrap_or};
+ghost use Rattle.std.specs.Prelude.{◌≡◌, ◌^◌, ◌<◌, ◌≤◌, ℕ, IfOk, IsTrue, length, sum, unwrap_or};
 ghost use Rattle.std.specs.BTreeMap.{get};
 ghost use Rattle.std.specs.Ordering.{nat_cmp};
 ghost use Rattle.rmt_bits.specs.Bits.{number_of};
@@ -12,7 +12,7 @@ use crate::kept::Kept;
 use crate::told::bits_from;
 use rmt_ast::names::{RankOf, TableName};
 use rmt_ast::program::Kind;
-use rmt_bits::bits::ones;
+use rmt_config::form::names::prefix_length::length_of;
 use std::alloc::{AllocError, Global};
 use std::collections::BTreeMap;
 
@@ -30,28 +30,6 @@ pub fn ranks_told(alloc: Global, ranks: &[RankOf]) -> Result<BTreeMap<u32, u32>,
     Ok(told)
 }
 
-/// That many of the highest bits of a key.
-fn highest(bits: u8, length: u8) -> u128
-    requires few { bits ≤ 128 }
-    requires within { length ≤ bits }
-    ensures { result ≡ 2 ^ bits - 2 ^ (bits - length) }
-{
-    ones(bits) - ones(bits - length)
-}
-
-/// How many of the highest bits of a key a mask has, where it has these and no other; else 0.
-fn length_of(bits: u8, mask: u128) -> u32
-    requires { bits ≤ 128 }
-    ensures { result ≡ unwrap_or (prefix_length bits mask) 0 }
-{
-    for length in 0..bits + 1 {
-        if mask == highest(bits, length) {
-            return u32::from(length);
-        }
-    }
-    0
-}
-
 /// The length of the prefix that a mask tells, of a key of one field.
 fn prefix_rank(widths: &[u8], mask: &[u8]) -> u32
     requires few { length mask.now ≤ 8192 }
@@ -61,7 +39,7 @@ fn prefix_rank(widths: &[u8], mask: &[u8]) -> u32
     ensures { result ≡ unwrap_or (prefix_length (sum widths.now) (number_of mask.now)) 0 }
 {
     let bits = widths[0];
-    length_of(bits, bits_from(mask, 0, bits))
+    u32::from(length_of(bits, bits_from(mask, 0, bits)).unwrap_or(0))
 }
 
 /// The rank of the entry in a cell of a table, whose names tell these ranks.

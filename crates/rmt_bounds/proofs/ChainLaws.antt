@@ -17,10 +17,10 @@ use Rattle.rmt_pack.specs.declared.format.Format.{Format}
 use Rattle.rmt_pack.specs.declared.placement.Part.{Part}
 use Rattle.rmt_pack.specs.declared.placement.Placement.{Placement}
 use Rattle.rmt_pack.specs.Formats.{whole}
-use Rattle.rmt_pack.specs.Placements.{quanta_in, quanta_of, taken_in, tables_in, nodes_numbered, is_table, is_table_at, is_strict, Keeps, IsLegal, IsLegalWith, stage_count}
+use Rattle.rmt_pack.specs.Placements.{quanta_in, quanta_of, taken_in, tables_in, nodes_numbered, is_table, is_table_at, is_strict, Keeps, IsLegal, IsLegalWith, stage_count, what_format}
 use Rattle.rmt_bounds.specs.declared.bound.Proof.{Proof}
 use Rattle.rmt_bounds.specs.declared.bound.Proof.TheVariants.{Chain, Sram, Tcam, Slots}
-use Rattle.rmt_bounds.specs.Bounds.{fit_alone, stages_of_what, node_stages, shared, sram_sum, tcam_sum, table_count, format_of_what}
+use Rattle.rmt_bounds.specs.Bounds.{fit_alone, stages_of_what, node_stages, shared, sram_sum, tcam_sum, table_count}
 use Rattle.rmt_bounds.specs.Proofs.{joins, shared_by, IsChain, chain_stages, Gives}
 use Rattle.rmt_bounds.proofs.StageSums.{total, total-le, total-swap, total-times, total-same, total-some, quanta_of-le-total, Within, NotBefore, Reaches, reaches, reaches-less}
 use Rattle.rmt_bounds.proofs.NodeLaws.{IsLeast, of_what, fits_alone, blocks-le, sram-le_of_kind, tcam-le_of_kind, whole_tcam}
@@ -144,10 +144,9 @@ module _ (p : Program) (is : IsProgram p) (edges : List Edge) (formats : ℕ →
   chain_reaches n [] x chain r = (n, r)
   chain_reaches a (b ∷ ns) x chain r =
       let sh = shared_by edges a b in
-      let there = chain_node b ns chain.2 in
       let one : 1 ≤ node_stages p a = (node_least a chain.0).one in
       let small : sh ≤ 1 = shared_by-le a b in
-      let next = reaches_step a b (x + node_stages p a) chain.1 there r in
+      let next = reaches_step a b (x + node_stages p a) chain.1 (chain_node b ns chain.2) r in
       let on = chain_reaches b ns (x + node_stages p a - sh) chain.2
       (reaches-less parts b (x + node_stages p a + node_stages p b - sh) (x + node_stages p a - sh + node_stages p b) (omega arith) next) in
       (on.0, reaches-less parts on.0 (x + node_stages p a - sh + chain_stages p edges (b ∷ ns)) (x + (node_stages p a + chain_stages p edges (b ∷ ns) - sh)) (omega arith) on.1)
@@ -201,11 +200,11 @@ module _ (p : Program) (is : IsProgram p) (edges : List Edge) (formats : ℕ →
       omega (arith, parted, total-swap g (nodes_numbered p) stages, total-le (taken_in p parts (λ n. blocks (formats n))) stages limit (λ s _. fits s))
 
   pub sram-le : sram_sum p ≤ stages * 106
-  sram-le = sum-le (λ f. f.sram) 106 legal.sram (λ (x : Node). whole (format_of_what p x.what))
+  sram-le = sum-le (λ f. f.sram) 106 legal.sram (λ (x : Node). whole (what_format p x.what))
       (λ n x at. blocks-le whole sram-le_of_kind refl p is x.what (formats n) (legal.node_formats n x at))
 
   pub tcam-le : tcam_sum p ≤ stages * 16
-  tcam-le = sum-le (λ f. f.tcam) 16 legal.tcam (λ (x : Node). whole_tcam (format_of_what p x.what))
+  tcam-le = sum-le (λ f. f.tcam) 16 legal.tcam (λ (x : Node). whole_tcam (what_format p x.what))
       (λ n x at. blocks-le whole_tcam tcam-le_of_kind refl p is x.what (formats n) (legal.node_formats n x at))
 
   pub tables-le : table_count p ≤ stages * 16

@@ -1,5 +1,5 @@
 -- How large the formats of tables are.
-use Rattle.std.proofs.Common.{◌≡◌, ℕ, ◌+◌, ◌*◌, ◌/◌, ◌≤◌, Bool, true, false, cond, ap, sym, subst, arith}
+use Rattle.std.proofs.Common.{◌≡◌, ℕ, ◌+◌, ◌*◌, ◌/◌, ◌≤◌, ap, sym, subst, ◌∙◌, arith}
 use Rattle.std.proofs.Math.Nat.{mul-le-mul_left}
 use Rattle.rmt_ast.specs.declared.program.Program.{Program}
 use Rattle.rmt_ast.specs.declared.program.Table.{Table}
@@ -13,17 +13,13 @@ use Rattle.rmt_pack.specs.Placements.{key_bits, data_bits, table_need}
 use Rattle.rmt_pack.proofs.FormatLaws.{record_blocks-le, divided_up-least}
 use Rattle.rmt_pack.proofs.NeedLaws.{table_has_need}
 use Rattle.rmt_bounds.specs.Fits.{FitsAStage}
-use Rattle.rmt_bounds.proofs.NodeLaws.{ternary_blocks}
+use Rattle.rmt_bounds.proofs.NodeLaws.{ternary_blocks, counters-few}
 
 -- at most so many quanta, and so many blocks in one
 pub record IsSmall (f : Format) : Type 0 where
   pub quanta : f.quanta ≤ 512
   pub sram : f.sram ≤ 106
   pub tcam : f.tcam ≤ 16
-
-counters-few : (b : Bool) → cond b 2 0 ≤ 2
-counters-few true = omega arith
-counters-few false = omega arith
 
 ternary_small : (n : Need) → IsNeed n → IsSmall (ternary_format n)
 ternary_small n need =
@@ -63,14 +59,13 @@ need_at p is t table key held key_is held_is =
     subst (λ (k : ℕ). HasNeed t.kind (need_of t k held)) (sym key_is)
     (subst (λ (h : ℕ). HasNeed t.kind (need_of t (key_bits p t) h)) (sym held_is) (table_has_need p is t table))
 
+fits_as : (p : Program) → IsProgram p → (t : Table) → IsTable p t → (f : Format) → f ≡ memory_format t.kind (table_need p t) → (kind : Kind) → t.kind ≡ kind
+    → ((n : Need) → HasNeed kind n → FitsAStage (memory_format kind n)) → FitsAStage f
+fits_as p is t table f f_is kind same fits =
+    subst FitsAStage (sym (f_is ∙ ap (λ k. memory_format k (table_need p t)) same)) (fits (table_need p t) (subst (λ (k : Kind). HasNeed k (table_need p t)) same (table_has_need p is t table)))
+
 pub fits_prefix : (p : Program) → IsProgram p → (t : Table) → IsTable p t → (f : Format) → f ≡ memory_format t.kind (table_need p t) → t.kind ≡ Prefix → FitsAStage f
-fits_prefix p is t table f f_is kind =
-    subst FitsAStage (sym f_is)
-    (subst (λ (k : Kind). FitsAStage (memory_format k (table_need p t))) (sym kind)
-    (ternary_fits_stage (table_need p t) (subst (λ (k : Kind). HasNeed k (table_need p t)) kind (table_has_need p is t table))))
+fits_prefix p is t table f f_is kind = fits_as p is t table f f_is Prefix kind ternary_fits_stage
 
 pub fits_ternary : (p : Program) → IsProgram p → (t : Table) → IsTable p t → (f : Format) → f ≡ memory_format t.kind (table_need p t) → t.kind ≡ Ternary → FitsAStage f
-fits_ternary p is t table f f_is kind =
-    subst FitsAStage (sym f_is)
-    (subst (λ (k : Kind). FitsAStage (memory_format k (table_need p t))) (sym kind)
-    (ternary_fits_stage (table_need p t) (subst (λ (k : Kind). HasNeed k (table_need p t)) kind (table_has_need p is t table))))
+fits_ternary p is t table f f_is kind = fits_as p is t table f f_is Ternary kind ternary_fits_stage

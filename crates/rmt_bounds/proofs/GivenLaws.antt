@@ -112,12 +112,11 @@ module _ (p : Program) (is : IsProgram p) (edges : List Edge) (rise : EdgesRise 
   -- no edge gives more than the best of its later node
   most : (n : ℕ) → n < length p.nodes → (e : Edge) → Contains edges e → e.to ≡ n → through p (all_bests p edges) e ≤ best n
   most n there e found to =
-      let r = rises e found in
       let f = through p (bests p edges n) in
       let top = best_of_node p edges (bests p edges n) n in
       let within = All-unmap (λ x. x ≤ top) f (edges_into edges n) (items-le (λ x. x) (node_stages p n) (map f (edges_into edges n))) in
       let here = All-contains (λ g. f g ≤ top) (edges_into edges n) e within (Contains-filter (λ (g : Edge). g.to == n) edges e found (eq-eqb e.to n to)) in
-      omega (arith, here, best-at n there, through-all n e (omega arith) (omega (arith, r.0, to)))
+      omega (arith, here, best-at n there, through-all n e (omega arith) (omega (arith, (rises e found).0, to)))
 
   -- what two nodes share, one of which gives the other's best
   sharing : (m n : ℕ) → n < length p.nodes → (e : Edge) → Contains edges e → e.from ≡ m → e.to ≡ n → through p (all_bests p edges) e ≡ best n
@@ -143,8 +142,7 @@ module _ (p : Program) (is : IsProgram p) (edges : List Edge) (rise : EdgesRise 
           let item_from : item.0.from ≡ m = eqb-true item.0.from m ends.0 in
           let item_to : item.0.to ≡ n = eqb-true item.0.to n ends.1 in
           let none : shared item.0 ≡ 0 = ap (λ (t : Bool). cond t 0 1) both.1 in
-          let above = most n there item.0 item.1 item_to in
-          omega (arith, here, above, none, ap best item_from, ap (node_stages p) item_to)
+          omega (arith, here, most n there item.0 item.1 item_to, none, ap best item_from, ap (node_stages p) item_to)
       by false none = omega (arith, here, weak (is_strict e.kind) refl none)
 
   -- a chain that is followed back by one node more
@@ -163,10 +161,8 @@ module _ (p : Program) (is : IsProgram p) (edges : List Edge) (rise : EdgesRise 
       let first = Contains-unfilter is_best (edges_into edges n) item.0 item.1 in
       let then = Contains-unfilter is_into edges item.0 first.0 in
       let to : item.0.to ≡ n = eqb-true item.0.to n then.1 in
-      let r = rises item.0 then.0 in
-      let before : m < n = omega (arith, r.0, item.2, to) in
+      let before : m < n = omega (arith, (rises item.0 then.0).0, item.2, to) in
       let i = ih m before in
-      let gives = eqb-true (through p all item.0) (best n) first.1 in
       let joined : IsTrue (list_any (joins m n) edges) =
       list_any-Contains (joins m n) edges item.0 then.0 (and_from (item.0.from == m) (item.0.to == n) (eq-eqb item.0.from m item.2) (eq-eqb item.0.to n to)) in
       let whole : chain_to p edges all k m ++ n ∷ [] ≡ chain_to p edges all (suc k) n =
@@ -180,7 +176,7 @@ module _ (p : Program) (is : IsProgram p) (edges : List Edge) (rise : EdgesRise 
             ap (λ (ns : List ℕ). chain_stages p edges (ns ++ n ∷ [])) i.last
             ∙ (snoc-stages p is edges i.front m n ended there
             ∙ (ap (λ (s : ℕ). s + node_stages p n - shared_by edges m n) (ap (chain_stages p edges) (sym i.last) ∙ i.takes)
-            ∙ sharing m n there item.0 then.0 item.2 to gives));
+            ∙ sharing m n there item.0 then.0 item.2 to (eqb-true (through p all item.0) (best n) first.1)));
       })
 
   -- the chain that is followed back from a node takes the node's best

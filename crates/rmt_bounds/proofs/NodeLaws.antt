@@ -1,5 +1,5 @@
 -- How many stages a node of a legal placement stands in at least.
-use Rattle.std.proofs.Common.{◌≡◌, ℕ, zero, suc, ◌+◌, ◌-◌, ◌*◌, ◌/◌, ◌<◌, ◌≤◌, List, [], ◌∷◌, Bool, true, false, cond, Option, Some, None, length, map, min, refl, ap, sym, subst, arith, unwrap_or}
+use Rattle.std.proofs.Common.{◌≡◌, ℕ, zero, suc, ◌+◌, ◌-◌, ◌*◌, ◌/◌, ◌<◌, ◌≤◌, List, [], ◌∷◌, Bool, false, cond, Option, Some, None, length, map, min, refl, ap, sym, subst, arith, unwrap_or, true}
 use Rattle.std.specs.Prelude.{All, IfSome, IsSome, fold, ◌==◌, slice_get, option_map}
 use Rattle.std.proofs.Math.Nat.{le-min, min-le_left, min-le_right, mul-le-mul, mul-le-mul_right, mul-sub, div-mul-le_self}
 use Rattle.std.proofs.lemmas.Nat.{le-div}
@@ -18,11 +18,15 @@ use Rattle.rmt_ast.specs.WellFormed.{IsProgram, IsWhat}
 use Rattle.rmt_pack.specs.declared.format.Format.{Format}
 use Rattle.rmt_pack.specs.declared.format.Need.{Need}
 use Rattle.rmt_pack.specs.Formats.{divided_up, record_width, records_a_row, record_units, no_memory, ternary_format, exact_format, exact_formats, memory_format, whole, goes_before, IsFormat, IsExactFormat, IsNeed, HasNeed}
-use Rattle.rmt_pack.specs.Placements.{IsNodeFormat, table_need}
+use Rattle.rmt_pack.specs.Placements.{IsNodeFormat, table_need, what_format}
 use Rattle.rmt_pack.proofs.FormatLaws.{of_formats, formats_are, records_a_row-some, record_blocks-le, exact_format-taken}
-use Rattle.rmt_pack.proofs.NeedLaws.{has_need, own_format as table_format}
-use Rattle.rmt_bounds.specs.Bounds.{fit_alone, stages_for, least, least_stages, stages_of_what, node_stages, format_of_what}
+use Rattle.rmt_pack.proofs.NeedLaws.{has_need, exact_blocks, own_format}
+use Rattle.rmt_bounds.specs.Bounds.{fit_alone, stages_for, least, least_stages, stages_of_what, node_stages}
 use Rattle.rmt_bits.proofs.AllLaws.{All-unmap}
+
+pub counters-few : (b : Bool) → cond b 2 0 ≤ 2
+counters-few true = omega arith
+counters-few false = omega arith
 
 -- ---- the least of some numbers
 
@@ -71,9 +75,6 @@ exact_some n need f is =
     le-div 1 (n.size + n.size / 8 + 4096 * f.per - 1) (4096 * f.per) (omega (arith, is.has_cells)) (omega (arith, is.has_cells, need.has_size)) in
     omega (arith, ap (λ (g : Format). g.quanta) is.layout)
 
-exact_blocks : (n : Need) (f : Format) → IsExactFormat n f → 1 ≤ f.sram
-exact_blocks n f is = omega (arith, ap (λ (g : Format). g.sram) is.layout, is.has_width)
-
 exact_stages : (n : Need) (f : Format) → IsExactFormat n f → least_stages Exact n ≤ stages_for f
 exact_stages n f is =
     of_formats (λ g. least (map stages_for (exact_formats n)) ≤ stages_for g) n
@@ -111,10 +112,6 @@ ternary_blocks n =
     let units : 1 ≤ record_units 2 bits = le-div 1 (2 + records_a_row bits - 1) (records_a_row bits) (omega arith) (omega arith) in
     let width : 1 ≤ record_width bits = omega arith in
     let both : 1 * 1 ≤ record_units 2 bits * record_width bits = mul-le-mul units width in omega (arith, both)
-
-counters-few : (b : Bool) → cond b 2 0 ≤ 2
-counters-few true = omega arith
-counters-few false = omega arith
 
 ternary_fits : (n : Need) → IsNeed n → 1 ≤ fit_alone (ternary_format n)
 ternary_fits n need =
@@ -186,7 +183,7 @@ tcam-le_of_kind Ternary n need f is = subst (λ (g : Format). whole_tcam (ternar
 
 -- what a node takes at least is within what it takes in any format
 pub blocks-le : (blocks : Format → ℕ) → ((kind : Kind) (n : Need) → HasNeed kind n → (f : Format) → IsFormat kind n f → blocks (memory_format kind n) ≤ blocks f) → blocks no_memory ≡ 0
-    → (p : Program) → IsProgram p → (what : What) (f : Format) → IsNodeFormat p what f → blocks (format_of_what p what) ≤ blocks f
+    → (p : Program) → IsProgram p → (what : What) (f : Format) → IsNodeFormat p what f → blocks (what_format p what) ≤ blocks f
 blocks-le blocks of none p is (Gate field test) f format = omega (arith, none)
 blocks-le blocks of none p is (Apply t) f format = at (slice_get p.tables t) refl format
   where
@@ -197,14 +194,9 @@ blocks-le blocks of none p is (Apply t) f format = at (slice_get p.tables t) ref
 
 -- ---- each node has a format
 
--- the format that is taken is a format of the node
-pub own_format : (p : Program) → IsProgram p → (what : What) → IsNodeFormat p what (format_of_what p what)
-own_format p is (Gate field test) = refl
-own_format p is (Apply t) = table_format p is t
-
 -- each node stands in a stage at least
 pub node-some : (p : Program) → IsProgram p → (n : ℕ) → n < length p.nodes → 1 ≤ node_stages p n
 node-some p is n there =
     let item = slice_get-item p.nodes n there in
     let stages : node_stages p n ≡ stages_of_what p item.0.what = ap (λ (o : Option Node). unwrap_or (option_map (λ (x : Node). stages_of_what p x.what) o) 1) item.1 in
-    omega (arith, stages, (of_what p is item.0.what (is.nodes n item.0 item.1).what (format_of_what p item.0.what) (own_format p is item.0.what)).one)
+    omega (arith, stages, (of_what p is item.0.what (is.nodes n item.0 item.1).what (what_format p item.0.what) (own_format p is item.0.what)).one)

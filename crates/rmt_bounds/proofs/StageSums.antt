@@ -77,21 +77,19 @@ one_part true (suc q) stage low m in' =
     let at = in' refl (omega arith) in
     let same : stage ≡ low + (stage - low) = omega (arith, at.0) in
     let here : cond (stage == (low + (stage - low))) (suc q) 0 ≡ suc q = ap (λ (t : Bool). cond t (suc q) 0) (eq-eqb stage (low + (stage - low)) same) in
-    let within = one-le-total (λ s. cond (stage == (low + s)) (suc q) 0) m (stage - low) (omega (arith, at.1, at.0)) in
-    omega (arith, here, within)
+    omega (arith, here, one-le-total (λ s. cond (stage == (low + s)) (suc q) 0) m (stage - low) (omega (arith, at.1, at.0)))
 
 -- all quanta of a node are those in the stages where its parts stand
 pub quanta_of-le-total : (parts : List Part) (n low m : ℕ) → All (Within n low m) parts → quanta_of parts n ≤ total (λ s. quanta_in parts n (low + s)) m
 quanta_of-le-total [] n low m within = omega arith
 quanta_of-le-total (x ∷ xs) n low m within =
     let own = one_part (x.node == n) x.quanta x.stage low m (λ is. All-head (Within n low m) x xs within (eqb-true x.node n is)) in
-    let rest = quanta_of-le-total xs n low m (All-tail (Within n low m) x xs within) in
     let f : ℕ → ℕ = λ s. cond ((x.node == n) && (x.stage == (low + s))) x.quanta 0 in
     let all = total-same (λ s. quanta_in (x ∷ xs) n (low + s)) (λ s. f s + quanta_in xs n (low + s)) m
     (λ s. sum_by-cons (λ (y : Part). cond ((y.node == n) && (y.stage == (low + s))) y.quanta 0) x xs) in
     let apart = total-add f (λ s. quanta_in xs n (low + s)) m in
     let both = sum_by-cons (λ (y : Part). cond (y.node == n) y.quanta 0) x xs in
-    omega (arith, own, rest, all, apart, both)
+    omega (arith, own, quanta_of-le-total xs n low m (All-tail (Within n low m) x xs within), all, apart, both)
 
 -- ---- how far a node reaches
 
@@ -145,9 +143,8 @@ reaches parts n low stages most need from few all each = elim (look n (low + sta
   | inr none ↦
       (let within : All (Within n low (stages - 1)) parts = λ k d below is some.
       (let first = from k d below is some in let last = none k d below is some in (first, omega (arith, first, last))) in
-      let parted = quanta_of-le-total parts n low (stages - 1) within in
       let small = total-le (λ s. quanta_in parts n (low + s)) (stages - 1) most each in
-      absurd (omega (arith, parted, small)))
+      absurd (omega (arith, quanta_of-le-total parts n low (stages - 1) within, small)))
 ]
 
 -- who reaches so far reaches less far

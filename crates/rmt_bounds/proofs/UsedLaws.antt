@@ -1,8 +1,8 @@
 -- A legal placement stays legal without the parts that take no room, so a bound counts only the stages that are used.
-use Rattle.std.proofs.Common.{◌≡◌, ℕ, ◌*◌, ◌<◌, ◌≤◌, ◌⊎◌, List, Bool, true, false, inl, inr, cond, filter, get_or, length, ap, sym, ◌∙◌, subst, arith}
+use Rattle.std.proofs.Common.{◌≡◌, ℕ, ◌*◌, ◌<◌, ◌≤◌, List, Bool, false, cond, filter, get_or, length, ap, sym, subst, arith}
 use Rattle.std.specs.Prelude.{All, ◌==◌, ◌&&◌, nat_lt}
 use Rattle.std.specs.List.{range_with_len}
-use Rattle.std.proofs.lemmas.Bool.{cases_lt, false≢true, lt-ltb, ne_eqb}
+use Rattle.std.proofs.lemmas.Bool.Decides.{nat_tests}
 use Rattle.std.proofs.lemmas.List.Elements.{All-filter}
 use Rattle.rmt_bits.proofs.AlikeLaws.{sum_by_alike}
 use Rattle.rmt_bits.proofs.AllLaws.{All-range}
@@ -14,29 +14,14 @@ use Rattle.rmt_pack.specs.declared.placement.Part.{Part}
 use Rattle.rmt_pack.specs.declared.placement.Placement.{Placement}
 use Rattle.rmt_pack.specs.Placements.{quanta_in, quanta_of, taken_in, tables_in, is_table_at, Keeps, IsLegal, IsLegalWith}
 use Rattle.rmt_bounds.specs.Used.{takes_room, taking_room}
-use Rattle.rmt_bits.proofs.TestLaws.{nothing_either}
 
 module _ (p : Program) (n : ℕ) (there : n < length p.nodes) where
-  -- a part that takes no room has nothing of a node of the program
-  has_nothing : (x : Part) → takes_room p x ≡ false → (x.quanta ≡ 0) ⊎ (x.node ≡ n → ⊥)
-  has_nothing x idle = elim (cases_lt 0 x.quanta) [
-    | inl some ↦ inr (λ same.
-        false≢true (sym idle ∙ ap (λ b. b && nat_lt 0 x.quanta) (lt-ltb x.node (length p.nodes) (omega (arith, same, there))) ∙ lt-ltb 0 x.quanta some))
-    | inr none ↦ inl (omega (arith, none))
-  ]
-
-  -- so it adds nothing to what there is of it, wherever that is counted
+  -- a part that takes no room adds nothing to what there is of a node of the program, wherever that is counted
   adds_nothing : (also : Part → Bool) (x : Part) → takes_room p x ≡ false → cond ((x.node == n) && also x) x.quanta 0 ≡ 0
-  adds_nothing also x idle = elim (has_nothing x idle) [
-    | inl none ↦ nothing_either ((x.node == n) && also x) x.quanta none
-    | inr other ↦ ap (λ b. cond (b && also x) x.quanta 0) (ne_eqb x.node n other)
-  ]
+  adds_nothing also x idle = grind (arith, nat_tests, idle, there)
 
   adds_none : (x : Part) → takes_room p x ≡ false → cond (x.node == n) x.quanta 0 ≡ 0
-  adds_none x idle = elim (has_nothing x idle) [
-    | inl none ↦ nothing_either (x.node == n) x.quanta none
-    | inr other ↦ ap (λ b. cond b x.quanta 0) (ne_eqb x.node n other)
-  ]
+  adds_none x idle = grind (arith, nat_tests, idle, there)
 
   same_in : (parts : List Part) (k : ℕ) → quanta_in (filter (takes_room p) parts) n k ≡ quanta_in parts n k
   same_in parts k = sum_by-filter (λ (x : Part). cond ((x.node == n) && (x.stage == k)) x.quanta 0) (takes_room p) parts (adds_nothing (λ x. x.stage == k))

@@ -10,8 +10,8 @@ use Rattle.rmt_ast.specs.declared.program.Kind.TheVariants.{Keyless, Exact, Pref
 use Rattle.rmt_ast.specs.declared.program.What.TheVariants.{Apply, Gate}
 use Rattle.rmt_pack.specs.declared.format.Format.{Format}
 use Rattle.rmt_pack.specs.declared.format.Need.{Need}
-use Rattle.rmt_pack.specs.Formats.{divided_up, no_memory, memory_format, ternary_format, exact_formats, whole}
-use Rattle.rmt_pack.specs.Placements.{table_need, is_table, is_strict}
+use Rattle.rmt_pack.specs.Formats.{divided_up, ternary_format, exact_formats, whole}
+use Rattle.rmt_pack.specs.Placements.{table_need, is_table, is_strict, what_format}
 use Rattle.rmt_bounds.specs.declared.bound.Bound.{Bound}
 use Rattle.rmt_bounds.specs.declared.bound.Proof.{Proof}
 use Rattle.rmt_bounds.specs.declared.bound.Proof.TheVariants.{Chain, Sram, Tcam, Slots}
@@ -102,18 +102,13 @@ longest_chain p edges =
 
 -- ---- what the stages hold together
 
--- the memory format of what a node does
-abbrev pub format_of_what : Program → What → Format
-format_of_what p (Apply t) = unwrap_or (option_map (λ (table : Table). memory_format table.kind (table_need p table)) (slice_get p.tables t)) no_memory
-format_of_what p (Gate field test) = no_memory
-
 -- the SRAM blocks that all nodes take at least
 abbrev pub sram_sum : Program → ℕ
-sram_sum p = sum_by (λ (x : Node). whole (format_of_what p x.what)) p.nodes
+sram_sum p = sum_by (λ (x : Node). whole (what_format p x.what)) p.nodes
 
 -- the TCAM blocks that all nodes take
 abbrev pub tcam_sum : Program → ℕ
-tcam_sum p = sum_by (λ (x : Node). let f = format_of_what p x.what in f.quanta * f.tcam) p.nodes
+tcam_sum p = sum_by (λ (x : Node). let f = what_format p x.what in f.quanta * f.tcam) p.nodes
 
 -- how many tables there are
 abbrev pub table_count : Program → ℕ

@@ -5,8 +5,8 @@ ghost use Rattle.rmt_ast.specs.declared.program.Kind.TheVariants as kind;
 ghost use Rattle.rmt_ast.specs.WellFormed.{IsProgram, IsTable};
 ghost use Rattle.rmt_pack.specs.declared.format.Format.{Format};
 ghost use Rattle.rmt_pack.specs.Formats.{IsNeed, is_in_stage, memory_format};
-ghost use Rattle.rmt_pack.specs.Placements.{table_need as need_of_table};
-ghost use Rattle.rmt_bounds.specs.Bounds.{fit_alone as alone, stages_for as stages_of, least_of, least_stages, stages_of_what, node_stages as stages_of_node, format_of_what};
+ghost use Rattle.rmt_pack.specs.Placements.{table_need as need_of_table, what_format};
+ghost use Rattle.rmt_bounds.specs.Bounds.{fit_alone as alone, stages_for as stages_of, least_of, least_stages, stages_of_what, node_stages as stages_of_node};
 ghost use Rattle.rmt_bounds.specs.Fits.{FitsAStage};
 
 use rmt_ast::program::{Kind, Node, Program, Table, What};
@@ -119,7 +119,7 @@ pub fn node_stages(program: &Program, node: u32) -> u32
 /// The memory format of a node; that of no memory for a gate.
 pub fn node_format(program: &Program, node: &Node) -> Format
     requires { IsProgram program.now }
-    ensures value { result ≡ format_of_what program.now node.now.what }
+    ensures value { result ≡ what_format program.now node.now.what }
     ensures small { result.quanta ≤ 512 }
     ensures sram { result.sram ≤ 106 }
     ensures tcam { result.tcam ≤ 16 }

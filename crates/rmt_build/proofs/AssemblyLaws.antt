@@ -89,10 +89,9 @@ module _ (p : Program) (places : List (List Lane)) where
   count_of (Gate g) own none = ap length none
   count_of (Slot s) own does =
       let found = some_and (table_at p s.node) (λ (t : Table). (s.actions ≡ length t.actions) × DoTable p places t own) does in
-      let t = found.0 in
       let table = found.2.1 in
       let all : length own ≡ length table.listed + 1 = ap length table.in_order ∙ length-append table.listed (table.last ∷ []) in
-      omega (arith, all, long t.actions table.listed table.actions, found.2.0)
+      omega (arith, all, long found.0.actions table.listed table.actions, found.2.0)
 
   units_found : (units : List Unit) (code : List Vliw) → DoUnits p places units code → (place : ℕ) (s : SlotUnit) (t : Table) → slice_get units place ≡ Some (Slot s) → table_at p s.node ≡ Some t
       → DoFrom p places t code (sum_by unit_instructions (take place units))

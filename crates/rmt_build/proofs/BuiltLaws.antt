@@ -15,11 +15,12 @@ use Rattle.rmt_config.specs.declared.config.Memory.TheVariants as memory
 use Rattle.rmt_config.specs.declared.config.Unit.TheVariants.{Gate, Slot}
 use Rattle.rmt_config.specs.LaneForm.{bits_of_lanes}
 use Rattle.rmt_config.specs.Instructions.{unit_instructions}
-use Rattle.rmt_config.specs.Resources.{memory_sram, memory_tcam, unit_sram, unit_tcam}
-use Rattle.rmt_config.specs.StageForm.{memory_sram_blocks, memory_tcam_blocks, sram_blocks, tcam_blocks}
+use Rattle.rmt_config.specs.Resources.{memory_sram, unit_sram}
+use Rattle.rmt_config.specs.StageForm.{memory_sram_blocks, sram_blocks, tcam_blocks}
 use Rattle.rmt_pack.specs.Placements.{key_bits, quanta_in}
 use Rattle.rmt_pack.proofs.BlockLaws.{apart-both, range-apart}
 use Rattle.rmt_bits.proofs.PairLaws.{AllPairs-right}
+use Rattle.rmt_phv.specs.Places.{KeepsApart}
 use Rattle.rmt_place.specs.Needs.{demands_of, keeps_limits}
 use Rattle.rmt_place.specs.Placing.{standing_in}
 use Rattle.rmt_ptcam.proofs.PlainLaws.{lanes_bits}
@@ -73,23 +74,13 @@ rows_sram : (u : Unit) (b : ℕ) → Contains (sram_blocks u) b → Contains (un
 rows_sram (Gate g) b there = there
 rows_sram (Slot s) b there = in_sram s.memory b there
 
-in_tcam : (m : Memory) (b : ℕ) → Contains (memory_tcam_blocks m) b → Contains (memory_tcam m) b
-in_tcam memory.Without b has = has
-in_tcam (memory.Exact k per d w ks rs cs) b has = has
-in_tcam (memory.Ternary d ks rs cs) b has = has
-
-rows_tcam : (u : Unit) (b : ℕ) → Contains (tcam_blocks u) b → Contains (unit_tcam u) b
-rows_tcam (Gate g) b there = there
-rows_tcam (Slot s) b there = in_tcam s.memory b there
-
 module _ (p : Program) (lists : List (List Entry)) (plan : Plan) (k : ℕ) (program : IsProgram p) (entries : AreEntries p lists) (is : IsPlan p lists plan) (few : k < 32)
     (units : List Unit) (zip : AllZip (UnitCarried p plan.places plan.placement.parts k) (nodes_in p plan.placement.parts k) units) (have : HaveParts p lists plan k units) where
   list_at : (n : ℕ) (t : Table) → table_at p n ≡ Some t → (es : List Entry) × (slice_get lists n ≡ Some es)
   list_at n t table =
       let node = then_some (λ (x : Node). applied p x.what) (slice_get p.nodes n) t table in
-      let lt = slice_get_within p.nodes n node.0 node.1 in
       let long = entries.for_each_node ∙ length-map p.nodes (λ (x : Node). terms_at p x.what) in
-      slice_get-item lists n (omega (arith, lt, long))
+      slice_get-item lists n (omega (arith, slice_get_within p.nodes n node.0 node.1, long))
 
   part_at : (i n : ℕ) (s : SlotUnit) (t : Table) → slice_get units i ≡ Some (Slot s) → s.node ≡ n → table_at p n ≡ Some t → (es : List Entry) × (slice_get lists s.node ≡ Some es) × HasPart p plan k s t es
   part_at i n s t at number table =
@@ -124,7 +115,7 @@ module _ (p : Program) (lists : List (List Entry)) (plan : Plan) (k : ℕ) (prog
       (subst (UnitsApart u.0) (sym v_is)
       (record {
         sram = λ b in_u in_v. parts_apart unit_sram units sram i j u.0 v.0 lt u.1 v.1 b (rows_sram u.0 b in_u) (rows_sram v.0 b in_v);
-        tcam = λ b in_u in_v. parts_apart unit_tcam units tcam i j u.0 v.0 lt u.1 v.1 b (rows_tcam u.0 b in_u) (rows_tcam v.0 b in_v);
+        tcam = λ b in_u in_v. parts_apart tcam_blocks units tcam i j u.0 v.0 lt u.1 v.1 b in_u in_v;
       }))
 
   -- the instructions of a stage are enough
@@ -161,27 +152,28 @@ module _ (p : Program) (lists : List (List Entry)) (plan : Plan) (k : ℕ) (prog
 
 -- ---- the stage
 
+-- the bits of a slot's key
+pub slot_keys : (p : Program) (plan : Plan) (k : ℕ) (stage : Stage) → KeepsApart p plan.places → AllZip (UnitCarried p plan.places plan.placement.parts k) (nodes_in p plan.placement.parts k) stage.units
+    → (place : ℕ) (slot : SlotUnit) (t : Table) → slot_of stage place ≡ Some slot → table_at p slot.node ≡ Some t → bits_of_lanes slot.keys ≡ key_bits p t
+slot_keys p plan k stage apart zip place slot t at table =
+    let u = then_some as_slot (slice_get stage.units place) slot at in
+    let unit_is : slice_get stage.units place ≡ Some (Slot slot) = u.1 ∙ ap Some (slot_is_unit u.0 slot u.2) in
+    let long = AllZip-long (UnitCarried p plan.places plan.placement.parts k) (nodes_in p plan.placement.parts k) stage.units zip in
+    let lt = slice_get_within stage.units place (Slot slot) unit_is in
+    let n = slice_get-item (nodes_in p plan.placement.parts k) place (omega (arith, lt, long)) in
+    let carried = AllZip-slice_get (UnitCarried p plan.places plan.placement.parts k) (nodes_in p plan.placement.parts k) stage.units place n.0 (Slot slot) zip n.1 unit_is in
+    elim (kinds p plan.places plan.placement.parts k n.0 (Slot slot) carried) [
+      | inl own ↦
+          let slot_same : own.slot ≡ slot = same_Some own.slot slot (sym (ap as_slot own.is)) in
+          let table_same : own.table ≡ t = same_Some own.table t (sym own.at ∙ ap (table_at p) (sym carried.number) ∙ table) in
+          ap (λ (x : SlotUnit). bits_of_lanes x.keys) (sym slot_same) ∙ ap bits_of_lanes own.carried.keys ∙ lanes_bits p plan.places own.table.key apart
+          ∙ ap (key_bits p) table_same
+      | inr gate ↦ absurd (none-some slot (sym (ap as_slot gate.is)))
+    ]
+
 module _ (p : Program) (lists : List (List Entry)) (plan : Plan) (k : ℕ) (program : IsProgram p) (entries : AreEntries p lists) (is : IsPlan p lists plan) (few : k < 32)
     (stage : Stage) (zip : AllZip (UnitCarried p plan.places plan.placement.parts k) (nodes_in p plan.placement.parts k) stage.units) (have : HaveParts p lists plan k stage.units)
     (h : Held) (written : UnitsWritten p lists plan k stage.units (length stage.units) h) (sram : ListsSram h.sram stage.srows) (tcam : ListsTcam h.values h.masks stage.trows) where
-  -- the bits of a slot's key
-  keys_of_slot : (place : ℕ) (slot : SlotUnit) (t : Table) → slot_of stage place ≡ Some slot → table_at p slot.node ≡ Some t → bits_of_lanes slot.keys ≡ key_bits p t
-  keys_of_slot place slot t at table =
-      let u = then_some as_slot (slice_get stage.units place) slot at in
-      let unit_is : slice_get stage.units place ≡ Some (Slot slot) = u.1 ∙ ap Some (slot_is_unit u.0 slot u.2) in
-      let long = AllZip-long (UnitCarried p plan.places plan.placement.parts k) (nodes_in p plan.placement.parts k) stage.units zip in
-      let lt = slice_get_within stage.units place (Slot slot) unit_is in
-      let n = slice_get-item (nodes_in p plan.placement.parts k) place (omega (arith, lt, long)) in
-      let carried = AllZip-slice_get (UnitCarried p plan.places plan.placement.parts k) (nodes_in p plan.placement.parts k) stage.units place n.0 (Slot slot) zip n.1 unit_is in
-      elim (kinds p plan.places plan.placement.parts k n.0 (Slot slot) carried) [
-        | inl own ↦
-            let slot_same : own.slot ≡ slot = same_Some own.slot slot (sym (ap as_slot own.is)) in
-            let table_same : own.table ≡ t = same_Some own.table t (sym own.at ∙ ap (table_at p) (sym carried.number) ∙ table) in
-            ap (λ (x : SlotUnit). bits_of_lanes x.keys) (sym slot_same) ∙ ap bits_of_lanes own.carried.keys ∙ lanes_bits p plan.places own.table.key is.places
-            ∙ ap (key_bits p) table_same
-        | inr gate ↦ absurd (none-some slot (sym (ap as_slot gate.is)))
-      ]
-
   pub stage_built : stage.start ≡ slice_index plan.starts k → DoUnits p plan.places stage.units stage.code → All SmallUnit stage.units → IsBuiltStage p lists plan k stage
   stage_built start code small = record {
     start = start;
@@ -190,7 +182,7 @@ module _ (p : Program) (lists : List (List Entry)) (plan : Plan) (k : ℕ) (prog
     small = small;
     slots = λ place slot t es at table own.
         (let part = have place slot t es at table own in
-        let b = slot-built p lists plan k stage h written sram tcam place slot t es at table own (keys_of_slot place slot t at table) part.held in
+        let b = slot-built p lists plan k stage h written sram tcam place slot t es at table own (slot_keys p plan k stage is.places zip place slot t at table) part.held in
         record { memory = part.memory; held = part.held; numbers = part.numbers; holds = b.holds; empty = b.empty; ends = b.ends });
     rows = rows-formed p lists plan k stage h written sram tcam;
     rows_fit = (

@@ -72,10 +72,9 @@ module _ (p : Program) (lists : List (List Entry)) (plan : Plan) (c : Config) (e
             let has = table_of_part p lists plan c entries units_carried stands built n q.at q.place q.stage q.own.slot part in
             let its = listed_stands p lists plan c entries units_carried stands built n q.at q.place q.stage q.own.slot part has.table has.entries has.own has.table_is has.entries_are has.own_is q.own.number q.own.there in
             let size = part_size p lists plan c entries units_carried stands built n q.at q.place q.stage q.own.slot part has.table has.entries has.own has.table_is has.entries_are has.own_is in
-            let within = its.3.within in
             let stage : q.at ≡ x.stage = (let none : q.at ≡ 0 + q.at = omega arith in none) ∙ ap (λ (y : CellOf). y.stage) q.own.told in
             let cell : q.own.number.cell ≡ x.cell = ap (λ (y : CellOf). y.cell) q.own.told in
-            let spot = spot_of_part c n q.at q.place q.own.number.cell q.stage q.own.slot part (omega (arith, within, size)) in (
+            let spot = spot_of_part c n q.at q.place q.own.number.cell q.stage q.own.slot part (omega (arith, its.3.within, size)) in (
               n,
               its.0,
               q.place,

@@ -63,10 +63,8 @@ sum_total f (suc k) =
 pub all_quanta : (parts : List Part) (n stages : ℕ) → All (λ (x : Part). x.stage < stages) parts → quanta_of parts n ≤ quanta_before parts n stages
 all_quanta parts n stages below =
     let within = All-weaker (λ (x : Part). x.stage < stages) (Within n 0 stages) (λ (x : Part) lt own some. (omega arith, omega (arith, lt))) parts below in
-    let most = quanta_of-le-total parts n 0 stages within in
     let same = total-same (λ s. quanta_in parts n (0 + s)) (quanta_in parts n) stages (λ s. (let e : 0 + s ≡ s = omega arith in ap (quanta_in parts n) e)) in
-    let sum = sum_total (quanta_in parts n) stages in
-    omega (arith, most, same, sum)
+    omega (arith, quanta_of-le-total parts n 0 stages within, same, sum_total (quanta_in parts n) stages)
 
 cells_le : (kind : Kind) (per a b : ℕ) → a ≤ b → cells_for kind per a ≤ cells_for kind per b
 cells_le Keyless per a b le = omega arith
@@ -166,12 +164,11 @@ module _ (p : Program) (lists : List (List Entry)) (plan : Plan) (c : Config) (c
         let all = cells_le t.kind per (quanta_of parts n) (quanta_before parts n (length c.stages))
         (all_quanta parts n (length c.stages) (All-weaker (λ (x : Part). (x.node < length p.nodes) × (x.stage < length c.stages) × (0 < x.quanta)) (λ (x : Part). x.stage < length c.stages) (λ x h. h.1) parts units.no_other)) in
         let r = some_part t.kind per parts n (length c.stages) s.0.cell (omega (arith, below, all)) in
-        let low = r.2 in
         let high = r.3 in (
           r.0,
           s.0.cell - first_cell t.kind per parts n r.0,
           r.1,
-          record { stand = s.0; there = s.1; entry_is = ap (slice_get es) s.2 ∙ i.1; cell_is = omega (arith, low); within = omega (arith, low, high) },
+          record { stand = s.0; there = s.1; entry_is = ap (slice_get es) s.2 ∙ i.1; cell_is = omega (arith, r.2); within = omega (arith, r.2, high) },
         )
 
     -- in one cell
@@ -181,14 +178,8 @@ module _ (p : Program) (lists : List (List Entry)) (plan : Plan) (c : Config) (c
         let per = (format_at p n).per in
         let entry = rising_place es one.stand.entry two.stand.entry e e (table_entries p lists n t es entries table_is es_are).rising one.entry_is two.entry_is refl in
         let same = ap (λ (x : Stand). x.cell) (one_stand (length es) own (stands.each n es own es_are own_is) one.stand two.stand one.there two.there entry) in
-        let cell_a = one.cell_is in
-        let cell_b = two.cell_is in
-        let lt_a = one.within in
-        let lt_b = two.within in
         elim (compare j k) [
-          | inl lt ↦ absurd (let behind = behind_parts t.kind per parts n j k lt in omega (arith, behind, same, cell_a, cell_b, lt_a, lt_b))
-          | inr more ↦ elim more [
-            | inl gt ↦ absurd (let behind = behind_parts t.kind per parts n k j gt in omega (arith, behind, same, cell_a, cell_b, lt_a, lt_b))
-            | inr e_jk ↦ (e_jk, (let first = ap (first_cell t.kind per parts n) e_jk in omega (arith, same, cell_a, cell_b, first)))
-          ]
+          | inl lt ↦ absurd (let behind = behind_parts t.kind per parts n j k lt in omega (arith, behind, same, one.cell_is, two.cell_is, one.within, two.within))
+          | inr (inl gt) ↦ absurd (let behind = behind_parts t.kind per parts n k j gt in omega (arith, behind, same, one.cell_is, two.cell_is, one.within, two.within))
+          | inr (inr e_jk) ↦ (e_jk, (let first = ap (first_cell t.kind per parts n) e_jk in omega (arith, same, one.cell_is, two.cell_is, first)))
         ]

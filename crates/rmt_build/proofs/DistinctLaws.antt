@@ -100,12 +100,10 @@ module _ (p : Program) (lists : List (List Entry)) (plan : Plan) (c : Config) (e
       (stages_apart n (first + 1) stages (λ at s is. (let e : first + 1 + at ≡ first + suc at = omega arith in ap (slice_get c.stages) e ∙ known (suc at) s is)))
       (across ◌≢◌ (flat_map (unit_told n first) stage.units) (stages_told n (first + 1) stages) (λ a b in_a in_b same.
       (let r = flat_from (unit_told n first) stage.units a in_a in
-      let one = unit_listed n first r.1 a r.3 in
       let two = stages_listed n (first + 1) stages b in_b in
-      let stage_a : first ≡ a.stage = ap (λ (x : CellOf). x.stage) one.told in
+      let stage_a : first ≡ a.stage = ap (λ (x : CellOf). x.stage) (unit_listed n first r.1 a r.3).told in
       let stage_b : first + 1 + two.at ≡ b.stage = ap (λ (x : CellOf). x.stage) two.own.told in
-      let equal = ap (λ (x : CellOf). x.stage) same in
-      omega (arith, stage_a, stage_b, equal))))
+      omega (arith, stage_a, stage_b, ap (λ (x : CellOf). x.stage) same))))
 
   -- the entry of a cell that is told is one of the node's
   entry_told : (n : ℕ) (x : CellOf) → Contains (stages_told n 0 c.stages) x → (es : List Entry) × (slice_get lists n ≡ Some es) × Contains (map (λ (e : Entry). e.number) es) x.entry

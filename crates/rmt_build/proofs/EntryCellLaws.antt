@@ -1,5 +1,5 @@
 -- The entries of parts.
-use Rattle.std.proofs.Common.{◌≡◌, ℕ, ◌<◌, ◌∙◌, false, cond, List, [], ◌∷◌, Some, length, map, filter, get_or, refl, ap, arith}
+use Rattle.std.proofs.Common.{◌≡◌, ℕ, ◌<◌, ◌∙◌, false, cond, List, [], ◌∷◌, Some, length, map, filter, get_or, refl, sym, ap, subst, arith}
 use Rattle.std.specs.Prelude.{All, ◌&&◌, nat_le, slice_get}
 use Rattle.std.specs.List.{range_with_len}
 use Rattle.std.proofs.Math.Bool.{and-false}
@@ -7,7 +7,7 @@ use Rattle.std.proofs.lemmas.Bool.{le-ltb}
 use Rattle.std.proofs.lemmas.List.{length-map}
 use Rattle.std.proofs.lemmas.List.Elements.{All-map}
 use Rattle.std.proofs.lemmas.List.Sorted.{All-permutation}
-use Rattle.std.proofs.lemmas.Option.{slice_get-get_or}
+use Rattle.std.proofs.lemmas.Option.{slice_get-get_or, slice_get_read}
 use Rattle.rmt_ast.specs.declared.entry.Entry.{Entry}
 use Rattle.rmt_ast.specs.EntryLists.{AreEntries, terms_at}
 use Rattle.rmt_bits.proofs.AllLaws.{All-range, All-unmap}
@@ -42,7 +42,19 @@ entries_of_part p lists plan t n k es entries is lt at =
     let cells = cells_for t.kind (format_at p n).per in
     let own = get_or plan.stands n [] in
     let terms = length-map p.nodes (λ (x : Node). terms_at p x.what) in
-    let all = entries.for_each_node in
     let long = is.stands.all_there in
-    let own_is : slice_get plan.stands n ≡ Some own = slice_get-get_or plan.stands n [] (omega (arith, long, all, terms, lt)) in
+    let own_is : slice_get plan.stands n ≡ Some own = slice_get-get_or plan.stands n [] (omega (arith, long, entries.for_each_node, terms, lt)) in
     part_entries (length es) (cells (quanta_before plan.placement.parts n k)) (cells (quanta_in plan.placement.parts n k)) own (is.stands.each n es own at own_is)
+
+-- the entries of a node, as they are read from the lists
+pub list_read : (p : Program) (lists xs : List (List Entry)) (n : ℕ) (es : List Entry) → AreEntries p lists → n < length p.nodes → xs ≡ lists → es ≡ get_or xs n es → slice_get lists n ≡ Some es
+list_read p lists xs n es entries lt same is =
+    let terms = length-map p.nodes (λ (x : Node). terms_at p x.what) in
+    slice_get_read lists (length lists) n es refl (omega (arith, entries.for_each_node, terms, lt)) (is ∙ ap (λ ys. get_or ys n es) same)
+
+-- so the entries of a part are of the list that is read
+pub entries_read : (p : Program) (lists : List (List Entry)) (plan : Plan) (t : Table) (n k : ℕ) (es own : List Entry) (stands : List Stand) → AreEntries p lists → IsPlan p lists plan → n < length p.nodes
+    → slice_get lists n ≡ Some es → own ≡ es → stands ≡ stands_of_part p plan t n k → All (λ (s : Stand). s.entry < length own) stands
+entries_read p lists plan t n k es own stands entries is lt at same are =
+    subst (λ (xs : List Stand). All (λ (s : Stand). s.entry < length own) xs) (sym are)
+    (subst (λ (xs : List Entry). All (λ (s : Stand). s.entry < length xs) (stands_of_part p plan t n k)) (sym same) (entries_of_part p lists plan t n k es entries is lt at))

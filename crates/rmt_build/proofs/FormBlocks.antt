@@ -3,33 +3,35 @@ use Rattle.std.proofs.Common.{◌≡◌, ℕ, zero, suc, ◌+◌, ◌*◌, ◌<�
 use Rattle.std.specs.Prelude.{All, count_by, filter, fold, max, option_map, slice_get, sum_by}
 use Rattle.std.specs.List.{AllZip, flat_map, range_with_len}
 use Rattle.std.proofs.Math.Nat.{max-le}
-use Rattle.std.proofs.lemmas.Bool.{cases_eq, eq-eqb, ltb-false, ne_eqb}
+use Rattle.std.proofs.lemmas.Bool.{ltb-false}
 use Rattle.std.proofs.lemmas.List.Elements.{All-head, All-tail}
 use Rattle.std.proofs.lemmas.List.FromFn.{length-range_with_len}
 use Rattle.std.proofs.lemmas.List.Sums.{sum_by-cons}
 use Rattle.std.proofs.lemmas.Option.{get_or_from_slice_get, slice_get-map}
+use Rattle.std.proofs.lemmas.Bool.Decides.{nat_tests}
 use Rattle.rmt_bits.specs.declared.lane.Lane.{Lane}
 use Rattle.rmt_build.specs.Types.{Program, Test, Table, Kind, Node, Stage, Unit, SlotUnit}
-use Rattle.rmt_ast.specs.declared.program.Kind.TheVariants as kind
-use Rattle.rmt_ast.specs.declared.program.What.TheVariants as what
 use Rattle.rmt_ast.specs.WellFormed.{IsProgram}
 use Rattle.rmt_config.specs.declared.config.Unit.TheVariants.{Slot}
-use Rattle.rmt_config.specs.Resources.{greatest_by, memory_sram, memory_tcam, most_listed, most_listed_in, times_in, unit_sram, unit_tcam}
+use Rattle.rmt_config.specs.Resources.{greatest_by, memory_sram, most_listed, most_listed_in, times_in, unit_sram}
+use Rattle.rmt_config.specs.StageForm.{memory_tcam_blocks, tcam_blocks}
 use Rattle.rmt_pack.specs.declared.placement.Part.{Part}
 use Rattle.rmt_pack.specs.declared.format.Format.{Format}
 use Rattle.rmt_pack.specs.Formats.{no_memory}
-use Rattle.rmt_pack.specs.Placements.{quanta_in}
+use Rattle.rmt_pack.specs.Placements.{quanta_in, what_format}
 use Rattle.rmt_filling.specs.declared.memory.PartNeed.{PartNeed}
 use Rattle.rmt_filling.specs.declared.memory.Taken.{Taken}
 use Rattle.rmt_filling.specs.Memories.{blocks_for, memory_for, sram_for, tcam_for}
 use Rattle.rmt_build.specs.Plans.{AreParts, need_in, taken_upto}
-use Rattle.rmt_filling.specs.Formats.{format_at, what_format}
+use Rattle.rmt_filling.specs.Formats.{format_at}
 use Rattle.rmt_build.specs.Promises.{HasBlocksInOrder}
 use Rattle.rmt_refine.specs.Units.{UnitCarried, nodes_in, table_at}
 use Rattle.rmt_build.proofs.FormStage.{kinds}
 use Rattle.rmt_build.proofs.PartLaws.{sum_more}
 use Rattle.rmt_build.proofs.PlanLaws.{part_sram, part_tcam}
 use Rattle.rmt_bits.proofs.ListLaws.{range-append}
+use Rattle.rmt_ast.specs.declared.program.Kind.TheVariants as kind
+use Rattle.rmt_ast.specs.declared.program.What.TheVariants as what
 
 -- ---- ranges
 
@@ -47,7 +49,7 @@ memory_sram_is kind.Exact n taken = let s = blocks_for kind.Exact n in three_ran
 memory_sram_is kind.Prefix n taken = let s = blocks_for kind.Prefix n in sym (range-append taken.sram s.records s.counters)
 memory_sram_is kind.Ternary n taken = let s = blocks_for kind.Ternary n in sym (range-append taken.sram s.records s.counters)
 
-memory_tcam_is : (kd : Kind) (n : PartNeed) (taken : Taken) → memory_tcam (memory_for kd n taken) ≡ range_with_len taken.tcam (tcam_for kd (blocks_for kd n))
+memory_tcam_is : (kd : Kind) (n : PartNeed) (taken : Taken) → memory_tcam_blocks (memory_for kd n taken) ≡ range_with_len taken.tcam (tcam_for kd (blocks_for kd n))
 memory_tcam_is kind.Keyless n taken = refl
 memory_tcam_is kind.Exact n taken = refl
 memory_tcam_is kind.Prefix n taken = refl
@@ -73,21 +75,18 @@ module _ (blocks : Unit → List ℕ) (f : ℕ → ℕ) (stands : ℕ → Bool) 
       → ((vs : List Unit) → AllZip ListsNext ns vs → Lists (m + 1) last vs) → Lists m last us
   step m last ns false us e zip rest =
       let r = rest us zip in
-      let more = sum_more f m in
-      let zero_more = none m e in
       let all = r.all in
-      let same : before (m + 1) ≡ before m = omega (arith, more, zero_more) in
+      let same : before (m + 1) ≡ before m = omega (arith, sum_more f m, none m e) in
       record { count = r.count; are = r.are ∙ ap (λ s. range_with_len s r.count) same; all = omega (arith, all, same) }
   step m last ns true [] e zip rest = absurd zip
   step m last ns true (u ∷ us) e zip rest =
       let r = rest us zip.1 in
       let more = sum_more f m in
-      let all = r.all in
       record {
         count = f m + r.count;
         are = ap (λ xs. xs ++ flat_map blocks us) zip.0 ∙ ap (λ xs. range_with_len (before m) (f m) ++ xs) (r.are ∙ ap (λ s. range_with_len s r.count) more)
             ∙ sym (range-append (before m) (f m) r.count);
-        all = omega (arith, all, more);
+        all = omega (arith, r.all, more);
       }
 
   lists_from : (count m last : ℕ) (us : List Unit) → m + count ≡ last → AllZip ListsNext (filter stands (range_with_len m count)) us → Lists m last us
@@ -105,8 +104,7 @@ module _ (blocks : Unit → List ℕ) (f : ℕ → ℕ) (stands : ℕ → Bool) 
   all_listed last us zip =
       let sum : 0 + last ≡ last = omega arith in
       let r = lists_from last 0 last us sum zip in
-      let all = r.all in
-      let count : r.count ≡ before last = omega (arith, all) in
+      let count : r.count ≡ before last = omega (arith, r.all) in
       r.are ∙ ap (range_with_len 0) count
 
 -- ---- none is listed twice
@@ -114,25 +112,14 @@ module _ (blocks : Unit → List ℕ) (f : ℕ → ℕ) (stands : ℕ → Bool) 
 not_before : (m a n : ℕ) → m < a → count_by (λ y. y == m) (range_with_len a n) ≡ 0
 not_before m a zero lt = refl
 not_before m a (suc n) lt =
-    let rest = not_before m (a + 1) n (omega (arith, lt)) in
     let first = sum_by-cons (λ y. cond (y == m) 1 0) a (range_with_len (a + 1) n) in
-    let other : ◌≡◌ {A = ℕ} (cond (a == m) 1 0) 0 = ap (λ b. cond b 1 0) (ne_eqb a m (λ e. omega (arith, e, lt))) in
-    first ∙ ap (λ x. x + count_by (λ y. y == m) (range_with_len (a + 1) n)) other ∙ ap (λ x. 0 + x) rest
+    grind (arith, nat_tests, first, not_before m (a + 1) n (omega (arith, lt)), lt)
 
 at_most_once : (m a n : ℕ) → count_by (λ y. y == m) (range_with_len a n) ≤ 1
 at_most_once m a zero = omega arith
 at_most_once m a (suc n) =
-    let first = sum_by-cons (λ y. cond (y == m) 1 0) a (range_with_len (a + 1) n) in
-    elim (cases_eq a m) [
-      | inl same ↦
-          let rest = not_before m (a + 1) n (omega (arith, same)) in
-          let own : ◌≡◌ {A = ℕ} (cond (a == m) 1 0) 1 = ap (λ b. cond b 1 0) (eq-eqb a m same) in
-          omega (arith, first, rest, own)
-      | inr other ↦
-          let rest = at_most_once m (a + 1) n in
-          let own : ◌≡◌ {A = ℕ} (cond (a == m) 1 0) 0 = ap (λ b. cond b 1 0) (ne_eqb a m other) in
-          omega (arith, first, rest, own)
-    ]
+    let rest = at_most_once m (a + 1) n in
+    grind (arith, nat_tests, sum_by-cons (λ y. cond (y == m) 1 0) a (range_with_len (a + 1) n), not_before m (a + 1) n, rest)
 
 greatest_from : {X : Type 0} (measure : X → ℕ) (most a : ℕ) (xs : List X) → a ≤ most → All (λ x. measure x ≤ most) xs → fold (λ m x. max m (measure x)) a xs ≤ most
 greatest_from measure most a [] le all = le
@@ -158,17 +145,10 @@ module _ (p : Program) (program : IsProgram p) (places : List (List Lane)) (part
   abbrev stands : ℕ → Bool
   stands n = nat_lt 0 (quanta_in parts n k)
 
-  no_sram : (m : ℕ) → stands m ≡ false → sram_of m ≡ 0
-  no_sram m e =
-      let le = ltb-false 0 (quanta_in parts m k) e in
-      let none : quanta_in parts m k ≡ 0 = omega (arith, le) in
-      ap (λ q. q * (format_at p m).sram) none ∙ (let zero_is : 0 * (format_at p m).sram ≡ 0 = omega arith in zero_is)
-
-  no_tcam : (m : ℕ) → stands m ≡ false → tcam_of m ≡ 0
-  no_tcam m e =
-      let le = ltb-false 0 (quanta_in parts m k) e in
-      let none : quanta_in parts m k ≡ 0 = omega (arith, le) in
-      ap (λ q. q * (format_at p m).tcam) none ∙ (let zero_is : 0 * (format_at p m).tcam ≡ 0 = omega arith in zero_is)
+  no_blocks : (blocks : Format → ℕ) (m : ℕ) → stands m ≡ false → quanta_in parts m k * blocks (format_at p m) ≡ 0
+  no_blocks blocks m e =
+      let none : quanta_in parts m k ≡ 0 = omega (arith, ltb-false 0 (quanta_in parts m k) e) in
+      ap (λ q. q * blocks (format_at p m)) none ∙ (let zero_is : 0 * blocks (format_at p m) ≡ 0 = omega arith in zero_is)
 
   -- the memory of a slot is that of its table's part, in the next blocks
   abbrev pub HasMemory : ℕ → Unit → Type 0
@@ -185,18 +165,18 @@ module _ (p : Program) (program : IsProgram p) (places : List (List Lane)) (part
   gate_blocks blocks none n node field test at is =
       (let e : 0 ≡ quanta_in parts n k * 0 = omega arith in e) ∙ sym (ap (λ b. quanta_in parts n k * b) (ap blocks (gate_format n node field test at is) ∙ none))
 
-  lists_sram : (n : ℕ) (u : Unit) → UnitCarried p places parts k n u → HasMemory n u → ListsNext unit_sram sram_of stands no_sram n u
+  lists_sram : (n : ℕ) (u : Unit) → UnitCarried p places parts k n u → HasMemory n u → ListsNext unit_sram sram_of stands (no_blocks (λ (f : Format). f.sram)) n u
   lists_sram n u carried has = elim (kinds p places parts k n u carried) [
     | inl s ↦ ap unit_sram s.is ∙ ap memory_sram (has s.slot s.table s.is s.at) ∙ memory_sram_is s.table.kind (need_in p parts s.table n k) (taken_upto p parts k n)
         ∙ ap (range_with_len (taken_upto p parts k n).sram) (part_sram p program n s.table s.at parts k)
     | inr g ↦ ap unit_sram g.is ∙ ap (range_with_len (taken_upto p parts k n).sram) (gate_blocks (λ (f : Format). f.sram) refl n g.node g.field g.test g.node_is g.what_is)
   ]
 
-  lists_tcam : (n : ℕ) (u : Unit) → UnitCarried p places parts k n u → HasMemory n u → ListsNext unit_tcam tcam_of stands no_tcam n u
+  lists_tcam : (n : ℕ) (u : Unit) → UnitCarried p places parts k n u → HasMemory n u → ListsNext tcam_blocks tcam_of stands (no_blocks (λ (f : Format). f.tcam)) n u
   lists_tcam n u carried has = elim (kinds p places parts k n u carried) [
-    | inl s ↦ ap unit_tcam s.is ∙ ap memory_tcam (has s.slot s.table s.is s.at) ∙ memory_tcam_is s.table.kind (need_in p parts s.table n k) (taken_upto p parts k n)
+    | inl s ↦ ap tcam_blocks s.is ∙ ap memory_tcam_blocks (has s.slot s.table s.is s.at) ∙ memory_tcam_is s.table.kind (need_in p parts s.table n k) (taken_upto p parts k n)
         ∙ ap (range_with_len (taken_upto p parts k n).tcam) (part_tcam p program n s.table s.at parts k)
-    | inr g ↦ ap unit_tcam g.is ∙ ap (range_with_len (taken_upto p parts k n).tcam) (gate_blocks (λ (f : Format). f.tcam) refl n g.node g.field g.test g.node_is g.what_is)
+    | inr g ↦ ap tcam_blocks g.is ∙ ap (range_with_len (taken_upto p parts k n).tcam) (gate_blocks (λ (f : Format). f.tcam) refl n g.node g.field g.test g.node_is g.what_is)
   ]
 
   zip_both : {P Q S : ℕ → Unit → Type 0} → ((n : ℕ) (u : Unit) → P n u → Q n u → S n u) → (ns : List ℕ) (us : List Unit) → AllZip P ns us → AllZip Q ns us → AllZip S ns us
@@ -208,12 +188,12 @@ module _ (p : Program) (program : IsProgram p) (places : List (List Lane)) (part
   -- so are those of the whole stage
   pub record AreBlocks (units : List Unit) : Type 0 where
     pub sram : flat_map unit_sram units ≡ range_with_len 0 (taken_upto p parts k (length p.nodes)).sram
-    pub tcam : flat_map unit_tcam units ≡ range_with_len 0 (taken_upto p parts k (length p.nodes)).tcam
+    pub tcam : flat_map tcam_blocks units ≡ range_with_len 0 (taken_upto p parts k (length p.nodes)).tcam
 
   pub are_blocks : (units : List Unit) → AllZip (UnitCarried p places parts k) (nodes_in p parts k) units → AllZip HasMemory (nodes_in p parts k) units → AreBlocks units
   are_blocks units zip memories = record {
-    sram = all_listed unit_sram sram_of stands no_sram (length p.nodes) units (zip_both lists_sram (nodes_in p parts k) units zip memories);
-    tcam = all_listed unit_tcam tcam_of stands no_tcam (length p.nodes) units (zip_both lists_tcam (nodes_in p parts k) units zip memories);
+    sram = all_listed unit_sram sram_of stands (no_blocks (λ (f : Format). f.sram)) (length p.nodes) units (zip_both lists_sram (nodes_in p parts k) units zip memories);
+    tcam = all_listed tcam_blocks tcam_of stands (no_blocks (λ (f : Format). f.tcam)) (length p.nodes) units (zip_both lists_tcam (nodes_in p parts k) units zip memories);
   }
 
   module _ (stage : Stage) (are : AreBlocks stage.units) where
@@ -225,17 +205,13 @@ module _ (p : Program) (program : IsProgram p) (places : List (List Lane)) (part
 
     pub few_sram : AreParts p parts → length (flat_map unit_sram stage.units) ≤ 106
     few_sram is =
-        let count = ap length are.sram ∙ length-range_with_len 0 (taken_upto p parts k (length p.nodes)).sram in
-        let most = is.sram k in
-        omega (arith, count, most)
+        omega (arith, ap length are.sram ∙ length-range_with_len 0 (taken_upto p parts k (length p.nodes)).sram, is.sram k)
 
-    pub few_tcam : AreParts p parts → length (flat_map unit_tcam stage.units) ≤ 16
+    pub few_tcam : AreParts p parts → length (flat_map tcam_blocks stage.units) ≤ 16
     few_tcam is =
-        let count = ap length are.tcam ∙ length-range_with_len 0 (taken_upto p parts k (length p.nodes)).tcam in
-        let most = is.tcam k in
-        omega (arith, count, most)
+        omega (arith, ap length are.tcam ∙ length-range_with_len 0 (taken_upto p parts k (length p.nodes)).tcam, is.tcam k)
 
     pub none_twice : most_listed_in stage.units ≤ 1
     none_twice = max-le
         (listed_once (flat_map unit_sram stage.units) (taken_upto p parts k (length p.nodes)).sram are.sram)
-        (listed_once (flat_map unit_tcam stage.units) (taken_upto p parts k (length p.nodes)).tcam are.tcam)
+        (listed_once (flat_map tcam_blocks stage.units) (taken_upto p parts k (length p.nodes)).tcam are.tcam)

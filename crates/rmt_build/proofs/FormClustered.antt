@@ -56,9 +56,8 @@ joined_small parser at e m may here there =
     All-map IsSmallRow (joined_row here there e) (rows_in m (rows_of parser)) (λ k d lt.
     (let f : ParserEntry = (get_or (rows_in m (rows_of parser)) k d).entry in
     let own = light k d lt in
-    let many = length-append e.extracts (map (moved e.advance) f.extracts) in
     let same = length-map f.extracts (moved e.advance) in
-    (own.0, omega (arith, own.1, many, same))))
+    (own.0, omega (arith, own.1, length-append e.extracts (map (moved e.advance) f.extracts), same))))
 
 join_small : StaysUnderJoins IsSmallParser
 join_small parser at e m there on can is =

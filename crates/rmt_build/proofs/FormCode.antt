@@ -56,8 +56,7 @@ module _ (p : Program) (places : List (List Lane)) where
   pub code_formed : (us : List Unit) (code : List Vliw) → All HasData us → DoUnits p places us code → code_is_formed (places_of us) code ≡ true
   code_formed [] code has none = ap (code_is_formed []) none
   code_formed (u ∷ us) code has (own, rest, both, here, later) =
-      let first = unit_code u own (All-head HasData u us has) here in
       let more = code_formed us rest (All-tail HasData u us has) later in
       ap (code_is_formed (places_of (u ∷ us))) both
       ∙ ap (λ ps. code_is_formed (ps ++ places_of us) (own ++ rest)) (sym (append-nil (unit_places u)))
-      ∙ both_formed (places_of (u ∷ [])) (places_of us) own rest first more
+      ∙ both_formed (places_of (u ∷ [])) (places_of us) own rest (unit_code u own (All-head HasData u us has) here) more

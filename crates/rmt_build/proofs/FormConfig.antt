@@ -1,8 +1,9 @@
 -- A configuration whose stages are those of a plan keeps the rules of form, and is within the limits of the chip.
-use Rattle.std.proofs.Common.{◌≡◌, ℕ, ◌+◌, ◌*◌, ◌<◌, ◌≤◌, Bool, true, false, ◌&&◌, ◌==◌, cond, List, [], ◌∷◌, Option, Some, None, length, map, get_or, refl, sym, ap, ◌∙◌, subst, inl, inr, arith}
+use Rattle.std.proofs.lemmas.Bool.Decides.{nat_tests}
+use Rattle.std.proofs.Common.{◌≡◌, ℕ, ◌+◌, ◌*◌, ◌<◌, ◌≤◌, true, ◌&&◌, ◌==◌, cond, List, [], ◌∷◌, Option, Some, None, length, map, get_or, refl, sym, ap, ◌∙◌, subst, inl, inr, arith}
 use Rattle.std.specs.Prelude.{◌||◌, All, is_some, nat_lt, option_map, slice_get, slice_index}
 use Rattle.std.specs.List.{AllZip, list_all}
-use Rattle.std.proofs.lemmas.Bool.{eqb-true, or_right}
+use Rattle.std.proofs.lemmas.Bool.{or_right}
 use Rattle.std.proofs.lemmas.List.Elements.{All-weaker, All-contains}
 use Rattle.std.proofs.lemmas.List.Sums.{list_all-from_AllPass, sum_by-cons}
 use Rattle.std.proofs.lemmas.Slice.Zip.{AllZip-long}
@@ -24,7 +25,7 @@ use Rattle.rmt_config.specs.TailForm.{has_names_with_tails, tails_have_headers}
 use Rattle.rmt_config.specs.StageForm.{rows_are_formed, starts_are_formed}
 use Rattle.rmt_pack.specs.declared.placement.Part.{Part}
 use Rattle.rmt_pack.specs.Formats.{memory_format, no_memory}
-use Rattle.rmt_pack.specs.Placements.{quanta_in, quanta_of, table_need}
+use Rattle.rmt_pack.specs.Placements.{quanta_in, quanta_of, table_need, what_format}
 use Rattle.rmt_place.specs.Needs.{demands_of, keeps_limits}
 use Rattle.rmt_place.specs.Placing.{standing_in}
 use Rattle.rmt_ptcam.specs.Needs.{refusal}
@@ -38,7 +39,7 @@ use Rattle.rmt_refine.proofs.RankLaws.{compare}
 use Rattle.rmt_filling.specs.declared.plan.Plan.{Plan}
 use Rattle.rmt_build.specs.BuiltStage.{IsBuiltStage}
 use Rattle.rmt_build.specs.Plans.{IsPlan}
-use Rattle.rmt_filling.specs.Formats.{format_at, what_format}
+use Rattle.rmt_filling.specs.Formats.{format_at}
 use Rattle.rmt_ptcam.proofs.FormedParsers.{clustered_formed, clustered_headers}
 use Rattle.rmt_build.proofs.FormClustered.{clustered_parts}
 use Rattle.rmt_build.proofs.FormFits.{data_held, limits_kept, memories, zip_at}
@@ -55,22 +56,12 @@ use Rattle.rmt_build.proofs.UnitLaws.{node_applies}
 
 -- ---- one quantum stands in one stage
 
-two_step : (b d e : Bool) (q : ℕ) → ((d ≡ true) → (e ≡ true) → ⊥) → cond (b && d) q 0 + cond (b && e) q 0 ≤ cond b q 0
-two_step false d e q not_both = omega arith
-two_step true false false q not_both = omega arith
-two_step true false true q not_both = omega arith
-two_step true true false q not_both = omega arith
-two_step true true true q not_both = absurd (not_both refl refl)
-
 in_two : (n j k : ℕ) → j < k → (xs : List Part) → quanta_in xs n j + quanta_in xs n k ≤ quanta_of xs n
 in_two n j k lt [] = omega arith
 in_two n j k lt (x ∷ xs) =
     let one = sum_by-cons (λ (y : Part). cond ((y.node == n) && (y.stage == j)) y.quanta 0) x xs in
     let two = sum_by-cons (λ (y : Part). cond ((y.node == n) && (y.stage == k)) y.quanta 0) x xs in
-    let all = sum_by-cons (λ (y : Part). cond (y.node == n) y.quanta 0) x xs in
-    let here = two_step (x.node == n) (x.stage == j) (x.stage == k) x.quanta (λ d e. (let at_j = eqb-true x.stage j d in let at_k = eqb-true x.stage k e in omega (arith, at_j, at_k, lt))) in
-    let rest = in_two n j k lt xs in
-    omega (arith, one, two, all, here, rest)
+    grind (arith, nat_tests, one, two, sum_by-cons (λ (y : Part). cond (y.node == n) y.quanta 0) x xs, in_two n j k lt xs, lt)
 
 one_stage : (n j k : ℕ) (xs : List Part) → quanta_of xs n ≤ 1 → 0 < quanta_in xs n j → 0 < quanta_in xs n k → j ≡ k
 one_stage n j k xs one in_j in_k = elim (compare j k) [
@@ -158,13 +149,12 @@ module _ (p : Program) (lists : List (List Entry)) (plan : Plan) (c : Config) (p
     pub formed_by_plan : (names : Names) → refusal p ≡ None → c.names ≡ Some names → names_fit c names ≡ true → tails_have_headers c ≡ true → c.seed < 256
         → parser_is_formed c.parser ≡ true → entries_are_numbered c ≡ true → Formed c
     formed_by_plan names fits named fit tails seed parser numbers =
-        let ports = ports_formed p plan.places is_plan.places program c carried seed in
         let headers = headers_formed p plan.places is_plan.places program c carried fits in
         let starts : starts_are_formed (map (λ (s : Stage). s.start) c.stages) ≡ true =
         ap starts_are_formed starts_are ∙ starts_formed plan.starts edges.distances.first edges.distances.rise in
         let stages = stages_formed p program lists entries plan is_plan.parts is_plan.places is_plan.stands keyless_alone c.stages built few long early starts in
         record {
-          items = rw (ports, headers, parser, tails, stages) refl;
+          items = rw (ports_formed p plan.places is_plan.places program c carried seed, headers, parser, tails, stages) refl;
           whole = record {
             rows = list_all-from_AllPass rows_are_formed c.stages (λ k d lt. (built k (get_or c.stages k d) (slice_get-get_or c.stages k d lt)).rows);
             tables = tables_formed p program plan.places parts c are_placed stages_built;

@@ -1,10 +1,11 @@
 -- Each unit of a built stage is formed, and with its code and rows the stage is.
-use Rattle.std.proofs.Common.{◌≡◌, ℕ, ◌+◌, ◌*◌, ◌^◌, ◌<◌, ◌≤◌, true, nat_lt, List, [], ◌∷◌, Some, length, map, get_or, refl, sym, ap, ◌∙◌, subst, arith}
+use Rattle.rmt_bits.proofs.AllLaws.{All-unmap}
+use Rattle.std.proofs.Common.{◌≡◌, ℕ, ◌+◌, ◌*◌, ◌^◌, ◌<◌, ◌≤◌, true, List, [], ◌∷◌, Some, length, map, get_or, refl, sym, ap, ◌∙◌, subst, arith}
 use Rattle.std.specs.Prelude.{All, filter, fold, max, slice_get, slice_index_or}
 use Rattle.std.specs.List.{list_all, range_with_len}
 use Rattle.std.proofs.lemmas.Bool.{eq-eqb, le-leb, lt-ltb}
 use Rattle.std.proofs.lemmas.List.{length-map}
-use Rattle.std.proofs.lemmas.List.Elements.{All-cons, All-head, All-map, All-nil, All-tail}
+use Rattle.std.proofs.lemmas.List.Elements.{All-map}
 use Rattle.std.proofs.lemmas.List.FromFn.{length-range_with_len}
 use Rattle.std.proofs.lemmas.List.Sorted.{length_permutation}
 use Rattle.std.proofs.lemmas.List.Sums.{count_by-le-length, length-filter, list_all-from_AllPass}
@@ -37,17 +38,13 @@ use Rattle.rmt_build.proofs.FormLanes.{lanes_formed}
 use Rattle.rmt_build.proofs.FormMemory.{cells_within}
 use Rattle.rmt_build.proofs.FormSlots.{AreSmall, HasKeyed, are_small, exact_formed, few_quanta_cells, ternary_formed}
 use Rattle.rmt_build.proofs.FormUnits.{few_lanes, guard_formed, small_mask, some_lanes}
-use Rattle.rmt_build.proofs.PlanLaws.{has_need, is_format, is_table, sram_fits, tcam_fits}
+use Rattle.rmt_build.proofs.PlanLaws.{has_need, is_format, is_table, sram_fits, tcam_fits, parts-le}
 use Rattle.rmt_config.specs.BlockCounts.{divided_up}
 use Rattle.rmt_build.proofs.MemoryLaws.{few_quanta}
 
 none_below : (xs : List Stand) → All (λ (s : Stand). s.cell < 0) xs → length xs ≡ 0
 none_below [] all = refl
 none_below (x ∷ xs) all = absurd (let lt = all 0 x (omega arith) in omega (arith, lt))
-
-unmapped : {X Y : Type 0} (f : X → Y) (P : Y → Type 0) (xs : List X) → All P (map f xs) → All (λ x. P (f x)) xs
-unmapped f P [] all = All-nil (λ x. P (f x))
-unmapped f P (x ∷ xs) all = All-cons (λ y. P (f y)) x xs (All-head P (f x) (map f xs) all) (unmapped f P xs (All-tail P (f x) (map f xs) all))
 
 module _ (p : Program) (program : IsProgram p) (lists : List (List Entry)) (entries : AreEntries p lists) (plan : Plan) (are : AreParts p plan.placement.parts) (keeps : KeepsApart p plan.places)
     (stands : AreStands p lists plan.placement.parts plan.stands) where
@@ -59,17 +56,15 @@ module _ (p : Program) (program : IsProgram p) (lists : List (List Entry)) (entr
   part_count n k t es list =
       let own = slice_index_or plan.stands n [] in
       let within = slice_get_within lists n es list in
-      let long = stands.all_there in
-      let once = stands.each n es own list (slice_get-get_or plan.stands n [] (omega (arith, within, long))) in
+      let once = stands.each n es own list (slice_get-get_or plan.stands n [] (omega (arith, within, stands.all_there))) in
       let first = cells_for t.kind (format_at p n).per (quanta_before parts n k) in
       let count = cells_for t.kind (format_at p n).per (quanta_in parts n k) in
-      let one = length-map (filter (stands_there first count) own) (counted_from first) in
       let two = length-filter (stands_there first count) own in
       let three = count_by-le-length (stands_there first count) own in
       let four = length_permutation (range_with_len 0 (length es)) (map (λ (s : Stand). s.entry) own) once.each in
       let five = length-map own (λ (s : Stand). s.entry) in
       let six = length-range_with_len 0 (length es) in
-      omega (arith, one, two, three, four, five, six)
+      omega (arith, length-map (filter (stands_there first count) own) (counted_from first), two, three, four, five, six)
 
   module _ (k n : ℕ) (few : k < 32) (stands_here : 0 < quanta_in parts n k) (node : Node) (at : slice_get p.nodes n ≡ Some node) (s : SlotUnit) (t : Table) (table : table_at p n ≡ Some t)
       (unit : UnitCarried p plan.places parts k n (Slot s)) (carried : TableCarried plan.places parts n k t s) (es : List Entry) (list : slice_get lists n ≡ Some es)
@@ -90,32 +85,23 @@ module _ (p : Program) (program : IsProgram p) (lists : List (List Entry)) (entr
 
     count : length s.numbers ≤ 1048576
     count =
-        let one = ap length numbers ∙ length-map (stands_of_part p plan t n k) (number_at es) in
         let two = part_count n k t es list in
-        let three = entry_list.within_size in
-        let four = sizes.size in
-        omega (arith, one, two, three, four)
+        omega (arith, ap length numbers ∙ length-map (stands_of_part p plan t n k) (number_at es), two, entry_list.within_size, sizes.size)
 
     before : parts_before parts n k ≤ 31
-    before =
-        let one = count_by-le-length (λ j. nat_lt 0 (quanta_in parts n j)) (range_with_len 0 k) in
-        let two = length-range_with_len 0 k in
-        omega (arith, one, two, few)
+    before = omega (arith, parts-le parts n k, few)
 
     keyed : 1 ≤ key_bits p t → 1 ≤ length t.actions → HasKeyed p t s (need_in p parts t n k)
     keyed key actions =
-        let own = carried.actions in
-        let same = bits in
         let most = sizes.key in
-        let early = before in
         record {
-          some_keys = some_lanes s.keys (omega (arith, same, key));
+          some_keys = some_lanes s.keys (omega (arith, bits, key));
           bits = bits;
           some_bits = key;
           few_bits = sizes.key;
-          some_actions = omega (arith, own, actions);
+          some_actions = omega (arith, carried.actions, actions);
           some_quanta = omega (arith, stands_here);
-          before = omega (arith, early);
+          before = omega (arith, before);
           held = held;
           counted = carried.counted;
         }
@@ -153,33 +139,23 @@ module _ (p : Program) (program : IsProgram p) (lists : List (List Entry)) (entr
     ternary_small : (kd : Kind) → (taken_upto p parts k n).tcam + quanta_in parts n k * divided_up (key_bits p t) 40 ≤ 16 → 1 ≤ key_bits p t → 2048 * quanta_in parts n k ≤ 2 ^ 32
     ternary_small kd room key =
         let row : 1 ≤ divided_up (key_bits p t) 40 = omega (arith, key) in
-        let few = few_quanta (quanta_in parts n k) (divided_up (key_bits p t) 40) 16 row (omega (arith, room)) in
-        omega (arith, few)
+        omega (arith, few_quanta (quanta_in parts n k) (divided_up (key_bits p t) 40) 16 row (omega (arith, room)))
 
     cells_small : (kd : Kind) → t.kind ≡ kd → HasNeed kd (table_need p t) → IsFormat kd (table_need p t) (format_at p n) → cells_for kd (format_at p n).per (quanta_in parts n k) ≤ 2 ^ 32
     cells_small kind.Keyless is need f = omega arith
     cells_small kind.Exact is need f =
         let room = subst (λ x. (taken_upto p parts k n).sram + sram_for x (blocks_for x (need_in p parts t n k)) ≤ 106) is (sram_fits p program n t table parts k are) in
-        let wide = f.has_width in
-        few_quanta_cells (table_need p t) (format_at p n) (quanta_in parts n k) f (few_quanta (quanta_in parts n k) (4 * (format_at p n).width) 106 (omega (arith, wide)) (omega (arith, room)))
+        few_quanta_cells (table_need p t) (format_at p n) (quanta_in parts n k) f (few_quanta (quanta_in parts n k) (4 * (format_at p n).width) 106 (omega (arith, f.has_width)) (omega (arith, room)))
     cells_small kind.Prefix is need f = ternary_small kind.Prefix (subst (λ x. (taken_upto p parts k n).tcam + tcam_for x (blocks_for x (need_in p parts t n k)) ≤ 16) is (tcam_fits p program n t table parts k are)) need.has_key
     cells_small kind.Ternary is need f = ternary_small kind.Ternary (subst (λ x. (taken_upto p parts k n).tcam + tcam_for x (blocks_for x (need_in p parts t n k)) ≤ 16) is (tcam_fits p program n t table parts k are)) need.has_key
 
     numbers_small : All (λ j. (number_at es j).number < 2 ^ 32) (stands_of_part p plan t n k)
-    numbers_small = unmapped (number_at es) (λ (x : CellNumber). x.number < 2 ^ 32) (stands_of_part p plan t n k) (subst (All (λ (x : CellNumber). x.number < 2 ^ 32)) numbers small)
+    numbers_small = All-unmap (λ (x : CellNumber). x.number < 2 ^ 32) (number_at es) (stands_of_part p plan t n k) (subst (All (λ (x : CellNumber). x.number < 2 ^ 32)) numbers small)
 
     pub slot_formed : slot_is_formed s ≡ true
     slot_formed =
         let within = slice_get_within p.nodes n node at in
         let nodes = program.counts.nodes in
-        let number = unit.number in
-        let actions = carried.actions in
-        let few_actions = formed_table.few_actions in
-        let data_few = sizes.held in
-        let lanes = key_lanes in
-        let same = bits in
-        let key_few = sizes.key in
-        let most = count in
         let its_guard = and_at (slice_get p.nodes n) (λ (x : Node). s.guard ≡ guard_of x.guard) node at unit.guard in
         let guard : guard_is_formed s.guard ≡ true =
         ap guard_is_formed its_guard
@@ -198,13 +174,13 @@ module _ (p : Program) (program : IsProgram p) (lists : List (List Entry)) (entr
         ap (list_all number_is_formed) numbers ∙ list_all-from_AllPass number_is_formed (map (number_at es) (stands_of_part p plan t n k)) each in
         let head : slot_head_is_formed s ≡ true =
         rw (
-          lt-ltb s.node 256 (omega (arith, number, within, nodes)),
+          lt-ltb s.node 256 (omega (arith, unit.number, within, nodes)),
           guard,
-          le-leb s.actions 14 (omega (arith, actions, few_actions)),
-          lt-ltb s.held 65536 (omega (arith, held, data_few)),
-          lt-ltb (length s.keys) 65536 (omega (arith, lanes, same, key_few)),
+          le-leb s.actions 14 (omega (arith, carried.actions, formed_table.few_actions)),
+          lt-ltb s.held 65536 (omega (arith, held, sizes.held)),
+          lt-ltb (length s.keys) 65536 (omega (arith, key_lanes, bits, sizes.key)),
           keys,
-          lt-ltb (length s.numbers) (2 ^ 32) (omega (arith, most)),
+          lt-ltb (length s.numbers) (2 ^ 32) (omega (arith, count)),
           listed,
         ) refl in
         let own : memory_is_formed s s.memory ≡ true =

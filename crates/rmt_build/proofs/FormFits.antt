@@ -69,16 +69,14 @@ module _ (p : Program) (lists : List (List Entry)) (plan : Plan) (program : IsPr
   -- the entries of each node
   pub list_there : (n : ℕ) → n < length p.nodes → (es : List Entry) × (slice_get lists n ≡ Some es)
   list_there n lt =
-      let long = entries.for_each_node ∙ length-map p.nodes (λ (x : Node). terms_at p x.what) in
-      slice_get-item lists n (omega (arith, lt, long))
+      slice_get-item lists n (omega (arith, lt, entries.for_each_node ∙ length-map p.nodes (λ (x : Node). terms_at p x.what)))
 
   module _ (k : ℕ) (stage : Stage) (built : IsBuiltStage p lists plan k stage) where
     -- what is built of the slot at a place
     pub slot_built : (i n : ℕ) (s : SlotUnit) (t : Table) → slice_get stage.units i ≡ Some (Slot s) → s.node ≡ n → table_at p n ≡ Some t
         → (es : List Entry) × IsBuiltSlot p plan k i stage s t es × (slice_get lists n ≡ Some es)
     slot_built i n s t at number table =
-        let within = table_within n t table in
-        let es = list_there n within in
+        let es = list_there n (table_within n t table) in
         (es.0, built.slots i s t es.0 (ap (option_and_then as_slot) at) (ap (table_at p) number ∙ table) (ap (slice_get lists) number ∙ es.1), es.1)
       where
         table_within : (m : ℕ) (x : Table) → table_at p m ≡ Some x → m < length p.nodes
@@ -169,25 +167,19 @@ module _ (p : Program) (lists : List (List Entry)) (plan : Plan) (program : IsPr
         (let n = get_or own k d in
         let there = distinct_from (node_numbers stages) n (k, lt, get_or_default own k n d lt) in
         Contains-range (length p.nodes) n (All-contains (λ m. m < length p.nodes) (node_numbers stages) n all_nodes there))) in
-        let one = ones own in
-        let two = ones nodes in
-        let count = length-range_with_len 0 (length p.nodes) in
-        omega (arith, within, one, two, count)
+        omega (arith, within, ones own, ones nodes, length-range_with_len 0 (length p.nodes))
 
     -- each fits, where the placement keeps the limits of every stage, and stages start at most 12 cycles behind each other
     pub stages_fit : length stages ≤ 32 → length stages ≡ length plan.starts → ((k : ℕ) → k < 32 → keeps_limits (standing_in (demands_of p plan.places) parts k) ≡ true)
         → ((k : ℕ) → k < length plan.starts → slice_index plan.starts k ≤ 12 * k) → All FitsStage stages
     stages_fit few long keeps early k d lt =
         let own = built_at k d lt in
-        let start = own.start in
         let most = early k (omega (arith, lt, long)) in
-        stage_fits k (get_or stages k d) own (keeps k (omega (arith, lt, few))) (omega (arith, start, most, lt, few))
+        stage_fits k (get_or stages k d) own (keeps k (omega (arith, lt, few))) (omega (arith, own.start, most, lt, few))
 
   -- so a configuration with these stages is within the limits
   pub limits_kept : (c : Config) → AllNumbered (IsBuiltStage p lists plan) c.stages → length c.stages ≤ 32 → length c.stages ≡ length plan.starts → FewParts c.parser
       → ((k : ℕ) → k < 32 → keeps_limits (standing_in (demands_of p plan.places) parts k) ≡ true)
       → ((k : ℕ) → k < length plan.starts → slice_index plan.starts k ≤ 12 * k) → IsWithinLimits c
   limits_kept c built few long parser keeps early =
-      let nodes = few_nodes c.stages built in
-      let most = program.counts.nodes in
-      within_limits c few parser (stages_fit c.stages built few long keeps early) (omega (arith, nodes, most))
+      within_limits c few parser (stages_fit c.stages built few long keeps early) (omega (arith, few_nodes c.stages built, program.counts.nodes))

@@ -38,9 +38,8 @@ pub starts_formed : (starts : List ℕ) → (1 ≤ length starts → slice_index
     → starts_are_formed starts ≡ true
 starts_formed [] first rise = refl
 starts_formed (x ∷ xs) first rise =
-    let start = first (omega arith) in
     rw (
-      eq-eqb x 0 start,
+      eq-eqb x 0 (first (omega arith)),
       rise_on 1 xs (λ j lt. (let less = rise 0 (suc j) (omega arith) (omega (arith, lt)) in omega (arith, less))) (λ i j less lt. rise (suc i) (suc j) (omega (arith, less)) (omega (arith, lt))),
     ) refl
 
@@ -51,8 +50,7 @@ module _ (p : Program) (lists : List (List Entry)) (plan : Plan) (program : IsPr
   own_rise : (n : ℕ) (es : List Entry) → slice_get lists n ≡ Some es → AllPairs (λ (a b : Stand). a.cell < b.cell) (slice_index_or plan.stands n [])
   own_rise n es list =
       let within = slice_get_within lists n es list in
-      let long = stands.all_there in
-      (stands.each n es (slice_index_or plan.stands n []) list (slice_get-get_or plan.stands n [] (omega (arith, within, long)))).rise
+      (stands.each n es (slice_index_or plan.stands n []) list (slice_get-get_or plan.stands n [] (omega (arith, within, stands.all_there)))).rise
 
   module _ (k : ℕ) (stage : Stage) (built : IsBuiltStage p lists plan k stage) where
     unit_at : (i : ℕ) (u : Unit) → slice_get stage.units i ≡ Some u → (n : ℕ) × UnitCarried p plan.places plan.placement.parts k n u

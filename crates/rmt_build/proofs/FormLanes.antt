@@ -5,8 +5,8 @@ use Rattle.std.specs.List.{AllZip, list_all}
 use Rattle.std.proofs.lemmas.Bool.{eq-eqb, le-leb, lt-ltb}
 use Rattle.std.proofs.lemmas.List.Elements.{All-head, All-tail}
 use Rattle.std.proofs.lemmas.List.Sums.{list_all-from_AllPass}
-use Rattle.std.proofs.lemmas.Option.{slice_get-get_or}
 use Rattle.rmt_bits.specs.declared.lane.Lane.{Lane}
+use Rattle.rmt_bits.proofs.AllLaws.{All-from_items}
 use Rattle.rmt_build.specs.Types.{Program, Header, Config, OutHeader}
 use Rattle.rmt_ast.specs.State.{width_of}
 use Rattle.rmt_ast.specs.WellFormed.{IsHeader, IsProgram}
@@ -19,10 +19,6 @@ use Rattle.rmt_refine.specs.Places.{HeaderCarried, PlacesCarried, StandsIn}
 use Rattle.rmt_phv.proofs.LaneLaws.{lanes_lie, lanes_width}
 use Rattle.rmt_ptcam.proofs.PlainForm.{few_extracts, fields_count}
 use Rattle.rmt_ptcam.proofs.AgreementLaws.{few_lookups}
-
--- what holds of each item of a list
-pub each_item : {X : Type 0} (P : X → Type 0) (xs : List X) → ((n : ℕ) (x : X) → slice_get xs n ≡ Some x → P x) → All P xs
-each_item P xs h k d lt = h k (get_or xs k d) (slice_get-get_or xs k d lt)
 
 -- ---- a header that isn't refused
 
@@ -53,14 +49,12 @@ module _ (p : Program) (places : List (List Lane)) (keeps : KeepsApart p places)
   -- a header is sent by as many lanes as its fields have pieces
   pub header_sent : (n : ℕ) (h : Header) (o : OutHeader) → IsHeader p n h → IsNarrow p h → HeaderCarried places h o → header_is_formed o ≡ true
   header_sent n h o is few carried =
-      let count = ap length carried.pieces ∙ fields_count p places h.fields keeps in
-      let most = few.1 in
       let bits : bits_of_lanes o.pieces ≡ 8 * o.bytes = ap bits_of_lanes carried.pieces ∙ lanes_bits p places h.fields keeps ∙ is.whole_bytes ∙ ap (λ b. 8 * b) (sym carried.bytes) in
       rw (
         one_lane h.valid 1 o.valid carried.valid is.valid,
         le-leb 1 o.bytes (subst (λ b. 1 ≤ b) (sym carried.bytes) is.is_not_empty),
         le-leb o.bytes 64 (subst (λ b. b ≤ 64) (sym carried.bytes) is.is_not_long),
-        lt-ltb (length o.pieces) 256 (omega (arith, count, most)),
+        lt-ltb (length o.pieces) 256 (omega (arith, ap length carried.pieces ∙ fields_count p places h.fields keeps, few.1)),
         ap (list_all lane_is_formed) carried.pieces ∙ lanes_formed h.fields,
         eq-eqb (bits_of_lanes o.pieces) (8 * o.bytes) bits,
       ) refl
@@ -83,9 +77,8 @@ module _ (p : Program) (places : List (List Lane)) (keeps : KeepsApart p places)
     pub headers_formed : refusal p ≡ None → headers_are_formed c.headers ≡ true
     headers_formed fits =
         let count = long p.headers c.headers carried.headers in
-        let few = program.counts.headers in
-        let all = each_item (λ h. (n : ℕ) × IsHeader p n h × IsNarrow p h) p.headers (λ n h at. (n, program.headers n h at, is_narrow p n h fits at)) in
-        rw (le-leb (length c.headers) 64 (omega (arith, count, few)), headers_sent p.headers c.headers all carried.headers) refl
+        let all = All-from_items (λ h. (n : ℕ) × IsHeader p n h × IsNarrow p h) p.headers (λ n h at. (n, program.headers n h at, is_narrow p n h fits at)) in
+        rw (le-leb (length c.headers) 64 (omega (arith, count, program.counts.headers)), headers_sent p.headers c.headers all carried.headers) refl
 
     pub ports_formed : c.seed < 256 → ports_are_formed c ≡ true
     ports_formed seed =

@@ -8,8 +8,9 @@ use Rattle.rmt_build.specs.Types.{Config, ParserConfig, ParserState, ParserEntry
 use Rattle.rmt_config.specs.declared.limits.LimitHit.{LimitHit}
 use Rattle.rmt_config.specs.Limits.{IsWithinLimits, code_hit, crowded_stage, data_hit, entries_hit, entry_hit, exact_words_hit, first_hit, first_passed, gates_hit, last_start_hit, listed_hit, lookups_hit, nodes_hit, over, parser_limit_hit, reading_limit_hit, slots_hit, sram_hit, stage_hit, stage_limit_hit, stages_hit, states_hit, tcam_hit, ternary_words_hit, unit_limit_hit, width_hit}
 use Rattle.rmt_config.specs.Instructions.{unit_instructions}
-use Rattle.rmt_config.specs.Resources.{crossbar_bits, exact_words, greatest_by, is_gate, is_slot, most_listed_in, node_count, ternary_words, unit_data, unit_sram, unit_tcam, unit_width}
+use Rattle.rmt_config.specs.Resources.{crossbar_bits, exact_words, greatest_by, is_gate, is_slot, most_listed_in, node_count, ternary_words, unit_data, unit_sram, unit_width}
 use Rattle.rmt_config.proofs.LimitLaws.{no_hit, none_of}
+use Rattle.rmt_config.specs.StageForm.{tcam_blocks}
 
 -- ---- one limit
 
@@ -38,7 +39,7 @@ pub record FewParts (parser : ParserConfig) : Type 0 where
 
 pub record FitsStage (s : Stage) : Type 0 where
   pub sram : length (flat_map unit_sram s.units) ≤ 106
-  pub tcam : length (flat_map unit_tcam s.units) ≤ 16
+  pub tcam : length (flat_map tcam_blocks s.units) ≤ 16
   pub exact : crossbar_bits exact_words s.units ≤ 640
   pub ternary : crossbar_bits ternary_words s.units ≤ 640
   pub slots : count_by is_slot s.units ≤ 16
@@ -82,7 +83,7 @@ reading_within stages all =
     let exact = stage_hit exact_words_hit 0 stages in
     let ternary = stage_hit ternary_words_hit 0 stages in
     after (stage_hit sram_hit 0 stages) (tcam ∷ exact ∷ ternary ∷ []) (each_stage 106 6 (λ s. length (flat_map unit_sram s.units)) stages (λ k d lt. (all k d lt).sram))
-    (after tcam (exact ∷ ternary ∷ []) (each_stage 16 7 (λ s. length (flat_map unit_tcam s.units)) stages (λ k d lt. (all k d lt).tcam))
+    (after tcam (exact ∷ ternary ∷ []) (each_stage 16 7 (λ s. length (flat_map tcam_blocks s.units)) stages (λ k d lt. (all k d lt).tcam))
     (after exact (ternary ∷ []) (each_stage 640 8 (λ s. crossbar_bits exact_words s.units) stages (λ k d lt. (all k d lt).exact))
     (after ternary [] (each_stage 640 9 (λ s. crossbar_bits ternary_words s.units) stages (λ k d lt. (all k d lt).ternary)) refl)))
 

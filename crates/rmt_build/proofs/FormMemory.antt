@@ -61,10 +61,8 @@ step_true : (first count least : ℕ) (b : Bool) (x : Stand) (xs : List Stand) �
     → (b ≡ false → rises_from least (map (λ (s : Stand). s.cell) (stands_within first count xs)) ≡ true)
     → rises_from least (map (λ (s : Stand). s.cell) (map (counted_from first) (cond b (x ∷ filter (stands_there first count) xs) (filter (stands_there first count) xs)))) ≡ true
 step_true first count least true x xs e le kept away =
-    let there = and_parts (nat_le first x.cell) (nat_lt x.cell (first + count)) e in
-    let low = leb-true first x.cell there.0 in
-    let most = le low in
-    rw (le-leb least (x.cell - first) (omega (arith, low, most)), kept low) refl
+    let low = leb-true first x.cell (and_parts (nat_le first x.cell) (nat_lt x.cell (first + count)) e).0 in
+    rw (le-leb least (x.cell - first) (omega (arith, low, le low)), kept low) refl
 step_true first count least false x xs e le kept away = away refl
 
 rise_within : (first count least : ℕ) (xs : List Stand) → AllPairs (λ (a b : Stand). a.cell < b.cell) xs → All (λ (s : Stand). first ≤ s.cell → first + least ≤ s.cell) xs
@@ -107,12 +105,11 @@ module _ (p : Program) (plan : Plan) (k i : ℕ) (stage : Stage) (slot : SlotUni
       let params = some_and (slice_get (map (params_of p) t.actions) h.entry.action) _ is.action in
       let within = slice_get_within (map (params_of p) t.actions) h.entry.action params.0 params.1 in
       let long = length-map t.actions (params_of p) in
-      let code = h.holds.code in
       rw (
         h.holds.seen,
         eq-eqb (visible_bits (content_of stage slot s.cell).head) 3 h.visible,
-        le-leb (first_code stage i) (code_of (content_of stage slot s.cell).head) (omega (arith, code)),
-        lt-ltb (code_of (content_of stage slot s.cell).head) (first_code stage i + slot.actions) (omega (arith, code, within, long, actions)),
+        le-leb (first_code stage i) (code_of (content_of stage slot s.cell).head) (omega (arith, h.holds.code)),
+        lt-ltb (code_of (content_of stage slot s.cell).head) (first_code stage i + slot.actions) (omega (arith, h.holds.code, within, long, actions)),
       ) refl
 
   numbers_formed : numbers_are_formed 3 (first_code stage i) stage slot ≡ true
@@ -120,7 +117,6 @@ module _ (p : Program) (plan : Plan) (k i : ℕ) (stage : Stage) (slot : SlotUni
       let first : ℕ = cells_for t.kind (format_at p slot.node).per (quanta_before plan.placement.parts slot.node k) in
       let count : ℕ = cells_for t.kind (format_at p slot.node).per (quanta_in plan.placement.parts slot.node k) in
       let whole = slice_index_or plan.stands slot.node [] in
-      let all_rise = rise_within first count 0 whole rise (λ j d lt low. omega (arith, low)) in
       let fits = All-map (λ c. c < cells_in slot.memory) (λ (s : Stand). s.cell) stands (λ j d lt. subst (λ m. (get_or stands j d).cell < m) (sym room) (cells_within first count whole j d lt)) in
       let contents = All-map (λ c. content_is_formed 3 (first_code stage i) slot (content_of stage slot c) ≡ true) (λ (s : Stand). s.cell) stands (λ j d lt. its_content (get_or stands j d) (built.holds j d lt)) in
       let own = map (λ (s : Stand). s.cell) stands in
@@ -128,7 +124,7 @@ module _ (p : Program) (plan : Plan) (k i : ℕ) (stage : Stage) (slot : SlotUni
       let formed : list_all (λ c. content_is_formed 3 (first_code stage i) slot (content_of stage slot c)) own ≡ true =
       list_all-from_AllPass (λ c. content_is_formed 3 (first_code stage i) slot (content_of stage slot c)) own contents in
       ap (λ cs. rises_from 0 cs && list_all (λ c. nat_lt c (cells_in slot.memory)) cs && list_all (λ c. content_is_formed 3 (first_code stage i) slot (content_of stage slot c)) cs) cells
-      ∙ (rw (all_rise, within, formed) refl)
+      ∙ (rw (rise_within first count 0 whole rise (λ j d lt low. omega (arith, low)), within, formed) refl)
 
   pub slot_holds : SlotHolds 3 stage (first_code stage i) slot
   slot_holds = record {

@@ -49,9 +49,7 @@ blocks_below most a n le =
 -- cells of an exact row fit its blocks
 cells_fit : (n : Need) (k per : ℕ) → per ≤ most_cells n k → per * (n.key + 8) ≤ 112 * k
 cells_fit n k per le =
-    let one = mul-le per (n.key + 8) (112 * k / (n.key + 8)) (n.key + 8) le (omega arith) in
-    let two = mul-div-le (112 * k) (n.key + 8) in
-    omega (arith, one, two)
+    omega (arith, mul-le per (n.key + 8) (112 * k / (n.key + 8)) (n.key + 8) le (omega arith), mul-div-le (112 * k) (n.key + 8))
 
 few_cells : (n : Need) (k per : ℕ) → k ≤ 8 → per * (n.key + 8) ≤ 112 * k → per ≤ 112
 few_cells n k per few le =
@@ -87,30 +85,23 @@ module _ (p : Program) (t : Table) (s : SlotUnit) (n : PartNeed) (taken : Taken)
       let d = n.quanta in
       let shape = blocks_for kind.Exact n in
       let fits = cells_fit need k per f.cells in
-      let few_per = few_cells need k per f.width fits in
       let own : per * (bits_of_lanes s.keys + 8) ≤ 112 * k = subst (λ b. per * (b + 8) ≤ 112 * k) (same ∙ sym has.bits) fits in
-      let wide = f.has_width in
-      let few_d = few_quanta d (4 * k) 106 (omega (arith, wide)) (omega (arith, room)) in
       let shapes : exact_block_counts k per d s.held s.counted ≡ shape = ap (λ h. exact_block_counts k per d h s.counted) has.held ∙ ap (exact_block_counts k per d n.held) has.counted in
-      let few_k = f.width in
-      let before = has.before in
-      let bits = has.bits in
-      let few_bits = has.few_bits in
       let ks = range_with_len taken.sram shape.keys in
       let rs = range_with_len (taken.sram + shape.keys) shape.records in
       let cs = range_with_len (taken.sram + shape.keys + shape.records) shape.counters in
       let format : format_is_formed s k per d (4 * n.before) ≡ true =
       rw (
         le-leb 1 (length s.keys) has.some_keys,
-        le-leb (bits_of_lanes s.keys) 640 (omega (arith, bits, few_bits)),
+        le-leb (bits_of_lanes s.keys) 640 (omega (arith, has.bits, has.few_bits)),
         le-leb 1 s.actions has.some_actions,
         le-leb 1 d has.some_quanta,
-        le-leb d 106 few_d,
+        le-leb d 106 (few_quanta d (4 * k) 106 (omega (arith, f.has_width)) (omega (arith, room))),
         le-leb 1 k f.has_width,
-        lt-ltb k 256 (omega (arith, few_k)),
+        lt-ltb k 256 (omega (arith, f.width)),
         le-leb 1 per f.has_cells,
-        lt-ltb per 65536 (omega (arith, few_per)),
-        lt-ltb (4 * n.before) 256 (omega (arith, before)),
+        lt-ltb per 65536 (omega (arith, few_cells need k per f.width fits)),
+        lt-ltb (4 * n.before) 256 (omega (arith, has.before)),
         le-leb (per * (bits_of_lanes s.keys + 8)) (112 * k) own,
       ) refl in
       let shaped : has_block_counts (exact_block_counts k per d s.held s.counted) ks rs cs ≡ true =
@@ -126,11 +117,7 @@ module _ (p : Program) (t : Table) (s : SlotUnit) (n : PartNeed) (taken : Taken)
   ternary_formed key has sram tcam =
       let d = n.quanta in
       let shape = blocks_for kind.Ternary n in
-      let some = has.some_bits in
-      let bits = has.bits in
-      let few_bits = has.few_bits in
-      let row : 1 ≤ divided_up n.key 40 = omega (arith, some) in
-      let few_d = few_quanta d (divided_up n.key 40) 16 row (omega (arith, tcam)) in
+      let row : 1 ≤ divided_up n.key 40 = omega (arith, has.some_bits) in
       let shapes : ternary_block_counts (bits_of_lanes s.keys) d s.held s.counted ≡ shape =
       ap (λ b. ternary_block_counts b d s.held s.counted) (sym key) ∙ ap (λ h. ternary_block_counts n.key d h s.counted) has.held ∙ ap (ternary_block_counts n.key d n.held) has.counted in
       let ks = range_with_len taken.tcam shape.keys in
@@ -139,10 +126,10 @@ module _ (p : Program) (t : Table) (s : SlotUnit) (n : PartNeed) (taken : Taken)
       let head : may_have_memory s d ≡ true =
       rw (
         le-leb 1 (length s.keys) has.some_keys,
-        le-leb (bits_of_lanes s.keys) 640 (omega (arith, bits, few_bits)),
+        le-leb (bits_of_lanes s.keys) 640 (omega (arith, has.bits, has.few_bits)),
         le-leb 1 s.actions has.some_actions,
         le-leb 1 d has.some_quanta,
-        le-leb d 106 (omega (arith, few_d)),
+        le-leb d 106 (omega (arith, few_quanta d (divided_up n.key 40) 16 row (omega (arith, tcam)))),
       ) refl in
       let shaped : has_block_counts (ternary_block_counts (bits_of_lanes s.keys) d s.held s.counted) ks rs cs ≡ true =
       ap (λ x. has_block_counts x ks rs cs) shapes
@@ -154,7 +141,5 @@ module _ (p : Program) (t : Table) (s : SlotUnit) (n : PartNeed) (taken : Taken)
 -- the cells of a part are told by 32 bits
 pub few_quanta_cells : (n : Need) (f : Format) (q : ℕ) → IsExactFormat n f → q ≤ 106 → 4096 * q * f.per ≤ 2 ^ 32
 few_quanta_cells n f q is few =
-    let fits = cells_fit n f.width f.per is.cells in
-    let per = few_cells n f.width f.per is.width fits in
-    let all = mul-le (4096 * q) f.per (4096 * 106) 112 (omega (arith, few)) per in
-    omega (arith, all)
+    let per = few_cells n f.width f.per is.width (cells_fit n f.width f.per is.cells) in
+    omega (arith, mul-le (4096 * q) f.per (4096 * 106) 112 (omega (arith, few)) per)

@@ -10,6 +10,7 @@ use Rattle.std.proofs.lemmas.List.Sums.{AllPass-from_list_all, sum_by-cons}
 use Rattle.std.proofs.lemmas.Option.{get_or_from_slice_get, slice_get-map, slice_get_within}
 use Rattle.rmt_bits.specs.Words.{word_size}
 use Rattle.rmt_bits.specs.declared.lane.Lane.{Lane}
+use Rattle.rmt_deps.specs.Edges.{words_of_fields}
 use Rattle.rmt_build.specs.Types.{Program, Test, Table, Kind, Node, What, Unit, GateUnit, GateTest, SlotUnit, Memory}
 use Rattle.rmt_ast.specs.declared.program.Kind.TheVariants as kind
 use Rattle.rmt_ast.specs.declared.program.What.TheVariants as what
@@ -22,7 +23,7 @@ use Rattle.rmt_pack.specs.declared.placement.Part.{Part}
 use Rattle.rmt_pack.specs.Placements.{data_bits, quanta_in}
 use Rattle.rmt_pack.proofs.BlockLaws.{range-apart}
 use Rattle.rmt_place.specs.declared.demand.Demand.{Demand}
-use Rattle.rmt_place.specs.Needs.{Standing, Sum, demand_at, demands_of, gate_demand, if_exact, if_ternary, keeps_limits, nothing, sums_of, table_demand, what_demands, words_of_fields}
+use Rattle.rmt_place.specs.Needs.{Standing, Sum, demand_at, demands_of, gate_demand, if_exact, if_ternary, keeps_limits, nothing, sums_of, table_demand, what_demands}
 use Rattle.rmt_place.specs.Placing.{standing_in}
 use Rattle.rmt_bits.proofs.AllLaws.{All-reverse}
 use Rattle.rmt_phv.specs.Places.{high_first}
@@ -96,10 +97,9 @@ module _ (p : Program) (places : List (List Lane)) (parts : List Part) (k : ℕ)
   -- what the nodes of a stage need together is no more than what stands there
   node_sum : (g : Demand → ℕ) → sum_by (λ n. g (demand n)) (nodes_in p parts k) ≤ sum_by (λ (y : Standing). g y.demand) standing
   node_sum g =
-      let within = sum_within (λ n. g (demand n)) (nodes_in p parts k) part_nodes nodes_apart nodes_there in
       let one = sum_map (λ n. g (demand n)) (λ (x : Part). g (demand x.node)) in_stage (λ x. refl) in
       let two = sum_standing g in_stage in
-      omega (arith, within, one, two)
+      omega (arith, sum_within (λ n. g (demand n)) (nodes_in p parts k) part_nodes nodes_apart nodes_there, one, two)
 
   -- the words that a node of the stage needs are among those of what stands there
   node_words : (g : Demand → List ℕ) (n : ℕ) → Contains (nodes_in p parts k) n → Within (g (demand n)) (flat_map (λ (y : Standing). g y.demand) standing)
@@ -161,22 +161,12 @@ module _ (p : Program) (places : List (List Lane)) (parts : List Part) (k : ℕ)
       let node = some_and (slice_get p.nodes n) (λ (x : Node). DoesAs p places parts k n x.what u) carried.does in
       by_what n u node.0 node.0.what node.1 refl node.2
 
-  its_instructions : (n : ℕ) (u : Unit) → UnitCarried p places parts k n u → unit_instructions u ≡ (demand n).instructions
-  its_instructions n u carried = elim (kinds n u carried) [
-    | inl s ↦ ap unit_instructions s.is ∙ ap (λ m. m + 1) s.carried.actions ∙ sym (ap (λ (d : Demand). d.instructions) s.needs)
-    | inr g ↦ ap unit_instructions g.is ∙ sym (ap (λ (d : Demand). d.instructions) g.needs)
-  ]
-
-  its_slots : (n : ℕ) (u : Unit) → UnitCarried p places parts k n u → cond (is_slot u) 1 0 ≡ (demand n).slots
-  its_slots n u carried = elim (kinds n u carried) [
-    | inl s ↦ ap (λ x. cond (is_slot x) 1 0) s.is ∙ sym (ap (λ (d : Demand). d.slots) s.needs)
-    | inr g ↦ ap (λ x. cond (is_slot x) 1 0) g.is ∙ sym (ap (λ (d : Demand). d.slots) g.needs)
-  ]
-
-  its_gates : (n : ℕ) (u : Unit) → UnitCarried p places parts k n u → cond (is_gate u) 1 0 ≡ (demand n).gates
-  its_gates n u carried = elim (kinds n u carried) [
-    | inl s ↦ ap (λ x. cond (is_gate x) 1 0) s.is ∙ sym (ap (λ (d : Demand). d.gates) s.needs)
-    | inr g ↦ ap (λ x. cond (is_gate x) 1 0) g.is ∙ sym (ap (λ (d : Demand). d.gates) g.needs)
+  -- what a slot takes by its table, and a gate by its field, a unit takes by its node
+  its_number : (f : Unit → ℕ) (g : Demand → ℕ) → ((s : SlotUnit) (x : Table) → s.actions ≡ length x.actions → f (Slot s) ≡ g (table_demand p places x))
+      → ((x : GateUnit) (field : ℕ) → f (Gate x) ≡ g (gate_demand places field)) → (n : ℕ) (u : Unit) → UnitCarried p places parts k n u → f u ≡ g (demand n)
+  its_number f g slot gate n u carried = elim (kinds n u carried) [
+    | inl s ↦ ap f s.is ∙ slot s.slot s.table s.carried.actions ∙ sym (ap g s.needs)
+    | inr x ↦ ap f x.is ∙ gate x.gate x.field ∙ sym (ap g x.needs)
   ]
 
   -- a slot's data are those of the table of its node
@@ -283,6 +273,13 @@ module _ (p : Program) (places : List (List Lane)) (parts : List Part) (k : ℕ)
       → (units : List Unit) → AllZip (UnitCarried p places parts k) (nodes_in p parts k) units → Within (flat_map words units) (flat_map (λ (y : Standing). own y.demand) standing)
   words_within words own its units zip = zip_words words (λ n. own (demand n)) (flat_map (λ (y : Standing). own y.demand) standing) its (nodes_in p parts k) units (each_node own) zip
 
+  -- what units take together is no more than what stands there needs
+  sum_needs : (f : Unit → ℕ) (g : Demand → ℕ) → ((s : SlotUnit) (x : Table) → s.actions ≡ length x.actions → f (Slot s) ≡ g (table_demand p places x))
+      → ((x : GateUnit) (field : ℕ) → f (Gate x) ≡ g (gate_demand places field)) → (units : List Unit) → AllZip (UnitCarried p places parts k) (nodes_in p parts k) units
+      → sum_by f units ≤ sum_by (λ (y : Standing). g y.demand) standing
+  sum_needs f g slot gate units zip =
+      omega (arith, zip_sum (UnitCarried p places parts k) (λ n. g (demand n)) f (its_number f g slot gate) (nodes_in p parts k) units zip, node_sum g)
+
   -- what the units of a stage take, where the placement keeps the limits
   pub record KeepLimits (units : List Unit) : Type 0 where
     pub exact : crossbar_bits exact_words units ≤ 640
@@ -297,30 +294,14 @@ module _ (p : Program) (places : List (List Lane)) (parts : List Part) (k : ℕ)
   keep_limits units keeps zip holds = record {
     exact =
         let within = distinct_within word_size (flat_map exact_words units) (flat_map (λ (y : Standing). y.demand.exact_words) standing) (words_within exact_words (λ (d : Demand). d.exact_words) its_exact_words units zip) in
-        let most = kept standing 2 _ keeps refl in
-        omega (arith, within, most);
+        omega (arith, within, kept standing 2 _ keeps refl);
     ternary =
         let within = distinct_within word_size (flat_map ternary_words units) (flat_map (λ (y : Standing). y.demand.ternary_words) standing) (words_within ternary_words (λ (d : Demand). d.ternary_words) its_ternary_words units zip) in
-        let most = kept standing 3 _ keeps refl in
-        omega (arith, within, most);
-    slots =
-        let same = zip_sum (UnitCarried p places parts k) (λ n. (demand n).slots) (λ u. cond (is_slot u) 1 0) its_slots (nodes_in p parts k) units zip in
-        let within = node_sum (λ (d : Demand). d.slots) in
-        let most = kept standing 4 _ keeps refl in
-        omega (arith, same, within, most);
-    code =
-        let same = zip_sum (UnitCarried p places parts k) (λ n. (demand n).instructions) unit_instructions its_instructions (nodes_in p parts k) units zip in
-        let within = node_sum (λ (d : Demand). d.instructions) in
-        let most = kept standing 5 _ keeps refl in
-        omega (arith, same, within, most);
+        omega (arith, within, kept standing 3 _ keeps refl);
+    slots = omega (arith, sum_needs (λ (u : Unit). cond (is_slot u) 1 0) (λ (d : Demand). d.slots) (λ s x e. refl) (λ x field. refl) units zip, kept standing 4 _ keeps refl);
+    code = omega (arith, sum_needs unit_instructions (λ (d : Demand). d.instructions) (λ s x e. ap (λ m. m + 1) e) (λ x field. refl) units zip, kept standing 5 _ keeps refl);
     held =
         let same = zip_sum (λ n u. UnitCarried p places parts k n u × HoldsData n u) (λ n. (demand n).held) unit_data its_data (nodes_in p parts k) units holds in
-        let within = node_sum (λ (d : Demand). d.held) in
-        let most = kept standing 6 _ keeps refl in
-        omega (arith, same, within, most);
-    gates =
-        let same = zip_sum (UnitCarried p places parts k) (λ n. (demand n).gates) (λ u. cond (is_gate u) 1 0) its_gates (nodes_in p parts k) units zip in
-        let within = node_sum (λ (d : Demand). d.gates) in
-        let most = kept standing 7 _ keeps refl in
-        omega (arith, same, within, most);
+        omega (arith, same, node_sum (λ (d : Demand). d.held), kept standing 6 _ keeps refl);
+    gates = omega (arith, sum_needs (λ (u : Unit). cond (is_gate u) 1 0) (λ (d : Demand). d.gates) (λ s x e. refl) (λ x field. refl) units zip, kept standing 7 _ keeps refl);
   }

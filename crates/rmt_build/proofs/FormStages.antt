@@ -1,7 +1,8 @@
 -- Built stages keep the rules of form of stages.
-use Rattle.std.proofs.Common.{◌≡◌, ℕ, suc, ◌*◌, ◌^◌, ◌<◌, ◌≤◌, true, nat_lt, List, [], ◌∷◌, Some, length, map, get_or, refl, sym, ap, ◌∙◌, subst, inl, inr, arith}
+use Rattle.std.proofs.lemmas.Slice.Zip.{AllZip-long}
+use Rattle.std.proofs.Common.{◌≡◌, ℕ, ◌*◌, ◌^◌, ◌<◌, ◌≤◌, true, nat_lt, List, Some, length, map, get_or, refl, sym, ap, ◌∙◌, subst, inl, inr, arith}
 use Rattle.std.specs.Prelude.{All, option_map, slice_get, slice_index, unwrap_or}
-use Rattle.std.specs.List.{AllZip, list_all, range_with_len}
+use Rattle.std.specs.List.{list_all, range_with_len}
 use Rattle.std.proofs.lemmas.Bool.{lt-ltb}
 use Rattle.std.proofs.lemmas.List.FromFn.{length-range_with_len}
 use Rattle.std.proofs.lemmas.List.Sums.{count_by-le-length, length-filter, list_all-from_AllPass}
@@ -80,18 +81,10 @@ module _ (p : Program) (program : IsProgram p) (lists : List (List Entry)) (entr
 
     few_units : length stage.units ≤ 128
     few_units =
-        let one = zip_long (UnitCarried p plan.places parts k) (nodes_in p parts k) stage.units built.units in
+        let one = AllZip-long (UnitCarried p plan.places parts k) (nodes_in p parts k) stage.units built.units in
         let two = length-filter (λ n. nat_lt 0 (quanta_in parts n k)) (range_with_len 0 (length p.nodes)) in
         let three = count_by-le-length (λ n. nat_lt 0 (quanta_in parts n k)) (range_with_len 0 (length p.nodes)) in
-        let four = length-range_with_len 0 (length p.nodes) in
-        let most = program.counts.nodes in
-        omega (arith, one, two, three, four, most)
-      where
-        zip_long : {X Y : Type 0} (P : X → Y → Type 0) (xs : List X) (ys : List Y) → AllZip P xs ys → length ys ≡ length xs
-        zip_long P [] [] zip = refl
-        zip_long P [] (y ∷ ys) zip = absurd zip
-        zip_long P (x ∷ xs) [] zip = absurd zip
-        zip_long P (x ∷ xs) (y ∷ ys) zip = ap suc (zip_long P xs ys zip.1)
+        omega (arith, one, two, three, length-range_with_len 0 (length p.nodes), program.counts.nodes)
 
     data_of_units : All (HasData p plan.places) stage.units
     data_of_units =
@@ -104,29 +97,25 @@ module _ (p : Program) (program : IsProgram p) (lists : List (List Entry)) (entr
     rows_formed : list_all srow_fits stage.srows ≡ true
     rows_formed = list_all-from_AllPass srow_fits stage.srows (λ j d lt.
         (let r = built.rows_fit.0 j d lt in
-        let row = r.1 in
-        rw (lt-ltb (get_or stage.srows j d).block 106 r.0, lt-ltb (get_or stage.srows j d).row 65536 (omega (arith, row)), lt-ltb (get_or stage.srows j d).bits (2 ^ 112) r.2) refl))
+        rw (lt-ltb (get_or stage.srows j d).block 106 r.0, lt-ltb (get_or stage.srows j d).row 65536 (omega (arith, r.1)), lt-ltb (get_or stage.srows j d).bits (2 ^ 112) r.2) refl))
 
     trows_formed : list_all trow_fits stage.trows ≡ true
     trows_formed = list_all-from_AllPass trow_fits stage.trows (λ j d lt.
         (let r = built.trows_fit.0 j d lt in
-        let row = r.1 in
         rw (
           lt-ltb (get_or stage.trows j d).block 16 r.0,
-          lt-ltb (get_or stage.trows j d).row 65536 (omega (arith, row)),
+          lt-ltb (get_or stage.trows j d).row 65536 (omega (arith, r.1)),
           lt-ltb (get_or stage.trows j d).value (2 ^ 40) r.2,
           lt-ltb (get_or stage.trows j d).mask (2 ^ 40) r.3,
         ) refl))
 
     pub stage_formed : stage.start ≤ 372 → stage_is_formed stage ≡ true
     stage_formed early =
-        let units = few_units in
-        let code = code_formed p plan.places stage.units stage.code data_of_units built.code in
         rw (
           lt-ltb stage.start 65536 (omega (arith, early)),
-          lt-ltb (length stage.units) 256 (omega (arith, units)),
+          lt-ltb (length stage.units) 256 (omega (arith, few_units)),
           units_formed,
-          code,
+          (code_formed p plan.places stage.units stage.code data_of_units built.code),
           lt-ltb (length stage.srows) (2 ^ 32) built.rows_fit.1,
           rows_formed,
           lt-ltb (length stage.trows) (2 ^ 32) built.trows_fit.1,
@@ -139,7 +128,6 @@ module _ (p : Program) (program : IsProgram p) (lists : List (List Entry)) (entr
   stages_formed stages built few long early starts =
       let all = list_all-from_AllPass stage_is_formed stages (λ k d lt.
       (let own = built k (get_or stages k d) (slice_get-get_or stages k d lt) in
-      let start = own.start in
       let most = early k (omega (arith, lt, long)) in
-      stage_formed k (omega (arith, lt, few)) (get_or stages k d) own (omega (arith, start, most, lt, few)))) in
+      stage_formed k (omega (arith, lt, few)) (get_or stages k d) own (omega (arith, own.start, most, lt, few)))) in
       rw (lt-ltb (length stages) 256 (omega (arith, few)), all, starts) refl

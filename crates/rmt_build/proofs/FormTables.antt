@@ -2,7 +2,8 @@
 use Rattle.std.proofs.Common.{Bool, List, None, Option, Some, [], ap, arith, cond, false, get_or, inl, inr, length, map, nat_lt, not, refl, subst, suc, sym, true, zero, ℕ, ◌&&◌, ◌*◌, ◌++◌, ◌+◌, ◌-◌, ◌<◌, ◌==◌, ◌||◌, ◌∙◌, ◌∷◌, ◌≡◌, ◌≢◌, ◌≤◌, ◌⊎◌}
 use Rattle.std.specs.Prelude.{All, Contains, count_by, filter, find, option_and_then, slice_get}
 use Rattle.std.specs.List.{AllZip, range_with_len}
-use Rattle.std.proofs.lemmas.Bool.{both_ways, cases_eq, cases_lt, eq-eqb, eqb-true, le-ltb, lt-ltb, ltb-true, ne_eqb, or_left, or_right}
+use Rattle.std.proofs.lemmas.Bool.Decides.{nat_tests}
+use Rattle.std.proofs.lemmas.Bool.{both_ways, cases_eq, cases_lt, eq-eqb, eqb-true, lt-ltb, ltb-true, ne_eqb, or_left, or_right}
 use Rattle.std.proofs.lemmas.List.Elements.{All-append, All-cons, All-head, All-nil, All-tail, All-weaker, All-contains}
 use Rattle.std.proofs.lemmas.List.Folds.{list_any-append}
 use Rattle.std.proofs.lemmas.List.Sums.{sum_by-cons}
@@ -10,7 +11,7 @@ use Rattle.rmt_bits.specs.declared.lane.Lane.{Lane}
 use Rattle.rmt_build.specs.Types.{Program, Test, Table, Kind, Node, Guard, Config, Stage, Unit, UnitGuard}
 use Rattle.rmt_ast.specs.declared.program.Kind.TheVariants as kind
 use Rattle.rmt_ast.specs.declared.program.What.TheVariants as what
-use Rattle.rmt_config.specs.TableForm.{Placed, tables_are_formed, follows_part, is_part_of, same_flag, same_guard, same_kind, same_lanes, unit_stands, ways_follow, guard_of, guard_stands, has_node, is_among, node_of, placed_from}
+use Rattle.rmt_config.specs.TableForm.{Placed, tables_are_formed, follows_part, is_part_of, same_flag, same_guard, same_kind, same_lanes, unit_stands, ways_follow, guard_of, guard_stands, has_node, node_is_among, node_of, placed_from}
 use Rattle.rmt_pack.specs.declared.placement.Part.{Part}
 use Rattle.rmt_pack.specs.Placements.{data_bits, quanta_in}
 use Rattle.rmt_refine.specs.Units.{UnitCarried, applied, table_at, guard_in, guard_of as guard_of_node, last_stage, nodes_in}
@@ -37,20 +38,20 @@ use Rattle.rmt_bits.proofs.MemberLaws.{Contains-first, Contains-later, Contains-
 
 -- ---- units of a node among others
 
-among_first : (n : ℕ) (x : Placed) (xs : List Placed) → node_of x.unit ≡ n → is_among n (x ∷ xs) ≡ true
-among_first n x xs e = ap (λ b. b || is_among n xs) (eq-eqb (node_of x.unit) n e)
+among_first : (n : ℕ) (x : Placed) (xs : List Placed) → node_of x.unit ≡ n → node_is_among n (x ∷ xs) ≡ true
+among_first n x xs e = ap (λ b. b || node_is_among n xs) (eq-eqb (node_of x.unit) n e)
 
-among_later : (n : ℕ) (x : Placed) (xs : List Placed) → is_among n xs ≡ true → is_among n (x ∷ xs) ≡ true
+among_later : (n : ℕ) (x : Placed) (xs : List Placed) → node_is_among n xs ≡ true → node_is_among n (x ∷ xs) ≡ true
 among_later n x xs e = by (has_node n x)
   where
-    by : (b : Bool) → (b || is_among n xs) ≡ true
+    by : (b : Bool) → (b || node_is_among n xs) ≡ true
     by true = refl
     by false = e
 
-not_among : (n : ℕ) (xs : List Placed) → All (λ (x : Placed). node_of x.unit ≢ n) xs → is_among n xs ≡ false
+not_among : (n : ℕ) (xs : List Placed) → All (λ (x : Placed). node_of x.unit ≢ n) xs → node_is_among n xs ≡ false
 not_among n [] all = refl
 not_among n (x ∷ xs) all =
-    ap (λ b. b || is_among n xs) (ne_eqb (node_of x.unit) n (All-head (λ (y : Placed). node_of y.unit ≢ n) x xs all))
+    ap (λ b. b || node_is_among n xs) (ne_eqb (node_of x.unit) n (All-head (λ (y : Placed). node_of y.unit ≢ n) x xs all))
     ∙ not_among n xs (All-tail (λ (y : Placed). node_of y.unit ≢ n) x xs all)
 
 module _ (p : Program) (program : IsProgram p) (places : List (List Lane)) (parts : List Part) where
@@ -74,14 +75,14 @@ module _ (p : Program) (program : IsProgram p) (places : List (List Lane)) (part
   pub record Before (k m : ℕ) (xs : List Placed) : Type 0 where
     pub units : All IsUnit xs
     pub earlier : All (λ (x : Placed). IsEarlier k m x.stage (node_of x.unit)) xs
-    pub there : (j q : ℕ) → 0 < quanta_in parts q j → IsEarlier k m j q → is_among q xs ≡ true
+    pub there : (j q : ℕ) → 0 < quanta_in parts q j → IsEarlier k m j q → node_is_among q xs ≡ true
     pub count : (q : ℕ) → count_by (has_node q) xs ≡ parts_before parts q k + cond (nat_lt 0 (quanta_in parts q k) && nat_lt q m) 1 0
 
   -- and behind
   pub record Behind (last k m : ℕ) (xs : List Placed) : Type 0 where
     pub later : All (λ (x : Placed). IsLater k m x.stage (node_of x.unit)) xs
     pub units : All IsUnit xs
-    pub there : (j q : ℕ) → j < last → 0 < quanta_in parts q j → IsLater k m j q → is_among q xs ≡ true
+    pub there : (j q : ℕ) → j < last → 0 < quanta_in parts q j → IsLater k m j q → node_is_among q xs ≡ true
 
   abbrev place : ℕ → Unit → Placed
   place k u = record { stage = k; unit = u }
@@ -94,15 +95,8 @@ module _ (p : Program) (program : IsProgram p) (places : List (List Lane)) (part
   narrower k m j q other (inl less) = inl less
   narrower k m j q other (inr both) = inr (both.0, (let lt = both.1 in omega (arith, lt, other)))
 
-  off : (b : Bool) → ◌≡◌ {A = ℕ} (cond (b && false) 1 0) 0
-  off true = refl
-  off false = refl
-
   lt_more : (q m : ℕ) → q ≢ m → nat_lt q (m + 1) ≡ nat_lt q m
-  lt_more q m other = elim (cases_lt q m) [
-    | inl less ↦ lt-ltb q (m + 1) (omega (arith, less)) ∙ sym (lt-ltb q m less)
-    | inr le ↦ le-ltb q (m + 1) (omega (arith, le, other)) ∙ sym (le-ltb q m le)
-  ]
+  lt_more q m other = grind (arith, nat_tests)
 
   -- ---- what is known of the units that come
 
@@ -124,7 +118,7 @@ module _ (p : Program) (program : IsProgram p) (places : List (List Lane)) (part
   units_known P k (n ∷ ns) (u ∷ us) zip h =
       All-cons P (place k u) (map (place k) us) (h n u (Contains-first n ns) zip.0) (units_known P k ns us zip.1 (λ m v there carried. h m v (Contains-later n ns m there) carried))
 
-  unit_among : (k q : ℕ) (ns : List ℕ) (us : List Unit) → AllZip (Built k) ns us → Contains ns q → is_among q (map (place k) us) ≡ true
+  unit_among : (k q : ℕ) (ns : List ℕ) (us : List Unit) → AllZip (Built k) ns us → Contains ns q → node_is_among q (map (place k) us) ≡ true
   unit_among k q [] us zip there = absurd (let lt = there.1 in omega (arith, lt))
   unit_among k q (n ∷ ns) [] zip there = absurd zip
   unit_among k q (n ∷ ns) (u ∷ us) zip there = elim (Contains-split n ns q there) [
@@ -132,11 +126,11 @@ module _ (p : Program) (program : IsProgram p) (places : List (List Lane)) (part
     | inr later ↦ among_later q (place k u) (map (place k) us) (unit_among k q ns us zip.1 later)
   ]
 
-  among_left : (q : ℕ) (xs ys : List Placed) → is_among q xs ≡ true → is_among q (xs ++ ys) ≡ true
-  among_left q xs ys e = list_any-append (has_node q) xs ys ∙ or_left (is_among q xs) (is_among q ys) e
+  among_left : (q : ℕ) (xs ys : List Placed) → node_is_among q xs ≡ true → node_is_among q (xs ++ ys) ≡ true
+  among_left q xs ys e = list_any-append (has_node q) xs ys ∙ or_left (node_is_among q xs) (node_is_among q ys) e
 
-  among_right : (q : ℕ) (xs ys : List Placed) → is_among q ys ≡ true → is_among q (xs ++ ys) ≡ true
-  among_right q xs ys e = list_any-append (has_node q) xs ys ∙ or_right (is_among q xs) (is_among q ys) e
+  among_right : (q : ℕ) (xs ys : List Placed) → node_is_among q ys ≡ true → node_is_among q (xs ++ ys) ≡ true
+  among_right q xs ys e = list_any-append (has_node q) xs ys ∙ or_right (node_is_among q xs) (node_is_among q ys) e
 
   in_nodes : (k n : ℕ) → n < length p.nodes → 0 < quanta_in parts n k → Contains (nodes_in p parts k) n
   in_nodes k n lt some = Contains-filter (λ m. nat_lt 0 (quanta_in parts m k)) (range_with_len 0 (length p.nodes)) n (Contains-range (length p.nodes) n lt) (lt-ltb 0 (quanta_in parts n k) some)
@@ -160,7 +154,7 @@ module _ (p : Program) (program : IsProgram p) (places : List (List Lane)) (part
       (units_known P k (nodes_in p parts k) s.units own (λ n u there carried. h k n u (omega arith) (of_nodes k n there) carried))
       (stages_known P (k + 1) stages (next_from k s stages from) (λ j n u le some carried. h j n u (omega (arith, le)) some carried))
 
-  stage_among : (k j q : ℕ) (stages : List Stage) → StagesFrom k stages → q < length p.nodes → k ≤ j → j < k + length stages → 0 < quanta_in parts q j → is_among q (placed_from k stages) ≡ true
+  stage_among : (k j q : ℕ) (stages : List Stage) → StagesFrom k stages → q < length p.nodes → k ≤ j → j < k + length stages → 0 < quanta_in parts q j → node_is_among q (placed_from k stages) ≡ true
   stage_among k j q [] from node le lt some = absurd (omega (arith, le, lt))
   stage_among k j q (s ∷ stages) from node le lt some =
       let zero_more : k + 0 ≡ k = omega arith in
@@ -187,24 +181,10 @@ module _ (p : Program) (program : IsProgram p) (places : List (List Lane)) (part
         ];
         count = λ q.
             (let old = before.count q in
-            let first = sum_by-cons (λ (x : Placed). cond (has_node q x) 1 0) (place k u) xs in
-            elim (cases_eq q m) [
-              | inl same ↦
-                  let own : ◌≡◌ {A = ℕ} (cond (node_of u == q) 1 0) 1 = ap (λ b. cond b 1 0) (eq-eqb (node_of u) q (number ∙ sym same)) in
-                  let was : ◌≡◌ {A = ℕ} (cond (nat_lt 0 (quanta_in parts q k) && nat_lt q m) 1 0) 0 =
-                  ap (λ b. cond (nat_lt 0 (quanta_in parts q k) && b) 1 0) (le-ltb q m (omega (arith, same))) ∙ off (nat_lt 0 (quanta_in parts q k)) in
-                  let now : ◌≡◌ {A = ℕ} (cond (nat_lt 0 (quanta_in parts q k) && nat_lt q (m + 1)) 1 0) 1 =
-                  ap (λ b. cond (b && nat_lt q (m + 1)) 1 0) (lt-ltb 0 (quanta_in parts q k) (subst (λ i. 0 < quanta_in parts i k) (sym same) some)) ∙ ap (λ b. cond b 1 0) (lt-ltb q (m + 1) (omega (arith, same))) in
-                  omega (arith, old, first, own, was, now)
-              | inr other ↦
-                  let own : ◌≡◌ {A = ℕ} (cond (node_of u == q) 1 0) 0 = ap (λ b. cond b 1 0) (ne_eqb (node_of u) q (λ e. other (sym (sym number ∙ e)))) in
-                  let same : ◌≡◌ {A = ℕ} (cond (nat_lt 0 (quanta_in parts q k) && nat_lt q (m + 1)) 1 0) (cond (nat_lt 0 (quanta_in parts q k) && nat_lt q m) 1 0) =
-                  ap (λ b. cond (nat_lt 0 (quanta_in parts q k) && b) 1 0) (lt_more q m other) in
-                  omega (arith, old, first, own, same)
-            ]);
+            grind (arith, nat_tests, old, sum_by-cons (λ (x : Placed). cond (has_node q x) 1 0) (place k u) xs, number, some));
       }
     where
-      among_at : (j q : ℕ) → 0 < quanta_in parts q j → IsEarlier k (m + 1) j q → q ≡ m → node_of u ≡ m → is_among q (place k u ∷ xs) ≡ true
+      among_at : (j q : ℕ) → 0 < quanta_in parts q j → IsEarlier k (m + 1) j q → q ≡ m → node_of u ≡ m → node_is_among q (place k u ∷ xs) ≡ true
       among_at j q stands early same number = among_first q (place k u) xs (number ∙ sym same)
 
   -- a node that doesn't stand in the stage adds none
@@ -219,11 +199,7 @@ module _ (p : Program) (program : IsProgram p) (places : List (List Lane)) (part
       ]
       | inr other ↦ before.there j q stands (narrower k m j q other early)
     ];
-    count = λ q. before.count q ∙ ap (λ b. parts_before parts q k + cond b 1 0) (elim (cases_eq q m) [
-      | inl same ↦
-          ap (λ b. b && nat_lt q m) (ap (λ i. nat_lt 0 (quanta_in parts i k)) same ∙ none) ∙ sym (ap (λ b. b && nat_lt q (m + 1)) (ap (λ i. nat_lt 0 (quanta_in parts i k)) same ∙ none))
-      | inr other ↦ ap (λ b. nat_lt 0 (quanta_in parts q k) && b) (sym (lt_more q m other))
-    ]);
+    count = λ q. let old = before.count q in grind (arith, nat_tests, old, none);
   }
 
   -- behind a stage the next one begins
@@ -243,15 +219,9 @@ module _ (p : Program) (program : IsProgram p) (places : List (List Lane)) (part
     ];
     count = λ q.
         (let old = before.count q in
-        let more = parts_more parts q k in
-        let none : ◌≡◌ {A = ℕ} (cond (nat_lt 0 (quanta_in parts q (k + 1)) && nat_lt q 0) 1 0) 0 = ap (λ b. cond (nat_lt 0 (quanta_in parts q (k + 1)) && b) 1 0) (le-ltb q 0 (omega arith)) ∙ off (nat_lt 0 (quanta_in parts q (k + 1))) in
-        let same : ◌≡◌ {A = ℕ} (cond (nat_lt 0 (quanta_in parts q k) && nat_lt q (length p.nodes)) 1 0) (cond (nat_lt 0 (quanta_in parts q k)) 1 0) = within (nat_lt 0 (quanta_in parts q k)) q refl in
-        omega (arith, old, more, none, same));
+        let lt : 0 < quanta_in parts q k → q < length p.nodes = nodes q k in
+        grind (arith, nat_tests, old, parts_more parts q k, lt));
   }
-    where
-      within : (b : Bool) (q : ℕ) → nat_lt 0 (quanta_in parts q k) ≡ b → ◌≡◌ {A = ℕ} (cond (b && nat_lt q (length p.nodes)) 1 0) (cond b 1 0)
-      within true q e = ap (λ b. cond b 1 0) (lt-ltb q (length p.nodes) (nodes q k (ltb-true 0 (quanta_in parts q k) e)))
-      within false q e = refl
 
   -- ---- the rules of one unit
 
@@ -272,21 +242,19 @@ module _ (p : Program) (program : IsProgram p) (places : List (List Lane)) (part
     within = (placed.stage m k stands_here).0
 
     -- a node that stands in no later stage, and is no later one, isn't behind
-    none_behind : (q : ℕ) → ((j : ℕ) → 0 < quanta_in parts q j → j ≤ k) → q ≤ m → is_among q behind ≡ false
+    none_behind : (q : ℕ) → ((j : ℕ) → 0 < quanta_in parts q j → j ≤ k) → q ≤ m → node_is_among q behind ≡ false
     none_behind q most le = not_among q behind (λ i d lt e.
         (let y = get_or behind i d in
-        let stands = subst (λ n. 0 < quanta_in parts n y.stage) e (later.units i d lt).stands in
-        let low = most y.stage stands in
+        let low = most y.stage (subst (λ n. 0 < quanta_in parts n y.stage) e (later.units i d lt).stands) in
         elim (later.later i d lt) [
           | inl less ↦ omega (arith, less, low)
           | inr both ↦ (let high = both.1 in omega (arith, high, e, le))
         ]))
 
-    none_before : ((j : ℕ) → 0 < quanta_in parts m j → k ≤ j) → is_among m before ≡ false
+    none_before : ((j : ℕ) → 0 < quanta_in parts m j → k ≤ j) → node_is_among m before ≡ false
     none_before least = not_among m before (λ i d lt e.
         (let y = get_or before i d in
-        let stands = subst (λ n. 0 < quanta_in parts n y.stage) e (first.units i d lt).stands in
-        let low = least y.stage stands in
+        let low = least y.stage (subst (λ n. 0 < quanta_in parts n y.stage) e (first.units i d lt).stands) in
         elim (first.earlier i d lt) [
           | inl less ↦ omega (arith, less, low)
           | inr both ↦ (let high = both.1 in omega (arith, high, e))
@@ -301,14 +269,12 @@ module _ (p : Program) (program : IsProgram p) (places : List (List Lane)) (part
         let lt = is_earlier m node.guard g (program.nodes m node at).guard is in
         let some = placed.some g.parent (omega (arith, lt, within)) in
         let j = last_stage parts g.parent in
-        let le = placed.follow m node g at is j k some stands_here in
         let early : IsEarlier k m j g.parent = elim (cases_lt j k) [
           | inl less ↦ inl less
-          | inr more ↦ inr (omega (arith, le, more), lt)
+          | inr more ↦ inr (omega (arith, placed.follow m node g at is j k some stands_here, more), lt)
         ] in
-        let node_is = own in
         rw (
-          ne_eqb g.parent (node_of u) (λ e. omega (arith, e, lt, node_is)),
+          ne_eqb g.parent (node_of u) (λ e. omega (arith, e, lt, own)),
           first.there j g.parent some early,
           none_behind g.parent (λ i stands. placed.follow m node g at is i k stands stands_here) (omega (arith, lt)),
         ) refl
@@ -329,8 +295,8 @@ module _ (p : Program) (program : IsProgram p) (places : List (List Lane)) (part
         let alone : (j : ℕ) → 0 < quanta_in parts m j → j ≡ k = λ j some. placed.alone m j k g.node g.field g.test g.node_is g.what_is some stands_here in
         let number : g.gate.node ≡ m = sym (ap node_of g.is) ∙ own in
         let guard = subst (λ v. guard_stands (node_of v) (guard_of v) before behind ≡ true) g.is (guard_holds g.node g.node.guard g.node_is refl) in
-        let one : is_among g.gate.node before ≡ false = ap (λ n. is_among n before) number ∙ none_before (λ j some. (let e = alone j some in omega (arith, e))) in
-        let two : is_among g.gate.node behind ≡ false = ap (λ n. is_among n behind) number ∙ none_behind m (λ j some. (let e = alone j some in omega (arith, e))) (omega arith) in
+        let one : node_is_among g.gate.node before ≡ false = ap (λ n. node_is_among n before) number ∙ none_before (λ j some. (let e = alone j some in omega (arith, e))) in
+        let two : node_is_among g.gate.node behind ≡ false = ap (λ n. node_is_among n behind) number ∙ none_behind m (λ j some. (let e = alone j some in omega (arith, e))) (omega arith) in
         ap (λ v. unit_stands before (place k v) behind) g.is ∙ (rw (guard, one, two) refl)
 
     -- ---- a part of a table
@@ -416,13 +382,11 @@ module _ (p : Program) (program : IsProgram p) (places : List (List Lane)) (part
 
       ways : ways_follow (count_by (has_node m) before) s.slot.memory ≡ true
       ways =
-          let all = first.count m in
-          let none : ◌≡◌ {A = ℕ} (cond (nat_lt 0 (quanta_in parts m k) && nat_lt m m) 1 0) 0 = ap (λ b. cond (nat_lt 0 (quanta_in parts m k) && b) 1 0) (le-ltb m m (omega arith)) ∙ off (nat_lt 0 (quanta_in parts m k)) in
-          let count : count_by (has_node m) before ≡ parts_before parts m k = omega (arith, all, none) in
+          let count : count_by (has_node m) before ≡ parts_before parts m k = grind (arith, nat_tests, first.count m) in
           ap (ways_follow (count_by (has_node m) before)) (own_slot.2 s.slot s.table refl s.at)
           ∙ ways_same s.table.kind (need_in p parts s.table m k) (taken_upto p parts k m) (count_by (has_node m) before) count
 
-      last_said : (b : Bool) → (k == last_stage parts m) ≡ b → same_flag s.slot.last (not (is_among m behind)) ≡ true
+      last_said : (b : Bool) → (k == last_stage parts m) ≡ b → same_flag s.slot.last (not (node_is_among m behind)) ≡ true
       last_said true e =
           let here = eqb-true k (last_stage parts m) e in
           let none = none_behind m (λ j some. (let le = within_last parts m j some in omega (arith, le, here))) (omega arith) in
@@ -439,7 +403,7 @@ module _ (p : Program) (program : IsProgram p) (places : List (List Lane)) (part
           let guard = subst (λ v. guard_stands (node_of v) (guard_of v) before behind ≡ true) s.is (guard_holds s.node s.node.guard s.node_is refl) in
           let one : follows_part k s.slot (find (has_node s.slot.node) before) ≡ true = ap (λ n. follows_part k s.slot (find (has_node n) before)) number ∙ follows (find (has_node m) before) refl in
           let two : ways_follow (count_by (has_node s.slot.node) before) s.slot.memory ≡ true = ap (λ n. ways_follow (count_by (has_node n) before) s.slot.memory) number ∙ ways in
-          let three : same_flag s.slot.last (not (is_among s.slot.node behind)) ≡ true = ap (λ n. same_flag s.slot.last (not (is_among n behind))) number ∙ last_said (k == last_stage parts m) refl in
+          let three : same_flag s.slot.last (not (node_is_among s.slot.node behind)) ≡ true = ap (λ n. same_flag s.slot.last (not (node_is_among n behind))) number ∙ last_said (k == last_stage parts m) refl in
           ap (λ v. unit_stands before (place k v) behind) s.is ∙ (rw (guard, one, two, three) refl)
 
     pub it_stands : unit_stands before (place k u) behind ≡ true
@@ -534,10 +498,7 @@ module _ (p : Program) (program : IsProgram p) (places : List (List Lane)) (part
       | inl less ↦ absurd (omega (arith, less))
       | inr both ↦ absurd (let lt = both.1 in omega (arith, lt))
     ];
-    count = λ q.
-        (let none : ◌≡◌ {A = ℕ} (cond (nat_lt 0 (quanta_in parts q 0) && nat_lt q 0) 1 0) 0 = ap (λ b. cond (nat_lt 0 (quanta_in parts q 0) && b) 1 0) (le-ltb q 0 (omega arith)) ∙ off (nat_lt 0 (quanta_in parts q 0)) in
-        let zero_is : 0 ≡ parts_before parts q 0 = refl in
-        omega (arith, none, zero_is));
+    count = λ q. grind (arith, nat_tests);
   }
 
   -- so the rules of guards and tables hold of all stages

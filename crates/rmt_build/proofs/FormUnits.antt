@@ -60,10 +60,8 @@ tests_count low t (l ∷ lanes) = ap suc (tests_count (low + l.len) t lanes)
 pub few_lanes : (lanes : List Lane) → All LiesInWord lanes → length lanes ≤ bits_of_lanes lanes
 few_lanes [] lie = omega arith
 few_lanes (l ∷ lanes) lie =
-    let own = (All-head LiesInWord l lanes lie).has_bits in
-    let rest = few_lanes lanes (All-tail LiesInWord l lanes lie) in
     let all : bits_of_lanes (l ∷ lanes) ≡ l.len + bits_of_lanes lanes = sum_by-cons (λ n. n) l.len (map (λ (x : Lane). x.len) lanes) in
-    omega (arith, own, rest, all)
+    omega (arith, (All-head LiesInWord l lanes lie).has_bits, few_lanes lanes (All-tail LiesInWord l lanes lie), all)
 
 pub some_lanes : (lanes : List Lane) → 1 ≤ bits_of_lanes lanes → 1 ≤ length lanes
 some_lanes [] le = absurd (omega (arith, le))
@@ -79,8 +77,6 @@ module _ (p : Program) (program : IsProgram p) (places : List (List Lane)) (keep
       let lanes = lanes_of places field in
       let bits = lanes_width p places field keeps.cut in
       let lie = lanes_lie p places field keeps in
-      let most = few_lanes lanes lie in
-      let one = some_lanes lanes (omega (arith, bits, some)) in
       let count : length g.tests ≡ length lanes = ap length tests ∙ length-reverse (tests_from 0 t lanes) ∙ tests_count 0 t lanes in
       let formed : list_all test_is_formed g.tests ≡ true =
       list_all-from_AllPass test_is_formed g.tests
@@ -90,7 +86,7 @@ module _ (p : Program) (program : IsProgram p) (places : List (List Lane)) (keep
       rw (
         lt-ltb g.node 256 (omega (arith, number, within, nodes)),
         own,
-        le-leb 1 (length g.tests) (omega (arith, count, one)),
-        lt-ltb (length g.tests) 256 (omega (arith, count, most, bits, few)),
+        le-leb 1 (length g.tests) (omega (arith, count, some_lanes lanes (omega (arith, bits, some)))),
+        lt-ltb (length g.tests) 256 (omega (arith, count, few_lanes lanes lie, bits, few)),
         formed,
       ) refl

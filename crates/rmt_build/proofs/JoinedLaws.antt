@@ -3,12 +3,12 @@ use Rattle.std.proofs.Common.{◌≡◌, ℕ, ◌+◌, ◌*◌, ◌/◌, ◌-◌
 use Rattle.std.specs.Prelude.{All, Contains, IsSomeAnd, option_map, slice_get}
 use Rattle.std.specs.List.{range_with_len}
 use Rattle.std.proofs.lemmas.Nat.{le-div}
-use Rattle.std.proofs.lemmas.Option.{get_or_from_slice_get, none-some, same_Some, slice_get-get_or, slice_get-map, slice_get_within}
+use Rattle.std.proofs.lemmas.Option.{get_or_from_slice_get, none-some, slice_get-get_or, slice_get-map}
 use Rattle.std.proofs.lemmas.Slice.Zip.{AllZip-long}
 use Rattle.rmt_bits.proofs.AllLaws.{All-slice_get}
 use Rattle.rmt_bits.proofs.ListLaws.{slice_get-item, AllZip-slice_get}
 use Rattle.rmt_bits.specs.declared.lane.Lane.{Lane}
-use Rattle.rmt_build.specs.Types.{Program, Test, Table, Kind, Node, What, Config, Stage, Unit, SlotUnit, Memory}
+use Rattle.rmt_build.specs.Types.{Program, Test, Table, Kind, Node, What, Config, Stage, Unit, Memory}
 use Rattle.rmt_ast.specs.declared.program.Kind.TheVariants.{Keyless, Exact, Prefix, Ternary}
 use Rattle.rmt_ast.specs.declared.program.What.TheVariants.{Apply, Gate}
 use Rattle.rmt_ast.specs.declared.entry.Entry.{Entry}
@@ -28,28 +28,27 @@ use Rattle.rmt_pack.specs.declared.format.Need.{Need}
 use Rattle.rmt_pack.specs.declared.placement.Part.{Part}
 use Rattle.rmt_pack.specs.declared.placement.Placement.{Placement}
 use Rattle.rmt_pack.specs.Formats.{HasNeed, memory_format, no_memory}
-use Rattle.rmt_pack.specs.Placements.{data_bits, key_bits, quanta_in, table_need}
-use Rattle.rmt_pack.proofs.NeedLaws.{table_has_need}
+use Rattle.rmt_pack.specs.Placements.{data_bits, key_bits, quanta_in, table_need, what_format}
+use Rattle.rmt_pack.proofs.NeedLaws.{table_has_need, memory_format-is}
 use Rattle.rmt_ptcam.specs.Clustering.{clustered}
 use Rattle.rmt_ptcam.specs.Needs.{refusal}
-use Rattle.rmt_ptcam.proofs.PlainLaws.{lanes_bits}
 use Rattle.rmt_refine.specs.declared.map.CellOf.{CellOf}
 use Rattle.rmt_refine.specs.declared.map.Map.{Map}
 use Rattle.rmt_refine.specs.Carries.{CarriesIn}
 use Rattle.rmt_config.specs.Rooms.{tests_as_one}
 use Rattle.rmt_refine.specs.Places.{PlacesCarried}
 use Rattle.rmt_refine.specs.Units.{UnitCarried, UnitsCarried, nodes_in, table_at}
-use Rattle.rmt_refine.specs.View.{as_slot, own_view, slot_of}
-use Rattle.rmt_pack.proofs.PartLaws.{slot_is_unit, then_some}
+use Rattle.rmt_refine.specs.View.{as_slot, own_view}
 use Rattle.rmt_filling.specs.declared.plan.Plan.{Plan}
 use Rattle.rmt_build.specs.BuiltStage.{IsBuiltStage}
 use Rattle.rmt_filling.specs.Memories.{blocks_for, memory_for}
-use Rattle.rmt_filling.specs.Formats.{format_at, what_format}
+use Rattle.rmt_filling.specs.Formats.{format_at}
 use Rattle.rmt_build.specs.Plans.{need_in, quanta_before, taken_upto}
 use Rattle.rmt_build.specs.Promises.{HasBlocksInOrder, HasCodeOfRule, HasDataOfRule, HasFormat, HasFormatOfRule, StandInRows}
 use Rattle.rmt_build.specs.Stages.{AreStagesOf, IsPlanFor}
 use Rattle.rmt_filling.specs.EntryCells.{cells_for}
 use Rattle.rmt_build.specs.Told.{cells_told}
+use Rattle.rmt_build.proofs.BuiltLaws.{slot_keys}
 use Rattle.rmt_build.proofs.AssemblyLaws.{code_coded}
 use Rattle.rmt_build.proofs.CarriedLaws.{built_carries, units_carried}
 use Rattle.rmt_build.proofs.FormBlocks.{HasMemory, are_blocks, blocks_in_order}
@@ -57,7 +56,6 @@ use Rattle.rmt_build.proofs.FormConfig.{formed_with_clustered, limits_by_plan}
 use Rattle.rmt_build.proofs.FormFits.{data_held, memories, zip_right}
 use Rattle.rmt_build.proofs.FormStage.{HoldsData, kinds}
 use Rattle.rmt_build.proofs.LoadedLaws.{loaded_there, rows_in_order}
-use Rattle.rmt_build.proofs.MemoryLaws.{format_of_kind}
 use Rattle.rmt_build.proofs.NamesFilled.{names_filled}
 use Rattle.rmt_build.proofs.NamesMade.{names_made}
 use Rattle.rmt_build.proofs.NumberedLaws.{entries_numbered}
@@ -71,7 +69,7 @@ format_some : (kind : Kind) (need : Need) → HasNeed kind need → 0 < (memory_
 format_some Keyless need has = omega arith
 format_some Exact need has =
     let f = memory_format Exact need in
-    let is = format_of_kind Exact need has in
+    let is = memory_format-is Exact need has in
     let quanta = le-div 1 (need.size + need.size / 8 + 4096 * f.per - 1) (4096 * f.per) (omega (arith, is.has_cells)) (omega (arith, is.has_cells, has.has_size)) in
     omega (arith, quanta, ap (λ g. g.quanta) is.layout)
 format_some Prefix need has = omega (arith, has.has_size)
@@ -90,8 +88,7 @@ node_some p program n lt =
     let node = slice_get-item p.nodes n lt in
     let g = λ (x : Node). what_format p x.what in
     let format : format_at p n ≡ g node.0 = get_or_from_slice_get (map g p.nodes) n (g node.0) no_memory (slice_get-map g p.nodes n ∙ ap (option_map g) node.1) in
-    let some = what_some p program node.0.what in
-    omega (arith, some, ap (λ f. f.quanta) format)
+    omega (arith, what_some p program node.0.what, ap (λ f. f.quanta) format)
 
 -- ---- a configuration
 
@@ -118,28 +115,10 @@ module _ (p : Program) (lists : List (List Entry)) (plan : Plan) (c : Config) (p
   pub units_are : UnitsCarried p plan.places parts plan.starts c
   units_are = units_carried p lists plan c entries is.is_plan.parts is.is_plan.stands (node_some p program) long room built
 
-  -- the bits of the key of a slot
-  built_keys : (k place : ℕ) (stage : Stage) (slot : SlotUnit) (t : Table) → IsBuiltStage p lists plan k stage → slot_of stage place ≡ Some slot → table_at p slot.node ≡ Some t → bits_of_lanes slot.keys ≡ key_bits p t
-  built_keys k place stage slot t b at table =
-      let u = then_some as_slot (slice_get stage.units place) slot at in
-      let unit_is : slice_get stage.units place ≡ Some (unit.Slot slot) = u.1 ∙ ap Some (slot_is_unit u.0 slot u.2) in
-      let all = AllZip-long (UnitCarried p plan.places parts k) (nodes_in p parts k) stage.units b.units in
-      let lt = slice_get_within stage.units place (unit.Slot slot) unit_is in
-      let n = slice_get-item (nodes_in p parts k) place (omega (arith, lt, all)) in
-      let carried = AllZip-slice_get (UnitCarried p plan.places parts k) (nodes_in p parts k) stage.units place n.0 (unit.Slot slot) b.units n.1 unit_is in
-      elim (kinds p plan.places parts k n.0 (unit.Slot slot) carried) [
-        | inl own ↦
-            let slot_same : own.slot ≡ slot = same_Some own.slot slot (sym (ap as_slot own.is)) in
-            let table_same : own.table ≡ t = same_Some own.table t (sym own.at ∙ ap (table_at p) (sym carried.number) ∙ table) in
-            ap (λ (x : SlotUnit). bits_of_lanes x.keys) (sym slot_same) ∙ ap bits_of_lanes own.carried.keys ∙ lanes_bits p plan.places own.table.key is.is_plan.places
-            ∙ ap (key_bits p) table_same
-        | inr gate ↦ absurd (none-some slot (sym (ap as_slot gate.is)))
-      ]
-
   are_loaded : AreLoaded p lists plan c cells entries units_are is.is_plan.stands built refl
   are_loaded n k place cell t es own stage slot e table exact es_are own_is part s =
       let b = slot_built p lists plan c entries units_are is.is_plan.stands built n k place stage slot part t es own table es_are own_is in
-      let bits = built_keys k place stage slot t (built k stage part.stage_is) part.slot_is (ap (table_at p) part.node_is ∙ table) in
+      let bits = slot_keys p plan k stage is.is_plan.places (built k stage part.stage_is).units place slot t part.slot_is (ap (table_at p) part.node_is ∙ table) in
       let key = tests_as_one (λ (u : Test). u.value) (map (width_of p) t.key) e.tests in
       let need = need_in p parts t n k in
       let taken = taken_upto p parts k n in
@@ -207,9 +186,8 @@ module _ (p : Program) (lists : List (List Entry)) (plan : Plan) (c : Config) (p
   pub joined_data : All (λ (s : Stage). All (HasDataOfRule p) s.units) c.stages
   joined_data k d lt =
       let stage = get_or c.stages k d in
-      let b = built k stage (slice_get-get_or c.stages k d lt) in
       zip_right (λ n u. UnitCarried p plan.places parts k n u × HoldsData p plan.places parts k n u) (HasDataOfRule p) (nodes_in p parts k) stage.units (has_data k)
-      (data_held p lists plan program entries is.is_plan.parts k stage b)
+      (data_held p lists plan program entries is.is_plan.parts k stage (built k stage (slice_get-get_or c.stages k d lt)))
 
   few : length c.stages ≤ 32
   few = let most = is.few_stages in omega (arith, long, most)

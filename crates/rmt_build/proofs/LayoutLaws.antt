@@ -15,8 +15,9 @@ use Rattle.rmt_cuckoo.specs.Loading.{cells_in, cells_of}
 use Rattle.rmt_pack.specs.declared.format.Format.{Format}
 use Rattle.rmt_pack.specs.declared.format.Need.{Need}
 use Rattle.rmt_pack.specs.declared.placement.Part.{Part}
-use Rattle.rmt_pack.specs.Formats.{HasNeed, IsExactFormat, IsFormat, IsNeed, exact_layout}
+use Rattle.rmt_pack.specs.Formats.{HasNeed, IsExactFormat, IsFormat, IsNeed}
 use Rattle.rmt_pack.specs.Placements.{key_bits, quanta_in, table_need}
+use Rattle.rmt_pack.proofs.NeedLaws.{exact_blocks}
 use Rattle.rmt_bits.specs.Bits.{bytes_of}
 use Rattle.rmt_build.specs.Types.{Program, Table}
 use Rattle.rmt_ast.specs.declared.program.Kind.TheVariants.{Exact}
@@ -78,16 +79,11 @@ small_from per parts n few_per few (suc d) a = by (nat_lt 0 (quanta_in parts n a
         → IsSmall d (map (λ k. record { rows = 1024 * quanta_in parts n k; per = per }) (filter (λ k. nat_lt 0 (quanta_in parts n k)) (range_with_len (a + 1) d)))
         → IsSmall (suc d) (map (λ k. record { rows = 1024 * quanta_in parts n k; per = per }) (cond b (a ∷ filter (λ k. nat_lt 0 (quanta_in parts n k)) (range_with_len (a + 1) d)) (filter (λ k. nat_lt 0 (quanta_in parts n k)) (range_with_len (a + 1) d))))
     by true e small =
-        let some = ltb-true 0 (quanta_in parts n a) e in
-        let most = few a in
-        let long = small.long in
-        let cells = small.cells in
-        let own = mul-le (1024 * quanta_in parts n a) per (1024 * 106) 99 (omega (arith, most)) few_per in
-        let first = sum_by-cons cells_in (part a) rest in
+        let own = mul-le (1024 * quanta_in parts n a) per (1024 * 106) 99 (omega (arith, few a)) few_per in
         record {
-          long = omega (arith, long);
-          rows = All-cons (λ (x : Ways). 1 ≤ x.rows) (part a) rest (omega (arith, some)) small.rows;
-          cells = omega (arith, own, first, cells);
+          long = omega (arith, small.long);
+          rows = All-cons (λ (x : Ways). 1 ≤ x.rows) (part a) rest (omega (arith, ltb-true 0 (quanta_in parts n a) e)) small.rows;
+          cells = omega (arith, own, sum_by-cons cells_in (part a) rest, small.cells);
         }
     by false e small = let long = small.long in let cells = small.cells in record { long = omega (arith, long); rows = small.rows; cells = omega (arith, cells) }
 
@@ -109,21 +105,10 @@ small_layout per parts n few_per few =
 pub few_cells : (t : Need) (f : Format) → IsNeed t → IsExactFormat t f → f.per ≤ 99
 few_cells t f need is = elim (cases_lt 99 f.per) [
   | inl many ↦
-      let room = div-mul-le_self (112 * f.width) (t.key + 8) in
-      let cells = is.cells in
-      let width = is.width in
-      let key = need.has_key in
-      let all = mul-le 100 9 (112 * f.width / (t.key + 8)) (t.key + 8) (omega (arith, many, cells)) (omega (arith, key)) in
-      absurd (omega (arith, all, room, width))
+      let all = mul-le 100 9 (112 * f.width / (t.key + 8)) (t.key + 8) (omega (arith, many, is.cells)) (omega (arith, need.has_key)) in
+      absurd (omega (arith, all, div-mul-le_self (112 * f.width) (t.key + 8), is.width))
   | inr few ↦ few
 ]
-
--- a quantum has a block at least
-pub some_blocks : (t : Need) (f : Format) → IsExactFormat t f → 1 ≤ f.sram
-some_blocks t f is =
-    let same : f.sram ≡ (exact_layout t f.width f.per).sram = ap (λ (x : Format). x.sram) is.layout in
-    let width = is.has_width in
-    omega (arith, same, width)
 
 -- ---- an exact table of a plan
 
@@ -137,16 +122,14 @@ module _ (p : Program) (good : IsProgram p) (n : ℕ) (t : Table) (at : table_at
   pub few_entries : (es : List Entry) → AreTableEntries n es (terms_of p t) → length (keys_of p t es) < 2 ^ 32
   few_entries es are =
       let many = length-map es (λ (e : Entry). bytes_of (divided_up (key_bits p t) 8) (tests_as_one (λ test. test.value) (map (width_of p) t.key) e.tests)) in
-      let few = are.within_size in
-      let size = its_need.size in
-      omega (arith, many, few, size)
+      omega (arith, many, are.within_size, its_need.size)
 
   module _ (parts : List Part) (are : AreParts p parts) where
     pub few_quanta_in : (k : ℕ) → quanta_in parts n k ≤ 106
     few_quanta_in k =
         let fits = sram_fits p good n t at parts k are in
         let own = part_sram p good n t at parts k in
-        few_quanta (quanta_in parts n k) (format_at p n).sram 106 (some_blocks (table_need p t) (format_at p n) its_format) (omega (arith, fits, own))
+        few_quanta (quanta_in parts n k) (format_at p n).sram 106 (exact_blocks (table_need p t) (format_at p n) its_format) (omega (arith, fits, own))
 
     pub small_exact : IsSmallLayout (layout_of p parts n)
     small_exact = small_layout (format_at p n).per parts n (few_cells (table_need p t) (format_at p n) its_need its_format) few_quanta_in

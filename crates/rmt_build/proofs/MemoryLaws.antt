@@ -6,8 +6,7 @@ use Rattle.rmt_ast.specs.declared.program.Kind.TheVariants.{Keyless, Exact, Pref
 use Rattle.rmt_config.specs.BlockCounts.{divided_up, record_units, record_width}
 use Rattle.rmt_pack.specs.declared.format.Format.{Format}
 use Rattle.rmt_pack.specs.declared.format.Need.{Need}
-use Rattle.rmt_pack.specs.Formats.{HasNeed, IsNeed, IsFormat, memory_format, ternary_format}
-use Rattle.rmt_pack.proofs.FormatLaws.{exact_format-taken}
+use Rattle.rmt_pack.specs.Formats.{HasNeed, IsNeed, IsFormat, ternary_format}
 use Rattle.rmt_bounds.proofs.FormatBounds.{ternary_fits_stage}
 use Rattle.rmt_filling.specs.declared.memory.PartNeed.{PartNeed}
 use Rattle.rmt_filling.specs.Memories.{blocks_for, sram_for, tcam_for, memory_for}
@@ -60,13 +59,6 @@ tcam_is Exact n t is f =
     let none : n.quanta * n.format.tcam ≡ n.quanta * 0 = ap (λ (x : Format). n.quanta * x.tcam) f.layout in omega (arith, none)
 tcam_is Prefix n t is f = ternary_tcam_is n t is f
 tcam_is Ternary n t is f = ternary_tcam_is n t is f
-
--- the rule's format is one
-pub format_of_kind : (kind : Kind) (t : Need) → HasNeed kind t → IsFormat kind t (memory_format kind t)
-format_of_kind Keyless t need = refl
-format_of_kind Exact t need = (exact_format-taken t need).format
-format_of_kind Prefix t need = refl
-format_of_kind Ternary t need = refl
 
 -- a quantum takes a block, so there are no more of them than blocks
 pub few_quanta : (d sram most : ℕ) → 1 ≤ sram → d * sram ≤ most → d ≤ most

@@ -10,6 +10,7 @@ use Rattle.std.proofs.lemmas.Option.{get_or_from_slice_get}
 use Rattle.std.proofs.lemmas.Slice.Eq.{bytes_eq-Decides}
 use Rattle.rmt_bits.proofs.ListLaws.{slice_get-alike}
 use Rattle.rmt_bits.proofs.MemberLaws.{list_any-Contains}
+use Rattle.rmt_bits.proofs.TestLaws.{all_three}
 use Rattle.rmt_ast.specs.declared.entry.Entry.{Entry}
 use Rattle.rmt_ast.specs.declared.names.RankOf.{RankOf}
 use Rattle.rmt_ast.specs.declared.names.TableName.{TableName}
@@ -43,9 +44,6 @@ use Rattle.rmt_build.proofs.TableLaws.{AreInRows, AreLoaded}
 all_four : (a b c d : Bool) → a ≡ true → b ≡ true → c ≡ true → d ≡ true → (a && b && c && d) ≡ true
 all_four a b c d is_a is_b is_c is_d =
     ap (λ x. x && b && c && d) is_a ∙ ap (λ x. true && x && c && d) is_b ∙ ap (λ x. true && true && x && d) is_c ∙ ap (λ x. true && true && true && x) is_d
-
-all_three : (a b c : Bool) → a ≡ true → b ≡ true → c ≡ true → (a && b && c) ≡ true
-all_three a b c is_a is_b is_c = ap (λ x. x && b && c) is_a ∙ ap (λ x. true && x && c) is_b ∙ ap (λ x. true && true && x) is_c
 
 module _ (p : Program) (lists : List (List Entry)) (plan : Plan) (c : Config) (program : IsProgram p) (entries : AreEntries p lists)
     (units : UnitsCarried p plan.places plan.placement.parts plan.starts c) (stands : AreStands p lists plan.placement.parts plan.stands)

@@ -1,18 +1,17 @@
 -- The entries of a table as they stand: as many as there are, each key once, and in the order of their precedence.
 use Rattle.std.proofs.Common.{◌≡◌, ◌≢◌, ℕ, ◌<◌, ◌∙◌, Bool, true, false, not, ◌==◌, List, [], ◌∷◌, Some, length, map, get_or, refl, sym, ap, subst, ◌⊎◌, inl, inr, arith}
 use Rattle.std.specs.Prelude.{All, AllPairs, Contains, slice_get}
-use Rattle.std.specs.List.{list_all, range_with_len}
+use Rattle.std.specs.List.{range_with_len}
 use Rattle.std.specs.Str.{bytes_eq}
-use Rattle.std.proofs.lemmas.Bool.{and_from, and_parts, eqb-true, false≢true}
+use Rattle.std.proofs.lemmas.Bool.{and_parts, eqb-true, false≢true}
 use Rattle.std.proofs.lemmas.List.{get_or_default, length-map}
 use Rattle.std.proofs.lemmas.List.Elements.{All-map, Contains-get_or}
 use Rattle.std.proofs.lemmas.List.FromFn.{length-range_with_len}
 use Rattle.std.proofs.lemmas.List.Sorted.{length_permutation}
-use Rattle.std.proofs.lemmas.List.Sums.{list_all-from_AllPass}
 use Rattle.std.proofs.lemmas.Option.{slice_get-get_or}
 use Rattle.std.proofs.lemmas.Simd.{map-map}
 use Rattle.rmt_bits.proofs.MemberLaws.{Contains-item, Contains-map}
-use Rattle.rmt_bits.proofs.PairLaws.{AllPairs-head, AllPairs-map, AllPairs-tail}
+use Rattle.rmt_bits.proofs.PairLaws.{AllPairs-map}
 use Rattle.rmt_ast.specs.declared.entry.Entry.{Entry}
 use Rattle.rmt_ast.specs.declared.names.RankOf.{RankOf}
 use Rattle.rmt_ast.specs.declared.program.Kind.TheVariants.{Keyless, Exact, Prefix, Ternary}
@@ -21,6 +20,7 @@ use Rattle.rmt_ast.specs.EntryLists.{HasKeysOnce}
 use Rattle.rmt_ast.specs.Naming.{rank_of, ranks_in}
 use Rattle.rmt_ast.specs.RowOrder.{goes_first}
 use Rattle.rmt_config.specs.NamesForm.{each_later, has_keys_once, has_order}
+use Rattle.rmt_config.proofs.NameRuleLaws.{each_later-from}
 use Rattle.rmt_refine.proofs.RankLaws.{compare}
 use Rattle.rmt_build.specs.Types.{Kind, Test}
 use Rattle.rmt_filling.specs.declared.stands.Stand.{Stand}
@@ -41,12 +41,6 @@ abbrev pub as_they_stand : List Entry → List Stand → List Entry
 as_they_stand es own = map (λ (s : Stand). entry_at es s.entry) own
 
 -- ---- tests of pairs
-
-each_later-from : {A : Type 0} (R : A → A → Bool) (xs : List A) → AllPairs (λ a b. R a b ≡ true) xs → each_later R xs ≡ true
-each_later-from R [] h = refl
-each_later-from R (x ∷ xs) h =
-    and_from (list_all (R x) xs) (each_later R xs) (list_all-from_AllPass (R x) xs (AllPairs-head (λ a b. R a b ≡ true) x xs h))
-    (each_later-from R xs (AllPairs-tail (λ a b. R a b ≡ true) x xs h))
 
 same_tests : (a b : List Test) → bytes_eq (map (λ (t : Test). t.value) a) (map (λ (t : Test). t.value) b) ≡ true
     → bytes_eq (map (λ (t : Test). t.mask) a) (map (λ (t : Test). t.mask) b) ≡ true → a ≡ b
@@ -80,20 +74,16 @@ module _ (es : List Entry) (own : List Stand) (once : StandOnce (length es) own)
 
   pub as_many : length (as_they_stand es own) ≡ length es
   as_many =
-      let mapped = length-map own (λ (s : Stand). entry_at es s.entry) in
-      let numbered = length-map own (λ (s : Stand). s.entry) in
       let moved = length_permutation (range_with_len 0 (length es)) (map (λ (s : Stand). s.entry) own) once.each in
       let range = length-range_with_len 0 (length es) in
-      omega (arith, mapped, numbered, moved, range)
+      omega (arith, length-map own (λ (s : Stand). entry_at es s.entry), length-map own (λ (s : Stand). s.entry), moved, range)
 
   entries_differ : AllPairs (λ (a b : Stand). a.entry ≢ b.entry) own
   entries_differ i j d lt inside same =
       let a = get_or own i d in
       let b = get_or own j d in
       let one = one_stand (length es) own once a b (Contains-get_or own i d (omega (arith, lt, inside))) (Contains-get_or own j d inside) same in
-      let cell = ap (λ (s : Stand). s.cell) one in
-      let less = once.rise i j d lt inside in
-      omega (arith, cell, less)
+      omega (arith, ap (λ (s : Stand). s.cell) one, once.rise i j d lt inside)
 
   keys_differ : AllPairs (λ (a b : Entry). a.tests ≢ b.tests) es → AllPairs (λ (a b : Stand). (entry_at es a.entry).tests ≢ (entry_at es b.entry).tests) own
   keys_differ differ i j d lt inside e =
@@ -101,10 +91,8 @@ module _ (es : List Entry) (own : List Stand) (once : StandOnce (length es) own)
       let b = (get_or own j d).entry in
       elim (compare a b) [
         | inl less ↦ differ a b no_entry less (inside_list j d inside) e
-        | inr more ↦ elim more [
-          | inl greater ↦ differ b a no_entry greater (inside_list i d (omega (arith, lt, inside))) (sym e)
-          | inr same ↦ entries_differ i j d lt inside same
-        ]
+        | inr (inl greater) ↦ differ b a no_entry greater (inside_list i d (omega (arith, lt, inside))) (sym e)
+        | inr (inr same) ↦ entries_differ i j d lt inside same
       ]
 
   once_by_pairs : AllPairs (λ (a b : Entry). a.tests ≢ b.tests) es → each_later (λ (a b : Entry). not (are_same a.tests b.tests)) (as_they_stand es own) ≡ true

@@ -1,14 +1,14 @@
 -- Ranks in order are one list: that of the ranks of the entries as they stand in rows.
 use Rattle.std.proofs.Common.{◌≡◌, ◌<◌, ◌∙◌, cond, Bool, true, false, ◌&&◌, ◌==◌, List, [], ◌∷◌, map, get_or, refl, sym, ap, subst, ◌⊎◌, inl, inr, arith}
-use Rattle.std.specs.Prelude.{All, AllPairs, Contains, fold, nat_lt, ⊤}
-use Rattle.std.proofs.lemmas.Bool.{and_from, and_parts, both_ways, eq-eqb, eqb-true, lt-ltb, ltb-true, or_cases, or_left, or_right}
+use Rattle.std.specs.Prelude.{All, AllPairs, Contains, fold, ⊤}
+use Rattle.std.proofs.lemmas.Bool.{and_parts, eqb-true}
+use Rattle.std.proofs.lemmas.Bool.Decides.{nat_tests}
 use Rattle.std.proofs.lemmas.List.Elements.{All-cons, All-contains, All-head, All-nil, All-tail, All-weaker}
 use Rattle.rmt_bits.proofs.MemberLaws.{Contains-first, Contains-later, Contains-split, Contains-unmap}
 use Rattle.rmt_bits.proofs.PairLaws.{AllPairs-head, AllPairs-tail}
 use Rattle.rmt_ast.specs.declared.entry.Entry.{Entry}
 use Rattle.rmt_ast.specs.declared.names.RankOf.{RankOf}
 use Rattle.rmt_ast.specs.Naming.{rank_of, ranks_in, stands_first, with_rank}
-use Rattle.rmt_refine.proofs.RankLaws.{compare}
 
 -- ---- the order of ranks
 
@@ -35,29 +35,11 @@ one_rank r o e =
     ap (λ x. record { number = r.number; rank = x }) (eqb-true r.rank o.rank both.0) ∙ ap (λ x. record { number = x; rank = o.rank }) (eqb-true r.number o.number both.1)
 
 first_before : (r o : RankOf) → stands_first r o ≡ true → StandsFirst r o
-first_before r o h = elim (or_cases (nat_lt r.rank o.rank) ((r.rank == o.rank) && nat_lt r.number o.number) h) [
-  | inl lt ↦ inl (ltb-true r.rank o.rank lt)
-  | inr same ↦ let both = and_parts (r.rank == o.rank) (nat_lt r.number o.number) same in inr (eqb-true r.rank o.rank both.0, ltb-true r.number o.number both.1)
-]
+first_before r o h = grind (arith, nat_tests)
 
 -- what neither stands first nor is the same comes behind
 else_behind : (r o : RankOf) → stands_first r o ≡ false → are_one r o ≡ false → StandsFirst o r
-else_behind r o first one = elim (compare r.rank o.rank) [
-  | inl lt ↦ absurd (both_ways (stands_first r o) first (or_left (nat_lt r.rank o.rank) ((r.rank == o.rank) && nat_lt r.number o.number) (lt-ltb r.rank o.rank lt)))
-  | inr more ↦ elim more [
-    | inl gt ↦ inl gt
-    | inr same ↦ elim (compare r.number o.number) [
-      | inl lt ↦
-          absurd (both_ways (stands_first r o) first
-          (or_right (nat_lt r.rank o.rank) ((r.rank == o.rank) && nat_lt r.number o.number)
-          (and_from (r.rank == o.rank) (nat_lt r.number o.number) (eq-eqb r.rank o.rank same) (lt-ltb r.number o.number lt))))
-      | inr other ↦ elim other [
-        | inl gt ↦ inr (sym same, gt)
-        | inr is ↦ absurd (both_ways (are_one r o) one (and_from (r.rank == o.rank) (r.number == o.number) (eq-eqb r.rank o.rank same) (eq-eqb r.number o.number is)))
-      ]
-    ]
-  ]
-]
+else_behind r o first one = grind (arith, nat_tests)
 
 -- each rank before the later ones
 abbrev pub InOrder : List RankOf → Type 0

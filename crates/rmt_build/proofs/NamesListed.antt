@@ -68,10 +68,8 @@ module _ (p : Program) (lists : List (List Entry)) (plan : Plan) (c : Config) (e
       let r = each_stands p lists plan c (cells_told (length p.nodes) c.stages) entries units stands built refl n t es own table_is es_are own_is e.0 (Contains-item es s.entry e.0 e.1) in
       let place = rising_place es r.3.stand.entry s.entry e.0 e.0 (table_entries p lists n t es entries table_is es_are).rising r.3.entry_is e.1 refl in
       let cell = ap (λ (x : Stand). x.cell) (one_stand (length es) own once r.3.stand s r.3.there there place) in
-      let cell_is = r.3.cell_is in
-      let within = r.3.within in
       let behind = behind_parts t.kind (format_at p n).per plan.placement.parts n r.0 (length c.stages) r.2 in
-      omega (arith, cell, cell_is, within, behind)
+      omega (arith, cell, r.3.cell_is, r.3.within, behind)
 
   -- those of the part in a stage
   there_are : (k : ℕ) → stands_of_part p plan t n k
@@ -164,8 +162,7 @@ module _ (p : Program) (lists : List (List Entry)) (plan : Plan) (c : Config) (e
         let there = subst (λ m. Contains (stands_of_part p plan t m k) s) (sym is.is.node_is) (Contains-get_or (stands_of_part p plan t n k) i d lt) in
         let stand = stand_there p lists plan c entries units stands built n k place stage slot is.is t es own table_is es_are own_is s there e at in
         let size = part_size p lists plan c entries units stands built n k place stage slot is.is t es own table_is es_are own_is in
-        let within = stand.within in
-        let spot = spot_of_part c n k place s.cell stage slot is.is (omega (arith, within, size)) in
+        let spot = spot_of_part c n k place s.cell stage slot is.is (omega (arith, stand.within, size)) in
         let told = stands_told p lists plan c cells entries units stands built refl n t es own table_is es_are own_is e k place s.cell stage slot is.is stand in
         let spot_at : Spot = record { stage = k; place = place; cell = s.cell } in
         let key = tests_as_one (λ (u : Test). u.value) (map (width_of p) t.key) e.tests in

@@ -140,8 +140,7 @@ module _ (p : Program) (lists : List (List Entry)) (plan : Plan) (c : Config) (e
   nodes_apart k stage at i j d lt inside same =
       let a = node_there k i stage d at (omega (arith, lt, inside)) in
       let b = node_there k j stage d at inside in
-      let one = one_place p plan.placement.parts k a.node i j a.listed (b.listed ∙ ap Some (sym b.is ∙ sym same ∙ a.is)) in
-      omega (arith, lt, one)
+      omega (arith, lt, one_place p plan.placement.parts k a.node i j a.listed (b.listed ∙ ap Some (sym b.is ∙ sym same ∙ a.is)))
 
   pub part_of_stage : (n k place : ℕ) (stage : Stage) (slot : SlotUnit) → IsPart c n k place stage slot → parts_among n k 0 0 stage.units ≡ part_at k place (first_code stage place) slot ∷ []
   part_of_stage n k place stage slot part =
@@ -154,8 +153,7 @@ module _ (p : Program) (lists : List (List Entry)) (plan : Plan) (c : Config) (e
   no_part_of_stage n k stage at none =
       no_part n k 0 0 stage.units (λ i d lt same.
       let a = node_there k i stage d at lt in
-      let some = quanta_of_node p plan.placement.parts k i n (a.listed ∙ ap Some (sym a.is ∙ same)) in
-      omega (arith, none, some))
+      omega (arith, none, quanta_of_node p plan.placement.parts k i n (a.listed ∙ ap Some (sym a.is ∙ same))))
 
   module _ (n : ℕ) (t : Table) (table_is : table_at p n ≡ Some t) where
     is_node : n < length p.nodes
@@ -183,8 +181,7 @@ module _ (p : Program) (lists : List (List Entry)) (plan : Plan) (c : Config) (e
     pub each_is_part : All (IsPartOf c n) (parts_of c n)
     each_is_part =
         All-flat_map (IsPartOf c n) (λ (x : ℕ × Stage). parts_among n x.0 0 0 x.1.units) (enumerate_from 0 c.stages) (λ i d lt.
-        let long = length-enumerate_from 0 c.stages in
-        let inside : i < length c.stages = omega (arith, lt, long) in
+        let inside : i < length c.stages = omega (arith, lt, length-enumerate_from 0 c.stages) in
         let item = get_or-enumerate_from 0 c.stages i d inside in
         subst (λ (x : ℕ × Stage). All (IsPartOf c n) (parts_among n x.0 0 0 x.1.units)) (sym item)
         (by (0 + i) (get_or c.stages i d.1) (let e : i ≡ 0 + i = omega arith in subst (λ k. slice_get c.stages k ≡ Some (get_or c.stages i d.1)) e (slice_get-get_or c.stages i d.1 inside))))

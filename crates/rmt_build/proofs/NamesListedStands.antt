@@ -1,8 +1,8 @@
 -- The entries that stand in the parts of a table, part by part, are all that stand in the table.
+use Rattle.std.proofs.lemmas.Bool.Decides.{nat_tests}
 use Rattle.std.proofs.Common.{◌≡◌, ℕ, zero, suc, ◌+◌, ◌<◌, ◌≤◌, ◌∙◌, cond, Bool, true, false, ◌&&◌, List, [], ◌∷◌, ◌++◌, map, get_or, refl, sym, ap, inl, inr, arith}
-use Rattle.std.specs.Prelude.{All, AllPairs, filter, nat_le, nat_lt}
+use Rattle.std.specs.Prelude.{All, AllPairs, filter, nat_lt}
 use Rattle.std.specs.List.{flat_map, range_with_len}
-use Rattle.std.proofs.Math.Bool.{and-false}
 use Rattle.std.proofs.lemmas.Bool.{cases_lt, le-leb, le-ltb, lt-leb, lt-ltb}
 use Rattle.std.proofs.lemmas.List.{append-nil, map-append}
 use Rattle.std.proofs.lemmas.List.Concat.{flat_map-append}
@@ -61,10 +61,7 @@ pub no_cell : (a cells : ℕ) (xs : List Stand) → cells ≡ 0 → filter (stan
 no_cell a cells xs none = filter_none (stands_there a cells) xs (λ i d lt. out (get_or xs i d))
   where
     out : (s : Stand) → stands_there a cells s ≡ false
-    out s = elim (cases_lt s.cell a) [
-      | inl lt ↦ ap (λ b. b && nat_lt s.cell (a + cells)) (lt-leb a s.cell lt)
-      | inr le ↦ ap (λ b. nat_le a s.cell && b) (le-ltb s.cell (a + cells) (omega (arith, le, none))) ∙ and-false (nat_le a s.cell)
-    ]
+    out s = grind (arith, nat_tests, none)
 
 -- ---- part by part
 

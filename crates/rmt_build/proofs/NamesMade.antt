@@ -9,6 +9,7 @@ use Rattle.std.proofs.lemmas.List.Sums.{list_all-from_AllPass, sum_by-append, su
 use Rattle.std.proofs.lemmas.Option.{none-some, same_Some, slice_get-get_or}
 use Rattle.rmt_bits.proofs.AllLaws.{All-flat_map, All-parts, All-slice_get, All-unmap}
 use Rattle.rmt_bits.proofs.ListLaws.{first_from, next_from}
+use Rattle.rmt_bits.proofs.TestLaws.{all_three}
 use Rattle.rmt_build.specs.Types.{Program, Table, Kind, Config, Stage, Unit, SlotUnit, CellNumber, Memory}
 use Rattle.rmt_ast.specs.declared.program.Kind.TheVariants as kind
 use Rattle.rmt_ast.specs.declared.entry.Entry.{Entry}
@@ -76,9 +77,6 @@ keyless_none kind.Ternary q m key h = absurd (false≢true (sym key))
 
 -- ---- tests
 
-all_three : (a b d : Bool) → a ≡ true → b ≡ true → d ≡ true → (a && b && d) ≡ true
-all_three a b d ea eb ed = rw (ea, eb, ed) refl
-
 all_six : (a b d e f g : Bool) → a ≡ true → b ≡ true → d ≡ true → e ≡ true → f ≡ true → g ≡ true → (a && b && d && e && f && g) ≡ true
 all_six a b d e f g ea eb ed ee ef eg = rw (ea, eb, ed, ee, ef, eg) refl
 
@@ -136,10 +134,7 @@ module _ (p : Program) (lists : List (List Entry)) (plan : Plan) (c : Config) (p
         where
           params_fit : (i d : ℕ) → i < length t.actions → sum (params_of p (get_or t.actions i d)) ≤ slot.held
           params_fit i d lt =
-              let fits = data-fits p t i lt in
-              let same = ap (λ a. sum (params_of p a)) (get_or_default t.actions i d 0 lt) in
-              let held = part_held in
-              omega (arith, fits, same, held)
+              omega (arith, data-fits p t i lt, ap (λ a. sum (params_of p a)) (get_or_default t.actions i d 0 lt), part_held)
 
     module _ (key : has_key t.kind ≡ true) where
       abbrev quanta_at : PartAt → ℕ
@@ -189,10 +184,8 @@ module _ (p : Program) (lists : List (List Entry)) (plan : Plan) (c : Config) (p
       -- a row for each entry
       rows_enough : (quanta : ℕ) → (memory_format t.kind (table_need p t)).quanta ≡ quanta → t.size ≤ quanta * 2048 → nat_le t.size (2048 * sum (map quanta_at (parts_of c n))) ≡ true
       rows_enough quanta format enough =
-          let most = parts_quanta in
-          let all = is.exact n within in
           let own : (format_at p n).quanta ≡ quanta = ap (λ (f : Format). f.quanta) (format_is p program n t at) ∙ format in
-          le-leb t.size (2048 * sum (map quanta_at (parts_of c n))) (omega (arith, most, all, own, enough))
+          le-leb t.size (2048 * sum (map quanta_at (parts_of c n))) (omega (arith, parts_quanta, is.exact n within, own, enough))
 
       rows_there : (es : List Entry) (kd : Kind) → t.kind ≡ kd → has_rows c kd (table_named p n es t) ≡ true
       rows_there es kind.Keyless same = refl

@@ -88,8 +88,7 @@ module _ (p : Program) (lists : List (List Entry)) (plan : Plan) (c : Config) (e
   -- in a slot
   slot_numbers : (k place : ℕ) (stage : Stage) (s : SlotUnit) → slice_get c.stages k ≡ Some stage → slice_get stage.units place ≡ Some (Slot s) → AllPairs ◌≢◌ (map (λ (n : CellNumber). n.number) s.numbers)
   slot_numbers k place stage s at unit_is i j d lt inside same =
-      let long = length-map s.numbers (λ (n : CellNumber). n.number) in
-      let in_j : j < length s.numbers = omega (arith, inside, long) in
+      let in_j : j < length s.numbers = omega (arith, inside, length-map s.numbers (λ (n : CellNumber). n.number)) in
       let in_i : i < length s.numbers = omega (arith, in_j, lt) in
       let z : CellNumber = record { cell = 0; number = d } in
       let a = get_or s.numbers i z in
@@ -99,10 +98,9 @@ module _ (p : Program) (lists : List (List Entry)) (plan : Plan) (c : Config) (e
       let one : NumberAt k place b.number stage (Slot s) = record { slot = s; part = part; number = a; there = Contains-get_or s.numbers i z in_i; is = equal } in
       let two : NumberAt k place b.number stage (Slot s) = record { slot = s; part = part; number = b; there = Contains-get_or s.numbers j z in_j; is = refl } in
       let is = one_number k k place place b.number stage stage (Slot s) (Slot s) one two in
-      let apart = slot_apart p lists plan c entries units stands built s.node k place stage s part in
       let many = length-map s.numbers (cell_told k) in
       let told = cell_told k z in
-      apart i j told lt (omega (arith, many, in_j))
+      (slot_apart p lists plan c entries units stands built s.node k place stage s part) i j told lt (omega (arith, many, in_j))
       (get_or-map (cell_told k) s.numbers i z told in_i ∙ both k a b equal is.cell ∙ sym (get_or-map (cell_told k) s.numbers j z told in_j))
     where
       both : (m : ℕ) (a b : CellNumber) → a.number ≡ b.number → a.cell ≡ b.cell → cell_told m a ≡ cell_told m b
@@ -132,10 +130,7 @@ module _ (p : Program) (lists : List (List Entry)) (plan : Plan) (c : Config) (e
       (let u = flat_from numbers_of_unit s.units a in_a in
       let v = flat_from numbers_of_unit t.units b in_b in
       let one = number_at_unit j u.0 b s u.1 at_s u.2 (subst (Contains (numbers_of_unit u.1)) same u.3) in
-      let two = number_at_unit k v.0 b t v.1 at_t v.2 v.3 in
-      let is = one_number j k u.0 v.0 b s t u.1 v.1 one two in
-      let stage = is.stage in
-      omega (arith, stage, lt)))
+      omega (arith, (one_number j k u.0 v.0 b s t u.1 v.1 one (number_at_unit k v.0 b t v.1 at_t v.2 v.3)).stage, lt)))
 
   pub entries_numbered : entries_are_numbered c ≡ true
   entries_numbered = new_of [] (entry_numbers c) all_numbers (λ m there in_xs. (let lt = there.1 in omega (arith, lt)))

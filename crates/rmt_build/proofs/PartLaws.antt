@@ -1,9 +1,8 @@
 -- What stands of a node in a stage, and in the stages before.
-use Rattle.std.proofs.Common.{◌≡◌, ℕ, ◌+◌, ◌<◌, cond, eqb, ◌&&◌, List, [], ◌∷◌, length, get_or, drop, refl, sym, ap, ◌∙◌, inl, inr, arith}
+use Rattle.std.proofs.lemmas.Bool.Decides.{nat_tests}
+use Rattle.std.proofs.Common.{◌≡◌, ℕ, ◌+◌, ◌<◌, cond, eqb, ◌&&◌, List, [], ◌∷◌, length, get_or, drop, refl, sym, ap, ◌∙◌, arith}
 use Rattle.std.specs.Prelude.{All, AllPairs, nat_lt, sum_by}
 use Rattle.std.specs.List.{range_with_len}
-use Rattle.std.proofs.Math.Bool.{and-false}
-use Rattle.std.proofs.lemmas.Bool.{cases_eq, eq-eqb, ne_eqb}
 use Rattle.std.proofs.lemmas.List.{at_drop_more, get_or-drop, get_or_default, length-drop}
 use Rattle.std.proofs.lemmas.List.Elements.{All-head, All-tail}
 use Rattle.std.proofs.lemmas.List.Sums.{sum_by-append, sum_by-cons}
@@ -17,27 +16,13 @@ use Rattle.rmt_build.specs.Plans.{parts_before, quanta_before}
 
 -- a part of another node, or in another stage
 quanta_apart : (x : Part) (xs : List Part) (n k : ℕ) → (x.node ≡ n → x.stage ≡ k → ⊥) → quanta_in (x ∷ xs) n k ≡ quanta_in xs n k
-quanta_apart x xs n k absent = elim (cases_eq x.node n) [
-  | inl same ↦ elim (cases_eq x.stage k) [
-    | inl here ↦ absurd (absent same here)
-    | inr elsewhere ↦
-        let first : quanta_in (x ∷ xs) n k ≡ 0 + quanta_in xs n k =
-        sum_by-cons (λ (y : Part). cond (eqb y.node n && eqb y.stage k) y.quanta 0) x xs ∙ (ap (λ b. cond (eqb x.node n && b) x.quanta 0 + quanta_in xs n k) (ne_eqb x.stage k elsewhere)
-        ∙ ap (λ b. cond b x.quanta 0 + quanta_in xs n k) (and-false (eqb x.node n))) in
-        omega (arith, first)
-  ]
-  | inr other ↦
-      let first : quanta_in (x ∷ xs) n k ≡ 0 + quanta_in xs n k =
-      sum_by-cons (λ (y : Part). cond (eqb y.node n && eqb y.stage k) y.quanta 0) x xs ∙ ap (λ b. cond (b && eqb x.stage k) x.quanta 0 + quanta_in xs n k) (ne_eqb x.node n other) in
-      omega (arith, first)
-]
+quanta_apart x xs n k absent =
+    grind (arith, nat_tests, sum_by-cons (λ (y : Part). cond (eqb y.node n && eqb y.stage k) y.quanta 0) x xs, absent)
 
 -- a part of the node in the stage
 quanta_here : (x : Part) (xs : List Part) (n k : ℕ) → x.node ≡ n → x.stage ≡ k → quanta_in (x ∷ xs) n k ≡ x.quanta + quanta_in xs n k
 quanta_here x xs n k same here =
-    sum_by-cons (λ (y : Part). cond (eqb y.node n && eqb y.stage k) y.quanta 0) x xs
-    ∙ (ap (λ b. cond (b && eqb x.stage k) x.quanta 0 + quanta_in xs n k) (eq-eqb x.node n same)
-    ∙ ap (λ b. cond b x.quanta 0 + quanta_in xs n k) (eq-eqb x.stage k here))
+    grind (arith, nat_tests, sum_by-cons (λ (y : Part). cond (eqb y.node n && eqb y.stage k) y.quanta 0) x xs, same, here)
 
 quanta_none : (xs : List Part) (n k : ℕ) → All (λ (y : Part). y.node ≡ n → y.stage ≡ k → ⊥) xs → quanta_in xs n k ≡ 0
 quanta_none [] n k none = refl
@@ -72,10 +57,9 @@ quanta_found parts i d n k lt apart same here =
 
 pub sum_more : (f : ℕ → ℕ) (k : ℕ) → sum_by f (range_with_len 0 (k + 1)) ≡ sum_by f (range_with_len 0 k) + f k
 sum_more f k =
-    let one = sum_by-cons f (0 + k) [] in
     let all = ap (sum_by f) (range_more 0 k) ∙ sum_by-append f (range_with_len 0 k) ((0 + k) ∷ []) in
     let same : f (0 + k) ≡ f k = ap f (omega arith) in
-    omega (arith, one, all, same)
+    omega (arith, sum_by-cons f (0 + k) [], all, same)
 
 pub quanta_more : (parts : List Part) (n k : ℕ) → quanta_before parts n (k + 1) ≡ quanta_before parts n k + quanta_in parts n k
 quanta_more parts n k = sum_more (quanta_in parts n) k

@@ -1,19 +1,17 @@
 -- Nodes that are placed so that they keep every edge and limit, and their starts.
-use Rattle.std.proofs.Common.{◌≡◌, ℕ, zero, suc, ◌+◌, ◌<◌, ◌≤◌, List, [], ◌∷◌, Ok, get_or, length, map, refl, sym, ap, subst, ◌∙◌, arith}
+use Rattle.std.proofs.Common.{◌≡◌, ℕ, ◌+◌, ◌<◌, ◌≤◌, List, Ok, length, refl, sym, ap, subst, ◌∙◌, arith}
 use Rattle.std.specs.Prelude.{All}
 use Rattle.std.proofs.lemmas.List.{length-map}
 use Rattle.rmt_bits.specs.declared.lane.Lane.{Lane}
 use Rattle.rmt_bits.proofs.FunctionLaws.{funext}
 use Rattle.rmt_ast.specs.declared.deps.Edge.{Edge}
-use Rattle.rmt_build.specs.Types.{Program, Node, What}
-use Rattle.rmt_ast.specs.declared.program.What.TheVariants.{Apply, Gate}
+use Rattle.rmt_build.specs.Types.{Program}
 use Rattle.rmt_ast.specs.WellFormed.{IsProgram}
 use Rattle.rmt_deps.specs.Edges.{GoForward, dependencies_of, field_edges}
 use Rattle.rmt_deps.specs.Levels as levels
 use Rattle.rmt_deps.proofs.EdgeLaws.{go_forward}
 use Rattle.rmt_pack.specs.declared.format.Format.{Format}
 use Rattle.rmt_pack.specs.declared.placement.Part.{Part}
-use Rattle.rmt_pack.specs.Formats.{no_memory}
 use Rattle.rmt_pack.specs.Placements.{IsLegalWith, quanta_of, taken_in}
 use Rattle.rmt_place.specs.Needs.{demands_of}
 use Rattle.rmt_place.specs.Placing.{IsGoodOrder, placement, rule_order}
@@ -23,22 +21,13 @@ use Rattle.rmt_place.proofs.LeastLaws.{greatest-le, items-le, length-until}
 use Rattle.rmt_place.proofs.LegalLaws as legal
 use Rattle.rmt_place.proofs.LegalPlacement.{kept_legal, node_quanta}
 use Rattle.rmt_build.specs.Plans.{AreParts}
-use Rattle.rmt_filling.specs.Formats.{format_at, what_format}
+use Rattle.rmt_filling.specs.Formats.{format_at}
 use Rattle.rmt_build.specs.Stages.{ArePlaced}
 
 -- ---- formats
 
-what_same : (p : Program) (w : What) → legal.what_format p w ≡ what_format p w
-what_same p (Apply t) = refl
-what_same p (Gate field test) = refl
-
-nodes_same : (p : Program) (nodes : List Node) (n : ℕ) → get_or (map (λ (node : Node). legal.what_format p node.what) nodes) n no_memory ≡ get_or (map (λ (node : Node). what_format p node.what) nodes) n no_memory
-nodes_same p [] n = refl
-nodes_same p (node ∷ nodes) zero = what_same p node.what
-nodes_same p (node ∷ nodes) (suc n) = nodes_same p nodes n
-
 pub format_same : (p : Program) (n : ℕ) → legal.format_at p n ≡ format_at p n
-format_same p n = nodes_same p p.nodes n
+format_same p n = refl
 
 taken_same : (p : Program) (parts : List Part) (f g : ℕ → ℕ) (k : ℕ) → ((n : ℕ) → f n ≡ g n) → taken_in p parts f k ≡ taken_in p parts g k
 taken_same p parts f g k same = ap (λ h. taken_in p parts h k) (funext f g same)

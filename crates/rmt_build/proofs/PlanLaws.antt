@@ -1,10 +1,13 @@
 -- What a plan gives to the parts of a table.
-use Rattle.std.proofs.Common.{◌≡◌, ◌≢◌, ℕ, zero, suc, Bool, true, false, cond, ◌+◌, ◌-◌, ◌*◌, ◌≤◌, ◌<◌, List, Some, length, map, get_or, refl, sym, ap, subst, ◌∙◌, arith}
+use Rattle.std.proofs.Common.{◌≡◌, ◌≢◌, ℕ, Bool, ◌+◌, ◌-◌, ◌*◌, ◌≤◌, ◌<◌, List, Some, length, map, get_or, refl, sym, ap, subst, ◌∙◌, arith}
 use Rattle.std.specs.Prelude.{Option, nat_lt, option_map, slice_get, sum_by, unwrap_or}
 use Rattle.std.specs.List.{range_with_len}
 use Rattle.std.proofs.lemmas.List.{get_or_default, length-map}
 use Rattle.std.proofs.lemmas.Option.{get_or_from_slice_get, slice_get-map, slice_get_within}
+use Rattle.std.proofs.lemmas.List.FromFn.{length-range_with_len}
+use Rattle.std.proofs.lemmas.List.Sums.{count_by-le-length, sum_by-append}
 use Rattle.rmt_bits.proofs.AllLaws.{All-slice_get}
+use Rattle.rmt_bits.proofs.ListLaws.{range-append}
 use Rattle.rmt_build.specs.Types.{Program, Test, Table, Kind, Node}
 use Rattle.rmt_ast.specs.declared.program.Kind.TheVariants.{Keyless, Exact, Prefix, Ternary}
 use Rattle.rmt_pack.specs.declared.format.Need.{Need}
@@ -12,39 +15,24 @@ use Rattle.rmt_ast.specs.WellFormed.{IsProgram, IsTable}
 use Rattle.rmt_pack.specs.declared.format.Format.{Format}
 use Rattle.rmt_pack.specs.declared.placement.Part.{Part}
 use Rattle.rmt_pack.specs.Formats.{HasNeed, IsFormat, memory_format, no_memory}
-use Rattle.rmt_pack.specs.Placements.{quanta_in, table_need}
-use Rattle.rmt_pack.proofs.NeedLaws.{table_has_need}
+use Rattle.rmt_pack.specs.Placements.{quanta_in, table_need, what_format}
+use Rattle.rmt_pack.proofs.NeedLaws.{table_has_need, memory_format-is}
 use Rattle.rmt_refine.specs.Units.{table_at}
 use Rattle.rmt_ast.specs.declared.program.What.TheVariants.{Gate}
 use Rattle.rmt_filling.specs.declared.memory.PartNeed.{PartNeed}
 use Rattle.rmt_filling.specs.Memories.{HasRoom, blocks_for, sram_for, taken_behind, tcam_for}
 use Rattle.rmt_build.specs.Plans.{AreParts, need_in, parts_before, taken_upto}
-use Rattle.rmt_filling.specs.Formats.{format_at, formats_of, what_format}
-use Rattle.rmt_build.proofs.MemoryLaws.{IsNeedOf, few_quanta, format_of_kind, quantum_of, sram_is, tcam_is}
-use Rattle.rmt_build.proofs.PartLaws.{parts_more, sum_more}
+use Rattle.rmt_filling.specs.Formats.{format_at, formats_of}
+use Rattle.rmt_build.proofs.MemoryLaws.{IsNeedOf, few_quanta, quantum_of, sram_is, tcam_is}
+use Rattle.rmt_build.proofs.PartLaws.{sum_more}
 use Rattle.rmt_build.proofs.UnitLaws.{node_applies}
 
-at_most_one : (b : Bool) → cond {A = ℕ} b 1 0 ≤ 1
-at_most_one true = omega arith
-at_most_one false = omega arith
-
 -- the sum up to a number is no more than that up to a greater one
-sum_upto : (f : ℕ → ℕ) (m d : ℕ) → sum_by f (range_with_len 0 m) ≤ sum_by f (range_with_len 0 (m + d))
-sum_upto f m zero =
-    let there : m + 0 ≡ m = omega arith in
-    let same : sum_by f (range_with_len 0 (m + 0)) ≡ sum_by f (range_with_len 0 m) = ap (λ k. sum_by f (range_with_len 0 k)) there in
-    omega (arith, same)
-sum_upto f m (suc d) =
-    let there : m + suc d ≡ m + d + 1 = omega arith in
-    let same : sum_by f (range_with_len 0 (m + suc d)) ≡ sum_by f (range_with_len 0 (m + d + 1)) = ap (λ k. sum_by f (range_with_len 0 k)) there in
-    let more = sum_more f (m + d) in
-    let rest = sum_upto f m d in
-    omega (arith, same, more, rest)
-
 pub sum_within : (f : ℕ → ℕ) (m n : ℕ) → m ≤ n → sum_by f (range_with_len 0 m) ≤ sum_by f (range_with_len 0 n)
 sum_within f m n le =
     let there : m + (n - m) ≡ n = omega (arith, le) in
-    subst (λ k. sum_by f (range_with_len 0 m) ≤ sum_by f (range_with_len 0 k)) there (sum_upto f m (n - m))
+    let split = ap (sum_by f) (ap (range_with_len 0) (sym there) ∙ range-append 0 m (n - m)) ∙ sum_by-append f (range_with_len 0 m) (range_with_len (0 + m) (n - m)) in
+    omega (arith, split)
 
 nothing_taken : (p : Program) (parts : List Part) (k n : ℕ) → quanta_in parts n k * (format_at p n).sram ≡ 0 → quanta_in parts n k * (format_at p n).tcam ≡ 0
     → taken_upto p parts k n ≡ taken_upto p parts k (n + 1)
@@ -56,15 +44,8 @@ nothing_taken p parts k n sram tcam =
     ap (λ s. record { sram = s; tcam = (taken_upto p parts k n).tcam }) one ∙ ap (λ s. record { sram = (taken_upto p parts k (n + 1)).sram; tcam = s }) two
 
 -- there are no more parts than stages
-parts-le : (parts : List Part) (n k : ℕ) → parts_before parts n k ≤ k
-parts-le parts n zero = omega arith
-parts-le parts n (suc k) =
-    let there : suc k ≡ k + 1 = omega arith in
-    let same : parts_before parts n (suc k) ≡ parts_before parts n (k + 1) = ap (parts_before parts n) there in
-    let more = parts_more parts n k in
-    let one = at_most_one (nat_lt 0 (quanta_in parts n k)) in
-    let rest = parts-le parts n k in
-    omega (arith, same, more, one, rest)
+pub parts-le : (parts : List Part) (n k : ℕ) → parts_before parts n k ≤ k
+parts-le parts n k = omega (arith, count_by-le-length (λ j. nat_lt 0 (quanta_in parts n j)) (range_with_len 0 k), length-range_with_len 0 k)
 
 key_few : (kind : Kind) (t : Need) → HasNeed kind t → kind ≢ Keyless → t.key ≤ 640
 key_few Keyless t need keyed = absurd (keyed refl)
@@ -111,7 +92,7 @@ module _ (p : Program) (good : IsProgram p) (n : ℕ) (t : Table) (at : table_at
       ∙ (ap (what_format p) a.does ∙ ap (λ (o : Option Table). unwrap_or (option_map (λ (x : Table). memory_format x.kind (table_need p x)) o) no_memory) a.table)
 
   pub is_format : IsFormat t.kind (table_need p t) (format_at p n)
-  is_format = subst (IsFormat t.kind (table_need p t)) (sym format_is) (format_of_kind t.kind (table_need p t) has_need)
+  is_format = subst (IsFormat t.kind (table_need p t)) (sym format_is) (memory_format-is t.kind (table_need p t) has_need)
 
   -- few cells a row
   pub few_per : t.kind ≢ Keyless → (format_at p n).per < 100
@@ -151,14 +132,12 @@ module _ (p : Program) (good : IsProgram p) (n : ℕ) (t : Table) (at : table_at
     pub sram_fits : AreParts p parts → (taken_upto p parts k n).sram + sram_for t.kind (blocks_for t.kind (need_in p parts t n k)) ≤ 106
     sram_fits is =
         let f = λ (m : ℕ). quanta_in parts m k * (format_at p m).sram in
-        let all = is.sram k in
-        omega (arith, part_sram, sum_more f n, sum_within f (n + 1) (length p.nodes) (omega (arith, node_there)), all)
+        omega (arith, part_sram, sum_more f n, sum_within f (n + 1) (length p.nodes) (omega (arith, node_there)), is.sram k)
 
     pub tcam_fits : AreParts p parts → (taken_upto p parts k n).tcam + tcam_for t.kind (blocks_for t.kind (need_in p parts t n k)) ≤ 16
     tcam_fits is =
         let f = λ (m : ℕ). quanta_in parts m k * (format_at p m).tcam in
-        let all = is.tcam k in
-        omega (arith, part_tcam, sum_more f n, sum_within f (n + 1) (length p.nodes) (omega (arith, node_there)), all)
+        omega (arith, part_tcam, sum_more f n, sum_within f (n + 1) (length p.nodes) (omega (arith, node_there)), is.tcam k)
 
     -- a table with a key has few quanta in a stage
     pub few_in : AreParts p parts → t.kind ≢ Keyless → quanta_in parts n k ≤ 106
@@ -182,8 +161,7 @@ module _ (p : Program) (good : IsProgram p) (n : ℕ) (t : Table) (at : table_at
   -- the node of the table
   pub formats_long : (formats : List Format) → formats ≡ formats_of p → n < length formats
   formats_long formats is =
-      let long = length-map p.nodes (λ (node : Node). what_format p node.what) in
-      omega (arith, ap length is, long, node_there)
+      omega (arith, ap length is, length-map p.nodes (λ (node : Node). what_format p node.what), node_there)
 
   pub format_seen : (formats : List Format) (d : Format) → formats ≡ formats_of p → get_or formats n d ≡ format_at p n
   format_seen formats d is = ap (λ (fs : List Format). get_or fs n d) is ∙ get_or_default (formats_of p) n d no_memory (formats_long (formats_of p) refl)

@@ -1,8 +1,9 @@
 -- What a configuration that is built by a plan keeps beside carrying the program: formats by the rule, and rows by rank.
-use Rattle.std.proofs.Common.{◌≡◌, ℕ, zero, suc, ◌+◌, ◌*◌, ◌<◌, ◌≤◌, ◌==◌, ◌&&◌, ◌||◌, Bool, true, false, cond, List, [], ◌∷◌, Some, length, map, get_or, refl, sym, ap, ◌∙◌, subst, inl, inr, arith}
-use Rattle.std.specs.Prelude.{Contains, count_by, nat_lt, slice_get, sum_by}
+use Rattle.std.proofs.lemmas.Bool.Decides.{nat_tests}
+use Rattle.std.proofs.Common.{◌≡◌, ℕ, zero, suc, ◌+◌, ◌*◌, ◌<◌, ◌≤◌, Bool, true, false, cond, List, [], ◌∷◌, Some, length, map, get_or, refl, sym, ap, ◌∙◌, subst, inl, inr, arith}
+use Rattle.std.specs.Prelude.{Contains, count_by, slice_get, sum_by}
 use Rattle.std.specs.List.{range_with_len}
-use Rattle.std.proofs.lemmas.Bool.{cases_eq, eq-eqb, lt-ltb, or_right}
+use Rattle.std.proofs.lemmas.Bool.{cases_eq}
 use Rattle.std.proofs.lemmas.List.Elements.{Contains-get_or, All-contains}
 use Rattle.std.proofs.lemmas.List.{get_or-map, length-map}
 use Rattle.std.proofs.lemmas.List.FromFn.{get_or-range_with_len, length-range_with_len}
@@ -48,10 +49,8 @@ memory_format_is Ternary need taken = tt
 pub goes_true : (kind : Kind) (e f : Entry) → GoesFirst kind e f → goes_first kind e f ≡ true
 goes_true Keyless e f goes = absurd goes
 goes_true Exact e f goes = absurd goes
-goes_true Prefix e f (inl more) = ap (λ b. b || ((e.rank == f.rank) && nat_lt e.number f.number)) (lt-ltb f.rank e.rank more)
-goes_true Prefix e f (inr (same, lt)) = or_right (nat_lt f.rank e.rank) _ (ap (λ b. b && nat_lt e.number f.number) (eq-eqb e.rank f.rank same) ∙ lt-ltb e.number f.number lt)
-goes_true Ternary e f (inl less) = ap (λ b. b || ((e.rank == f.rank) && nat_lt e.number f.number)) (lt-ltb e.rank f.rank less)
-goes_true Ternary e f (inr (same, lt)) = or_right (nat_lt e.rank f.rank) _ (ap (λ b. b && nat_lt e.number f.number) (eq-eqb e.rank f.rank same) ∙ lt-ltb e.number f.number lt)
+goes_true Prefix e f goes = grind (arith, nat_tests, goes)
+goes_true Ternary e f goes = grind (arith, nat_tests, goes)
 
 -- ---- the number of a row
 
@@ -63,13 +62,11 @@ count_front test [] (suc i) d le front back = absurd (omega (arith, le))
 count_front test (x ∷ xs) zero d le front back =
     let rest = count_front test xs zero d (omega arith) (λ j lt. absurd (omega (arith, lt))) (λ j low lt. back (suc j) (omega arith) (omega (arith, lt))) in
     let here : ◌≡◌ {A = ℕ} (cond (test x) 1 0) 0 = ap (λ b. cond b 1 0) (back 0 (omega arith) (omega arith)) in
-    let sum = sum_by-cons (λ y. cond (test y) 1 0) x xs in
-    omega (arith, rest, here, sum)
+    omega (arith, rest, here, sum_by-cons (λ y. cond (test y) 1 0) x xs)
 count_front test (x ∷ xs) (suc i) d le front back =
     let rest = count_front test xs i d (omega (arith, le)) (λ j lt. front (suc j) (omega (arith, lt))) (λ j low lt. back (suc j) (omega (arith, low)) (omega (arith, lt))) in
     let here : ◌≡◌ {A = ℕ} (cond (test x) 1 0) 1 = ap (λ b. cond b 1 0) (front 0 (omega arith)) in
-    let sum = sum_by-cons (λ y. cond (test y) 1 0) x xs in
-    omega (arith, rest, here, sum)
+    omega (arith, rest, here, sum_by-cons (λ y. cond (test y) 1 0) x xs)
 
 -- a sum over a list is one over its places
 sum_places : {X : Type 0} (f : X → ℕ) (xs : List X) (d : X) → sum_by f xs ≡ sum_by (λ j. f (get_or xs j d)) (range_with_len 0 (length xs))
@@ -110,9 +107,8 @@ module _ (kind : Kind) (es : List Entry) (own : List Stand) (order : StandInOrde
   place_is =
       let at : get_or own there.0 s ≡ s = there.2 in
       let less = there.1 in
-      let all = long in
       sym (ap (λ (r : Stand). r.cell) at) ∙ sym (get_or-map (λ (r : Stand). r.cell) own there.0 s 0 less) ∙ ap (λ xs. get_or xs there.0 0) order.rows
-      ∙ get_or-range_with_len 0 (length es) there.0 0 (omega (arith, less, all)) ∙ omega arith
+      ∙ get_or-range_with_len 0 (length es) there.0 0 (omega (arith, less, long)) ∙ omega arith
 
   known : (j : ℕ) → j < length own → slice_get es (get_or own j s).entry ≡ Some (get_or es (get_or own j s).entry e)
   known j lt =

@@ -1,8 +1,8 @@
 -- What is the first refusal of a program that the parser, the actions and the fields fit.
-use Rattle.std.proofs.Common.{◌≡◌, ◌≢◌, ◌∙◌, ℕ, List, Option, Some, None, Result, Ok, Err, refl, sym, ap, subst}
+use Rattle.std.proofs.Common.{◌≡◌, ◌≢◌, ◌∙◌, ℕ, List, Option, Some, None, Result, Ok, Err, refl, sym, ap}
 use Rattle.std.proofs.lemmas.Option.{none-some, same_Some}
 use Rattle.std.specs.Option.{option_or}
-use Rattle.std.specs.Prelude.{⊤, IfErr, IfOk, option_map}
+use Rattle.std.specs.Prelude.{⊤, IfOk, option_map}
 use Rattle.rmt_bits.specs.declared.lane.Lane.{Lane}
 use Rattle.rmt_build.specs.Types.{Program}
 use Rattle.rmt_config.specs.declared.limits.LimitHit.{LimitHit}
@@ -16,11 +16,11 @@ use Rattle.rmt_ptcam.specs.Needs.{refusal, unless}
 use Rattle.rmt_vliw.specs.declared.fault.ActionDeep.{ActionDeep}
 use Rattle.rmt_build.specs.declared.built.Built.{Built}
 use Rattle.rmt_build.specs.declared.fault.NoFit.{NoFit}
-use Rattle.rmt_build.specs.declared.fault.NoFit.TheVariants as no_fit
 use Rattle.rmt_build.specs.Folds.{first_deep}
 use Rattle.rmt_build.specs.Refusals.{action_told, first_refusal, packed_told, parser_told, stuck_told}
 use Rattle.rmt_build.specs.Stages.{LiesSo}
-use Rattle.rmt_bits.proofs.OptionLaws.{same_Ok}
+use Rattle.rmt_bits.proofs.OptionLaws.{done_not_failed}
+use Rattle.rmt_build.specs.declared.fault.NoFit.TheVariants as no_fit
 
 -- then the nodes are looked at
 pub then_placed : (p : Program) (places : List (List Lane)) → refusal p ≡ None → first_deep 0 p.actions ≡ None → packing p ≡ Ok places
@@ -50,9 +50,6 @@ given_or : {X E : Type 0} → X → Result X E → X
 given_or d (Ok x) = x
 given_or d (Err e) = d
 
-pub done_not_failed : {X E : Type 0} (x : X) (e : E) → (let r : Result X E = Ok x in r) ≢ Err e
-done_not_failed {X} {E} x e is = subst (λ (r : Result X E). IfErr r (λ _. ⊥)) is tt
-
 -- a program that the parser fits isn't refused
 pub not_refused : (o : Option ParserFault) → (let r : Result ⊤ ParserFault = Ok tt in r) ≡ unless o tt → o ≡ None
 not_refused None is = refl
@@ -62,10 +59,6 @@ not_refused (Some fault) is = absurd (done_not_failed tt fault is)
 pub by_rule : {X E : Type 0} (x y : X) (none : E) (rule : Result X E) → ((let r : Result X E = Ok x in r) ≢ Err none → Ok x ≡ rule) → rule ≡ Ok y → x ≡ y
 unfolding given_or
 by_rule x y none rule made is = ap (given_or x) (made (done_not_failed x none) ∙ is)
-
--- what holds of a program's places holds of all that are given as them
-pub of_packing : (p : Program) (P : List (List Lane) → Type 0) (places : List (List Lane)) → packing p ≡ Ok places → P places → (other : List (List Lane)) → packing p ≡ Ok other → P other
-of_packing p P places packed holds other given = subst P (same_Ok places other (sym packed ∙ given)) holds
 
 -- the placement by the rule, or the parts that were handed in
 pub placed_there : (p : Program) (places : List (List Lane)) (placed : Placement) (r : Result Built NoFit) → placement p places (dependencies_of p places) ≡ Ok placed.parts

@@ -30,10 +30,8 @@ use Rattle.rmt_refine.proofs.RankLaws.{compare}
 pub rising_place : (es : List Entry) (i j : ℕ) (e f : Entry) → AllPairs (λ (a b : Entry). a.number < b.number) es → slice_get es i ≡ Some e → slice_get es j ≡ Some f → e.number ≡ f.number → i ≡ j
 rising_place es i j e f rise at_i at_j same = elim (compare i j) [
   | inl lt ↦ absurd (let less = before i j e f lt at_i at_j in omega (arith, less, same))
-  | inr more ↦ elim more [
-    | inl gt ↦ absurd (let less = before j i f e gt at_j at_i in omega (arith, less, same))
-    | inr is ↦ is
-  ]
+  | inr (inl gt) ↦ absurd (let less = before j i f e gt at_j at_i in omega (arith, less, same))
+  | inr (inr is) ↦ is
 ]
   where
     before : (a b : ℕ) (x y : Entry) → a < b → slice_get es a ≡ Some x → slice_get es b ≡ Some y → x.number < y.number
@@ -125,8 +123,7 @@ module _ (p : Program) (lists : List (List Entry)) (plan : Plan) (c : Config) (e
           let known = within_from (first_cell t.kind (format_at p n).per plan.placement.parts n k) (part_cells t.kind (format_at p n).per plan.placement.parts n k) own y.0
           (subst (λ xs. Contains xs y.0) part_stands y.1) in
           let below = entry_within (length es) own (stands.each n es own es_are own_is) known.0 known.1 in
-          let same = known.2 in
-          let e = slice_get-item es y.0.entry (omega (arith, below, same)) in (
+          let e = slice_get-item es y.0.entry (omega (arith, below, known.2)) in (
             e.0,
             Contains-item es y.0.entry e.0 e.1,
             sym (number_of y.0 e.0 e.1) ∙ ap (λ (z : CellNumber). z.number) y.2,

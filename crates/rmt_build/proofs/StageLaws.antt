@@ -1,9 +1,9 @@
 -- A stage whose rows list what was written holds the entries of its slots, and keeps the rules of form of rows.
-use Rattle.std.proofs.Common.{◌≡◌, ◌≢◌, ℕ, zero, suc, ◌<◌, List, [], ◌∷◌, Some, None, Bool, true, false, ◌&&◌, ◌||◌, length, get_or, map, refl, sym, ap, subst, ◌∙◌, arith}
-use Rattle.std.specs.Prelude.{All, Contains, Option, ◌==◌, not, nat_lt, bit_and, option_and_then, slice_get}
+use Rattle.rmt_bits.proofs.MemberLaws.{Contains-flat_map, Contains-item, list_any-Contains}
+use Rattle.std.proofs.Common.{◌≡◌, ◌≢◌, ℕ, zero, suc, ◌<◌, List, [], ◌∷◌, Some, None, Bool, true, false, ◌&&◌, length, get_or, map, refl, sym, ap, subst, ◌∙◌, arith}
+use Rattle.std.specs.Prelude.{All, Option, ◌==◌, not, nat_lt, bit_and, option_and_then, slice_get}
 use Rattle.std.specs.List.{flat_map, list_all}
-use Rattle.std.proofs.lemmas.Bool.{lt-ltb, eq-eqb, ne_eqb, and_from}
-use Rattle.std.proofs.lemmas.List.Elements.{Contains-append_left, Contains-append_right}
+use Rattle.std.proofs.lemmas.Bool.{lt-ltb, eq-eqb, ne_eqb, and_from, false≢true}
 use Rattle.std.proofs.lemmas.Option.{none-some, same_Some}
 use Rattle.rmt_build.specs.Types.{Program, Table, Stage, SramRow, TcamRow, Unit, SlotUnit, Memory}
 use Rattle.rmt_ast.specs.declared.entry.Entry.{Entry}
@@ -105,31 +105,15 @@ module _ (p : Program) (lists : List (List Entry)) (plan : Plan) (k : ℕ) (stag
 
   -- ---- the rows
 
-  not-listed : (b : ℕ) (bs : List ℕ) → is_listed b bs ≡ false → Contains bs b → ⊥
-  not-listed b [] none has = let lt = has.1 in omega (arith, lt)
-  not-listed b (x ∷ xs) none (zero, lt, e) = absurd (other (x == b) (is_listed b xs) (eq-eqb x b e) none)
-    where
-      other : (u v : Bool) → u ≡ true → (u || v) ≡ false → ⊥
-      other true v e f = cc
-      other false v e f = cc
-  not-listed b (x ∷ xs) none (suc i, lt, e) = not-listed b xs (rest (x == b) (is_listed b xs) none) (i, omega (arith, lt), e)
-    where
-      rest : (u v : Bool) → (u || v) ≡ false → v ≡ false
-      rest true v f = absurd cc
-      rest false v f = f
-
-  in-flat : (blocks : Unit → List ℕ) (units : List Unit) (place : ℕ) (u : Unit) (b : ℕ) → slice_get units place ≡ Some u → Contains (blocks u) b → Contains (flat_map blocks units) b
-  in-flat blocks [] place u b at has = absurd (none-some u at)
-  in-flat blocks (v ∷ vs) zero u b at has = Contains-append_left (blocks v) (flat_map blocks vs) b (subst (λ (x : Unit). Contains (blocks x) b) (sym (same_Some v u at)) has)
-  in-flat blocks (v ∷ vs) (suc i) u b at has = Contains-append_right (blocks v) (flat_map blocks vs) b (in-flat blocks vs i u b at has)
-
   -- a block with a row that isn't 0 is listed
   listed : (blocks : Unit → List ℕ) (b x : ℕ) → x ≢ 0 → (IsOutside blocks stage.units (length stage.units) b → x ≡ 0) → is_listed b (flat_map blocks stage.units) ≡ true
   listed blocks b x some none = look (is_listed b (flat_map blocks stage.units)) refl
     where
       look : (v : Bool) → is_listed b (flat_map blocks stage.units) ≡ v → v ≡ true
       look true e = refl
-      look false e = absurd (some (none (λ place u lt at has. not-listed b (flat_map blocks stage.units) e (in-flat blocks stage.units place u b at has))))
+      look false e = absurd (some (none (λ place u lt at has.
+          let there = Contains-flat_map blocks stage.units u b (Contains-item stage.units place u at) has in
+          false≢true (sym e ∙ list_any-Contains (λ c. c == b) (flat_map blocks stage.units) b there (eq-eqb b b refl)))))
 
   not-zero : (x : ℕ) → x ≢ 0 → not (x == 0) ≡ true
   not-zero x ne = ap not (ne_eqb x 0 ne)

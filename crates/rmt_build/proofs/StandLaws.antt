@@ -76,15 +76,13 @@ module _ (count : ℕ) (own : List Stand) (once : StandOnce count own) where
         | inl first_s ↦ elim (Contains-split x xs r in_r) [
           | inl first_r ↦ sym first_s ∙ first_r
           | inr later_r ↦
-              let less = later_apart x r xs rise later_r in
               let here : x.cell ≡ s.cell = ap (λ (u : Stand). u.cell) first_s in
-              absurd (omega (arith, less, here, same))
+              absurd (omega (arith, later_apart x r xs rise later_r, here, same))
         ]
         | inr later_s ↦ elim (Contains-split x xs r in_r) [
           | inl first_r ↦
-              let less = later_apart x s xs rise later_s in
               let here : x.cell ≡ r.cell = ap (λ (u : Stand). u.cell) first_r in
-              absurd (omega (arith, less, here, same))
+              absurd (omega (arith, later_apart x s xs rise later_s, here, same))
           | inr later_r ↦ rising_same xs s r (λ i j d lt inside. rise (suc i) (suc j) d (omega (arith, lt)) (omega (arith, inside))) later_s later_r same
         ]
       ]
@@ -135,19 +133,16 @@ module _ (kind : Kind) (per : ℕ) (parts : List Part) (n : ℕ) where
   first_rises : (d k : ℕ) → first_cell k ≤ first_cell (k + d)
   first_rises zero k = let e : k + 0 ≡ k = omega arith in subst (λ j. first_cell k ≤ first_cell j) (sym e) (omega arith)
   first_rises (suc d) k =
-      let rest = first_rises d k in
-      let next = first_next (k + d) in
       let e : k + d + 1 ≡ k + suc d = omega arith in
-      subst (λ j. first_cell k ≤ first_cell j) e (omega (arith, rest, next))
+      subst (λ j. first_cell k ≤ first_cell j) e (omega (arith, first_rises d k, first_next (k + d)))
 
   -- a cell lies in one part
   pub behind_parts : (j k : ℕ) → j < k → first_cell j + part_cells j ≤ first_cell k
   behind_parts j k lt =
       let rest = first_rises (k - (j + 1)) (j + 1) in
       let e : j + 1 + (k - (j + 1)) ≡ k = omega (arith, lt) in
-      let next = first_next j in
       let all : first_cell (j + 1) ≤ first_cell k = subst (λ i. first_cell (j + 1) ≤ first_cell i) e rest in
-      omega (arith, all, next)
+      omega (arith, all, first_next j)
 
   -- and a cell below the first one of a stage lies in a part of an earlier one
   pub some_part : (stages x : ℕ) → x < first_cell stages → (k : ℕ) × (k < stages) × (first_cell k ≤ x) × (x < first_cell k + part_cells k)

@@ -31,15 +31,10 @@ module _ (edges : List Edge) (parts : List Part) (count : ℕ) (room : (k : ℕ)
     rise = λ j k lt within.
         (let long = length-map-range_with_len (λ i. 12 * i) 0 count in
         let in_k : k < count = omega (arith, within, long) in
-        let at_j = wide_at count j (omega (arith, lt, in_k)) in
-        let at_k = wide_at count k in_k in
-        omega (arith, at_j, at_k, lt));
+        omega (arith, wide_at count j (omega (arith, lt, in_k)), wide_at count k in_k, lt));
     apart = λ e j k there in_j in_k lt.
         (let within = room k e there in_k in
-        let at_j = wide_at count j (omega (arith, lt, within)) in
-        let at_k = wide_at count k within in
-        let most = distance_le e.kind in
-        omega (arith, at_j, at_k, lt, most));
+        omega (arith, wide_at count j (omega (arith, lt, within)), wide_at count k within, lt, distance_le e.kind));
   }
 
   -- so the least starts come no later
@@ -47,7 +42,5 @@ module _ (edges : List Edge) (parts : List Part) (count : ℕ) (room : (k : ℕ)
       → ((others : List ℕ) → KeepDistances edges parts others → length starts ≤ length others → (k : ℕ) → k < length starts → slice_index starts k ≤ slice_index others k)
       → (k : ℕ) → k < length starts → slice_index starts k ≤ 12 * k
   early starts long least k lt =
-      let other = length-map-range_with_len (λ i. 12 * i) 0 count in
-      let le = least (wide count) wide_keeps (omega (arith, long, other)) k lt in
       let at = wide_at count k (omega (arith, lt, long)) in
-      omega (arith, le, at)
+      omega (arith, least (wide count) wide_keeps (omega (arith, long, length-map-range_with_len (λ i. 12 * i) 0 count)) k lt, at)

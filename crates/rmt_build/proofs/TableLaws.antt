@@ -1,7 +1,8 @@
 -- The cells of each table hold its entries, as the map tells.
+use Rattle.std.proofs.lemmas.Bool.Decides.{nat_tests}
 use Rattle.std.proofs.Common.{◌≡◌, ◌≢◌, ℕ, ◌*◌, ◌<◌, ◌==◌, true, false, List, Option, Some, None, length, map, get_or, refl, sym, ap, ◌∙◌, subst, ◌⊎◌, inl, inr, arith}
 use Rattle.std.specs.Prelude.{All, Contains, IsSomeAnd, ⊤, find, option_and_then, option_map, slice_get, unwrap_or}
-use Rattle.std.proofs.lemmas.Bool.{both_ways, eq-eqb, eqb-true, le-ltb, ne_eqb}
+use Rattle.std.proofs.lemmas.Bool.{both_ways, eq-eqb, eqb-true, le-ltb}
 use Rattle.std.proofs.Math.Bool.{and-false}
 use Rattle.std.proofs.lemmas.List.{get_or_default}
 use Rattle.std.proofs.lemmas.List.Elements.{Contains-get_or, All-contains}
@@ -88,10 +89,8 @@ some_stand xs cell = by (find (λ (y : Stand). y.cell == cell) xs) refl
 pub goes_back : (kind : Kind) (e f : Entry) → GoesFirst kind e f → goes_first kind f e ≡ false
 goes_back Keyless e f goes = refl
 goes_back Exact e f goes = refl
-goes_back Prefix e f (inl more) = rw (le-ltb e.rank f.rank (omega (arith, more)), ne_eqb f.rank e.rank (λ s. omega (arith, s, more))) refl
-goes_back Prefix e f (inr (same, lt)) = rw (le-ltb e.rank f.rank (omega (arith, same)), le-ltb f.number e.number (omega (arith, lt))) (and-false (f.rank == e.rank))
-goes_back Ternary e f (inl less) = rw (le-ltb f.rank e.rank (omega (arith, less)), ne_eqb f.rank e.rank (λ s. omega (arith, s, less))) refl
-goes_back Ternary e f (inr (same, lt)) = rw (le-ltb f.rank e.rank (omega (arith, same)), le-ltb f.number e.number (omega (arith, lt))) (and-false (f.rank == e.rank))
+goes_back Prefix e f goes = grind (arith, nat_tests, goes)
+goes_back Ternary e f goes = grind (arith, nat_tests, goes)
 
 pub goes_itself : (kind : Kind) (e : Entry) → goes_first kind e e ≡ false
 goes_itself Keyless e = refl
@@ -113,17 +112,15 @@ in_front kind es own e f s r order once in_s in_r at_s at_r first = elim (compar
       let less = once.rise in_s.0 in_r.0 s lt in_r.1 in
       let r_is : get_or own in_r.0 s ≡ r = get_or_default own in_r.0 s r in_r.1 ∙ in_r.2 in
       subst (λ (x : Stand). x.cell < r.cell) in_s.2 (subst (λ (y : Stand). (get_or own in_s.0 s).cell < y.cell) r_is less)
-  | inr more ↦ elim more [
-    | inl gt ↦
-        let s_is : get_or own in_s.0 r ≡ s = get_or_default own in_s.0 r s in_s.1 ∙ in_s.2 in
-        let goes = order.order in_r.0 in_s.0 r gt in_s.1 f e (ap (λ (x : Stand). slice_get es x.entry) in_r.2 ∙ at_r) (ap (λ (x : Stand). slice_get es x.entry) s_is ∙ at_s) in
-        absurd (both_ways (goes_first kind e f) (goes_back kind f e goes) first)
-    | inr same ↦
-        let r_is : get_or own in_r.0 s ≡ r = get_or_default own in_r.0 s r in_r.1 ∙ in_r.2 in
-        let both : s ≡ r = sym in_s.2 ∙ ap (λ i. get_or own i s) same ∙ r_is in
-        let entry : e ≡ f = same_Some e f (sym at_s ∙ ap (λ (x : Stand). slice_get es x.entry) both ∙ at_r) in
-        absurd (both_ways (goes_first kind e e) (goes_itself kind e) (subst (λ (x : Entry). goes_first kind e x ≡ true) (sym entry) first))
-  ]
+  | inr (inl gt) ↦
+      let s_is : get_or own in_s.0 r ≡ s = get_or_default own in_s.0 r s in_s.1 ∙ in_s.2 in
+      let goes = order.order in_r.0 in_s.0 r gt in_s.1 f e (ap (λ (x : Stand). slice_get es x.entry) in_r.2 ∙ at_r) (ap (λ (x : Stand). slice_get es x.entry) s_is ∙ at_s) in
+      absurd (both_ways (goes_first kind e f) (goes_back kind f e goes) first)
+  | inr (inr same) ↦
+      let r_is : get_or own in_r.0 s ≡ r = get_or_default own in_r.0 s r in_r.1 ∙ in_r.2 in
+      let both : s ≡ r = sym in_s.2 ∙ ap (λ i. get_or own i s) same ∙ r_is in
+      let entry : e ≡ f = same_Some e f (sym at_s ∙ ap (λ (x : Stand). slice_get es x.entry) both ∙ at_r) in
+      absurd (both_ways (goes_first kind e e) (goes_itself kind e) (subst (λ (x : Entry). goes_first kind e x ≡ true) (sym entry) first))
 ]
 
 row_candidates : (kind : Kind) (need : PartNeed) (taken : Taken) (seed bits key cell : ℕ) → (kind ≡ Exact → ⊥) → cell < cells_for kind need.format.per need.quanta
@@ -262,10 +259,9 @@ module _ (p : Program) (lists : List (List Entry)) (plan : Plan) (c : Config) (c
                 let b = slot_built p lists plan c entries units stands built n at.stage at.place stage slot part t es own table_is es_are own_is in
                 let need = need_in p plan.placement.parts t slot.node at.stage in
                 let size = part_size p lists plan c entries units stands built n at.stage at.place stage slot part t es own table_is es_are own_is in
-                let lt = s.within in
                 let all = ap (λ m. part_cells t.kind (format_at p m).per plan.placement.parts m at.stage) part.node_is in
                 subst (λ (m : Memory). Contains (candidates c.seed (bits_of_lanes slot.keys) m key) at.cell) (sym b.memory)
-                (row_candidates t.kind need (taken_upto p plan.placement.parts at.stage slot.node) c.seed (bits_of_lanes slot.keys) key at.cell other (omega (arith, lt, all)))
+                (row_candidates t.kind need (taken_upto p plan.placement.parts at.stage slot.node) c.seed (bits_of_lanes slot.keys) key at.cell other (omega (arith, s.within, all)))
           ]))
         where
           exact_or : (kind : Kind) → (kind ≡ Exact) ⊎ (kind ≡ Exact → ⊥)
@@ -283,16 +279,11 @@ module _ (p : Program) (lists : List (List Entry)) (plan : Plan) (c : Config) (c
           let order = in_rows n t es own table_is (has_rows t.kind e f first) es_are own_is in
           let less : sa.stand.cell < sb.stand.cell =
           in_front t.kind es own e f sa.stand sb.stand order (stands.each n es own es_are own_is) sa.there sb.there sa.entry_is sb.entry_is first in
-          let cell_a = sa.cell_is in
-          let cell_b = sb.cell_is in
           let lt_a = sa.within in
-          let lt_b = sb.within in
           elim (compare a.stage b.stage) [
             | inl lt ↦ inl lt
-            | inr more ↦ elim more [
-              | inl gt ↦ absurd (let behind = behind_parts t.kind per parts n b.stage a.stage gt in omega (arith, behind, less, cell_a, cell_b, lt_b))
-              | inr same ↦ inr (same, (let at = ap (first_cell t.kind per parts n) same in omega (arith, less, cell_a, cell_b, at)))
-            ]
+            | inr (inl gt) ↦ absurd (let behind = behind_parts t.kind per parts n b.stage a.stage gt in omega (arith, behind, less, sa.cell_is, sb.cell_is, sb.within))
+            | inr (inr same) ↦ inr (same, (let at = ap (first_cell t.kind per parts n) same in omega (arith, less, sa.cell_is, sb.cell_is, at)))
           ]
 
       pub table_cells : TableCellsCarried p c (own_view c) cells n t (map (width_of p) t.key) es

@@ -90,12 +90,11 @@ module _ (p : Program) (lists : List (List Entry)) (parts : List Part) (seed : �
   is_full n members cells entries within h =
       let t = some_and (table_at p n) (λ (x : Table). (x.kind ≡ Exact) × (own : List ℕ) × IsOverfull (layout_of p parts n) seed (keys_of p x (entries_at lists n)) own cells × (members ≡ length own)) h in
       let node = slice_get-item p.nodes n within in
-      let list = list_at p lists n node.0 entries node.1 in
       record {
         table = t.0;
         entries = entries_at lists n;
         own = t.2.1;
-        applies = record { table = t.1; exact = t.2.0; entries = list.0 };
+        applies = record { table = t.1; exact = t.2.0; entries = (list_at p lists n node.0 entries node.1).0 };
         overfull = t.2.2;
         many = t.2.3;
       }

@@ -1,9 +1,9 @@
 -- The units of a stage, whose entries are written one unit after another.
-use Rattle.std.proofs.Common.{◌≡◌, ℕ, ◌+◌, ◌<◌, List, [], ◌∷◌, Some, length, get_or, take, zero, suc, sym, ap, subst, ◌∙◌, arith, inl, inr}
+use Rattle.std.proofs.Common.{◌≡◌, ℕ, ◌+◌, ◌<◌, List, Some, length, get_or, take, sym, ap, subst, ◌∙◌, arith, inl, inr}
 use Rattle.std.specs.Prelude.{AllPairs, Contains, slice_get, sum_by}
 use Rattle.std.proofs.lemmas.Bool.{cases_eq}
 use Rattle.std.proofs.lemmas.List.Sums.{sum_by_more}
-use Rattle.std.proofs.lemmas.Option.{get_or_from_slice_get, none-some, same_Some}
+use Rattle.std.proofs.lemmas.Option.{get_or_from_slice_get, same_Some, slice_get_within}
 use Rattle.rmt_build.specs.Types.{Program, Table, Node, Unit, GateUnit, SlotUnit}
 use Rattle.rmt_ast.specs.declared.entry.Entry.{Entry}
 use Rattle.rmt_config.specs.declared.config.Unit.TheVariants.{Gate, Slot}
@@ -20,9 +20,7 @@ use Rattle.rmt_build.proofs.UnitLaws.{node_applies}
 
 -- an item of a list at its place
 pub below : {X : Type 0} (xs : List X) (i : ℕ) (x : X) → slice_get xs i ≡ Some x → (i < length xs) × ((d : X) → get_or xs i d ≡ x)
-below [] i x at = absurd (none-some x at)
-below (y ∷ ys) zero x at = (omega arith, λ d. same_Some y x at)
-below (y ∷ ys) (suc i) x at = let more = below ys i x at in (let lt = more.0 in omega (arith, lt), more.1)
+below xs i x at = (slice_get_within xs i x at, λ d. get_or_from_slice_get xs i x d at)
 
 module _ (p : Program) (lists : List (List Entry)) (plan : Plan) (k : ℕ) (units : List Unit) where
   -- a gate has no memory

@@ -14,7 +14,7 @@ use Rattle.rmt_config.specs.declared.config.Unit.TheVariants.{Gate, Slot}
 use Rattle.rmt_config.specs.declared.config.Memory.TheVariants as memory
 use Rattle.rmt_config.specs.Form.{Formed}
 use Rattle.rmt_config.specs.Limits.{IsWithinLimits}
-use Rattle.rmt_config.specs.Resources.{unit_sram, unit_tcam}
+use Rattle.rmt_config.specs.Resources.{unit_sram}
 use Rattle.rmt_deps.specs.Edges.{field_edges}
 use Rattle.rmt_pack.specs.declared.format.Format.{Format}
 use Rattle.rmt_pack.specs.declared.placement.Part.{Part}
@@ -27,6 +27,7 @@ use Rattle.rmt_refine.specs.declared.map.CellOf.{CellOf}
 use Rattle.rmt_refine.specs.declared.map.Map.{Map}
 use Rattle.rmt_refine.specs.Carries.{all_edges}
 use Rattle.rmt_config.specs.Instructions.{first_code}
+use Rattle.rmt_config.specs.StageForm.{tcam_blocks}
 use Rattle.rmt_refine.specs.Units.{table_at}
 use Rattle.rmt_refine.specs.View.{slot_of}
 use Rattle.rmt_vliw.specs.Coded.{ActionsFold, TableCoded}
@@ -44,7 +45,7 @@ AreNumbered blocks = blocks ≡ range_with_len 0 (length blocks)
 -- so are those of the units of a stage: of each unit in turn the key blocks, the record blocks and the counter blocks
 pub record HasBlocksInOrder (stage : Stage) : Type 0 where
   pub sram : AreNumbered (flat_map unit_sram stage.units)
-  pub tcam : AreNumbered (flat_map unit_tcam stage.units)
+  pub tcam : AreNumbered (flat_map tcam_blocks stage.units)
 
 -- an exact memory has the format of the rule
 abbrev pub HasFormat : Format → Memory → Type 0

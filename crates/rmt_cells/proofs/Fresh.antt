@@ -26,7 +26,7 @@ times_same cell x xs same =
     let one : ◌≡◌ {A = ℕ} (cond (eqb x cell) 1 0) 1 = ap (λ (b : Bool). cond b 1 0) (eq-eqb x cell same) in
     omega (arith, times_cons cell x xs, one)
 
-times_before : (cell a k : ℕ) → cell < a → times cell (range_with_len a k) ≡ 0
+pub times_before : (cell a k : ℕ) → cell < a → times cell (range_with_len a k) ≡ 0
 times_before cell a zero lt = refl
 times_before cell a (suc k) lt = times_other cell a (range_with_len (a + 1) k) (λ same. omega arith) ∙ times_before cell (a + 1) k (omega arith)
 

@@ -1,5 +1,5 @@
 -- What cells hold: chains, each with its bytes, and free cells.
-use Rattle.std.specs.Prelude.{◌≡◌, ℕ, ◌+◌, ◌<◌, ◌≤◌, List, ◌++◌, length, sum_by, Contains}
+use Rattle.std.specs.Prelude.{◌≡◌, ℕ, ◌+◌, ◌<◌, ◌≤◌, List, ◌++◌, length, sum_by, Contains, [], ◌∷◌, Option, Some, None}
 use Rattle.std.specs.List.{flat_map}
 use Rattle.rmt_cells.specs.declared.cells.Cells.{Cells}
 use Rattle.rmt_cells.specs.declared.cells.Chain.{Chain}
@@ -41,3 +41,8 @@ pub record Stands (count : ℕ) (held : List Held) (cells : Cells) : Type 0 wher
   pub within : (cell : ℕ) → count ≤ cell → times cell (free_cells cells ++ held_cells cells.links.items held) ≡ 0
   pub all : cells.free + cells_held held ≡ count
   pub holds : (h : Held) → Contains held h → Holds cells h
+
+-- a chain with its bytes, if one is there
+abbrev pub held_if : Option Chain → List ℕ → List Held
+held_if None bytes = []
+held_if (Some chain) bytes = record { chain = chain; bytes = bytes } ∷ []

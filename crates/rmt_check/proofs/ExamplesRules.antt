@@ -2,10 +2,11 @@
 use Rattle.std.proofs.Common.{◌≡◌, ℕ, [], ◌∷◌, List, codes, None, Some, map, replicate, refl}
 use Rattle.std.specs.List.{flat_map, range_with_len}
 use Rattle.rmt_ast.specs.declared.program.Kind.TheVariants.{Prefix}
+use Rattle.rmt_lexer.specs.Text.{first_place}
 use Rattle.rmt_check.specs.Parts.{FieldText, CaseText, HeaderText, AssignText, KeyText, NodeText, Source}
 use Rattle.rmt_check.specs.declared.source.TargetText.TheVariants as target
 use Rattle.rmt_check.specs.declared.source.LeafText.TheVariants as leaf
-use Rattle.rmt_check.specs.Rules.{broken_5, broken_6, broken_7, broken_8, broken_9, broken_10, broken_11, broken_12, broken_13, broken_14, broken_15, broken_16, broken_17, broken_18, broken_19, broken_20, broken_21, fault_of, text_start}
+use Rattle.rmt_check.specs.Rules.{broken_5, broken_6, broken_7, broken_8, broken_9, broken_10, broken_11, broken_12, broken_13, broken_14, broken_15, broken_16, broken_17, broken_18, broken_19, broken_20, broken_21, fault_of}
 use Rattle.rmt_check.proofs.ExampleText.{at, ident, number, declared, of_header, of_meta, of_all, value, header_h, header_g, header_o, meta, one, assign, action_set, action_hop, add_one, key, table_t, apply_t, text}
 
 abbrev with_headers : List HeaderText → Source
@@ -117,7 +118,7 @@ too_wide_argument : broken_17 (record text { tables = record (table_t key) { arg
 too_wide_argument = refl
 
 -- code 18: no header, no size
-no_headers : broken_18 (with_headers []) ≡ text_start ∷ []
+no_headers : broken_18 (with_headers []) ≡ first_place ∷ []
 no_headers = refl
 
 no_size : broken_18 (with_key (record key { size = number 57 0 })) ≡ at 57 ∷ []

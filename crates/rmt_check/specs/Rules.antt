@@ -4,6 +4,7 @@ use Rattle.std.specs.Prelude.{ℕ, ◌+◌, ◌-◌, ◌*◌, ◌%◌, ◌^◌, 
 use Rattle.std.specs.List.{flat_map, list_any, enumerate_from}
 use Rattle.std.specs.Option.{option_to_list, option_or, is_none}
 use Rattle.std.specs.Str.{bytes_eq}
+use Rattle.rmt_lexer.specs.Text.{first_place}
 use Rattle.rmt_check.specs.Parts.{Kind, Op, Position, Ident, Number, Declared, OwnerText, FieldText, ValueText, TargetText, CaseText, TailText, HeaderText, MetaText, LeafText, Sign, AssignText, ActionText, KeyText, TableText, ArmText, WhatText, NodeText, Source}
 use Rattle.rmt_ast.specs.declared.program.Kind.TheVariants.{Prefix}
 use Rattle.rmt_ast.specs.declared.program.Op.TheVariants.{Add, Sub, And, Or, Xor}
@@ -316,16 +317,12 @@ bad_cases h = flat_map (bad_case h) h.cases
 abbrev pub broken_17 : Source → List Position
 broken_17 s = flat_map bad_cases s.headers ++ flat_map (bad_default s) s.tables
 
--- the first place of a text
-abbrev pub text_start : Position
-text_start = record { line = 1; column = 1 }
-
 abbrev pub bad_table_size : Option KeyText → List Position
 bad_table_size None = []
 bad_table_size (Some k) = when (not (nat_le 1 k.size.value && nat_le k.size.value 1048576)) k.size.place
 
 abbrev pub no_header : Source → List Position
-no_header s = when (length s.headers == 0) text_start
+no_header s = when (length s.headers == 0) first_place
 
 abbrev pub many_headers : Source → List Position
 many_headers s = map (λ (h : HeaderText). h.ident.place) (drop 64 s.headers)

@@ -21,11 +21,11 @@ use Rattle.rmt_config.specs.CodeForm.{places_of, source_is_formed, kind_is_forme
 use Rattle.rmt_config.specs.StageForm.{srow_fits, trow_fits, stage_is_formed, starts_are_formed, stages_are_formed}
 use Rattle.rmt_config.specs.TailForm.{has_length_field, has_greatest_length, is_tail_of, tails_are_formed, tails_have_headers}
 use Rattle.rmt_config.specs.Form.{items_are_formed}
-use Rattle.rmt_config.specs.Resources.{is_slot, is_gate}
+use Rattle.rmt_config.specs.Resources.{is_slot, is_gate, unit_data}
 use Rattle.rmt_config.specs.Limits.{last_start_hit, IsWithinLimits}
 use Rattle.rmt_config.proofs.LimitLaws.{within, KeepsLimits, limits_kept}
 use Rattle.rmt_ptcam.specs.Fitting.{IsEntry, IsTailOf, IsParser}
-use Rattle.rmt_chip.specs.Runnable.{LaneFits, source_fits, OperationFits, InstructionFits, data_bits, StageFits, start_of, StagesFit, HeaderFits, IsRunnable}
+use Rattle.rmt_chip.specs.Runnable.{LaneFits, source_fits, OperationFits, InstructionFits, StageFits, start_of, StagesFit, HeaderFits, IsRunnable}
 use Rattle.rmt_chip.proofs.ReadingLaws.{lane_fits, stage_reads}
 
 -- ---- lanes
@@ -166,7 +166,7 @@ slot_is_short s e =
     let t = and_parts (front && held) keys r.0 in
     ltb-true s.held 65536 (and_parts front held t.0).1
 
-unit_is_short : (u : ChipUnit) → unit_is_formed u ≡ true → data_bits u < 65536
+unit_is_short : (u : ChipUnit) → unit_is_formed u ≡ true → unit_data u < 65536
 unit_is_short (Gate g) e = lit< tt
 unit_is_short (Slot s) e = slot_is_short s (and_parts (slot_head_is_formed s) (memory_is_formed s s.memory) e).0
 
@@ -255,7 +255,7 @@ stage_fits s e slots gates =
     let parts = stage_parts s e in
     record {
       reads = stage_reads s parts.0 slots gates;
-      short = All-weaker _ (λ u. data_bits u < 65536) unit_is_short s.units (AllPass-from_list_all unit_is_formed s.units parts.0);
+      short = All-weaker _ (λ u. unit_data u < 65536) unit_is_short s.units (AllPass-from_list_all unit_is_formed s.units parts.0);
       code = All-from_recursion InstructionFits s.code (code_fits (places_of s.units) s.code parts.1);
     }
 

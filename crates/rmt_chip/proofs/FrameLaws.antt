@@ -10,9 +10,9 @@ use Rattle.rmt_cells.specs.declared.cells.Cells.{Cells}
 use Rattle.rmt_cells.specs.declared.cells.Chain.{Chain}
 use Rattle.rmt_cells.specs.Links.{after}
 use Rattle.rmt_cells.specs.Pieces.{piece, cells_for}
-use Rattle.rmt_cells.specs.Stands.{Held, Holds, Stands, cells_held}
+use Rattle.rmt_cells.specs.Stands.{Held, Holds, Stands, cells_held, held_if}
 use Rattle.rmt_cells.proofs.Spelling.{length-piece}
-use Rattle.rmt_chip.specs.Frames.{spelt, bytes_in, held_if, held_frames, AreFrames, frame_cells, frames_in}
+use Rattle.rmt_chip.specs.Frames.{spelt, bytes_in, held_frames, AreFrames, frame_cells, frames_in}
 
 -- ---- the bytes of a chain are told by the cells
 

@@ -1,5 +1,5 @@
 -- In its own cells a formed configuration's look-ups are its own, whatever the version: of each occupied cell both visible bits are set, or none counts.
-use Rattle.std.proofs.Common.{◌≡◌, ℕ, zero, suc, ◌+◌, ◌/◌, ◌%◌, ◌^◌, ◌<◌, Bool, true, false, not, ◌&&◌, ◌||◌, ◌==◌, List, [], ◌∷◌, Option, Some, None, refl, sym, ap, subst, ◌∙◌, arith}
+use Rattle.std.proofs.Common.{◌≡◌, ℕ, zero, suc, ◌+◌, ◌<◌, Bool, true, false, not, ◌&&◌, ◌||◌, ◌==◌, List, [], ◌∷◌, Option, Some, None, refl, sym, ap, subst, ◌∙◌}
 use Rattle.std.specs.Prelude.{All, bit_and, find, is_some, option_and_then, option_map, slice_get}
 use Rattle.std.specs.List.{list_all, list_any}
 use Rattle.std.proofs.lemmas.Bool.{and_parts, eqb-true}
@@ -17,7 +17,7 @@ use Rattle.rmt_config.specs.RunCells.{as_slot, found_at, found_in_slot, has_bit,
 use Rattle.rmt_memory.proofs.CandidateLaws.{occupied-listed, slot-within}
 use Rattle.rmt_memory.proofs.MemoriesLaws.{SlotPlace, slot_place}
 use Rattle.rmt_bits.proofs.FindLaws.{find-alike}
-use Rattle.rmt_config.proofs.RunCellLaws.{content_is, same_found}
+use Rattle.rmt_config.proofs.RunCellLaws.{content_is, same_found, both_show}
 
 -- ---- the slots of a formed configuration hold cells with both visible bits, where it has names
 
@@ -46,16 +46,6 @@ passed p (x ∷ xs) n e all = by (x == n) refl e (and_parts (p x) (list_all p xs
         → (list_any (λ m. m == n) xs ≡ true → list_all p xs ≡ true → p n ≡ true) → p n ≡ true
     by true is e parts rest = subst (λ m. p m ≡ true) (eqb-true x n is) parts.0
     by false is e parts rest = rest (let f : list_any (λ m. m == n) (x ∷ xs) ≡ true = e in rw is at f) parts.1
-
-both-bits : (m head : ℕ) → m < 2 → head / 2 % 4 ≡ 3 → head / 2 ^ (1 + m) % 2 ≡ 1
-both-bits zero head lt three = omega arith
-both-bits (suc zero) head lt three = omega arith
-both-bits (suc (suc m)) head lt three = absurd (omega (arith, lt))
-
-bit-set : (version head : ℕ) → visible_bits head ≡ 3 → has_bit version head ≡ true
-bit-set version head three =
-    let one : head / 2 ^ (1 + version % 2) % 2 ≡ 1 = both-bits (version % 2) head (omega arith) three in
-    ap (λ n. n == 1) one
 
 -- with names both bits are set
 both-with : (c : Config) → is_some c.names ≡ true → visible_with c.names ≡ 3
@@ -86,7 +76,7 @@ module _ (c : Config) (formed : Formed c) (version k place : ℕ) (slot : SlotUn
       let heads = (and_parts _ _ has.1.numbers).1 in
       let form : head_is_formed (visible_with c.names) has.0 slot.actions head ≡ true = passed (λ m. head_is_formed (visible_with c.names) has.0 slot.actions (content_of at.stage slot m).head) (cells_of slot) n listed heads in
       let bits : (visible_bits head == visible_with c.names) ≡ true = (and_parts _ _ (and_parts _ _ (and_parts _ _ form).0).0).1 in
-      bit-set version head (eqb-true (visible_bits head) (visible_with c.names) bits ∙ both-with c e)
+      both_show version head (eqb-true (visible_bits head) (visible_with c.names) bits ∙ both-with c e)
 
   seen-is : (n : ℕ) → n < cells_in slot.memory → sees (is_some c.names) version (content_of at.stage slot n).head ≡ is_occupied (content_of at.stage slot n).head
   seen-is n lt = by (is_occupied (content_of at.stage slot n).head) refl

@@ -1,8 +1,8 @@
 -- Where each cycle has a packet or nothing, the answers, the counters and what is seen are those of the configuration's own cells.
-use Rattle.std.proofs.Common.{◌≡◌, ℕ, zero, suc, ◌+◌, ◌-◌, ◌<◌, ◌≤◌, Bool, true, false, cond, ltb, leb, List, [], ◌∷◌, ◌++◌, length, map, take, Option, Some, None, refl, sym, ap, subst, ◌∙◌, ⊎_elim, arith}
+use Rattle.std.proofs.Common.{◌≡◌, ℕ, zero, suc, ◌+◌, ◌-◌, ◌<◌, ◌≤◌, Bool, true, false, cond, ltb, List, [], ◌∷◌, ◌++◌, length, map, take, Option, Some, None, refl, sym, ap, subst, ◌∙◌, ⊎_elim, arith}
 use Rattle.std.specs.Prelude.{fold, is_some, nat_lt, option_and_then, option_map, slice_get, ◌||◌}
 use Rattle.std.specs.List.{count_by, flat_map}
-use Rattle.std.proofs.lemmas.Bool.{cases_lt, lt-ltb, le-ltb, le-leb}
+use Rattle.std.proofs.lemmas.Bool.{cases_lt, lt-ltb, le-ltb, le-leb, lt-leb}
 use Rattle.std.proofs.lemmas.List.{append-nil, length-map, map-append, take_all}
 use Rattle.std.proofs.lemmas.List.Sums.{count_by-le-length, sum_by-cons}
 use Rattle.std.proofs.lemmas.Option.{slice_get-map}
@@ -86,9 +86,6 @@ count-front (suc m) (x ∷ inputs) =
     ∙ ap (λ n. cond (is_some x) 1 0 + n) (count-front m inputs)
     ∙ sym (sum_by-cons (λ (o : Option Packet). cond (is_some o) 1 0) x (take m inputs))
 
-leb-no : (a b : ℕ) → b < a → leb a b ≡ false
-leb-no a b h = grind (arith, h)
-
 -- the packet of an input
 abbrev inner : Option (Option Packet) → Option Packet
 inner o = option_and_then (λ (input : Option Packet). input) o
@@ -133,7 +130,7 @@ module _ (c : Config) (formed : Formed c) (inputs : List (Option Packet)) (age :
       (λ (gone : l < age).
       subst (λ (b : Bool). ShowsPacket c age n (cond (ltb cycle age || b) None there) seen) (sym (lt-ltb l age gone))
       (subst (λ (o : Option Packet). ShowsPacket c age n o seen) (sym (either (ltb cycle age) there))
-      (not-shown n (subst (λ (b : Bool). Shows c age (cond b (entered_at c run (length run) age) None) seen) (leb-no age l gone) shows))))
+      (not-shown n (subst (λ (b : Bool). Shows c age (cond b (entered_at c run (length run) age) None) seen) (lt-leb age l gone) shows))))
       (λ (within : age ≤ l).
       let flying : Shows c age (entered_at c run (length run) age) seen = subst (λ (b : Bool). Shows c age (cond b (entered_at c run (length run) age) None) seen) (le-leb age l within) shows in
       ⊎_elim

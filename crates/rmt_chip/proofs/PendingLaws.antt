@@ -4,6 +4,7 @@ use Rattle.std.specs.Prelude.{slice_index, slice_get, option_map, unwrap_or}
 use Rattle.rmt_chip.specs.Types.{Stage, Unit}
 use Rattle.rmt_config.specs.declared.config.Unit.TheVariants.{Gate, Slot}
 use Rattle.rmt_config.specs.Life.{Look, Words, acts_of}
+use Rattle.rmt_config.specs.Resources.{unit_data}
 use Rattle.std.proofs.lemmas.Bool.{cases_eq, false≢true}
 use Rattle.rmt_memory.specs.declared.looked.Looked.{Looked}
 use Rattle.rmt_chip.specs.declared.pending.Pending.{Pending}
@@ -18,13 +19,13 @@ use Rattle.rmt_chip.specs.Ran.{CountsAlso}
 use Rattle.rmt_chip.specs.Pending.{HasRoomFor, HaveRoomFor, looked_at, running_at, due_at}
 use Rattle.std.proofs.lemmas.List.{length-set}
 use Rattle.rmt_memory.specs.Looked.{HaveRoom, AllLooked, held_bytes}
-use Rattle.rmt_chip.specs.Runnable.{StageFits, data_bits}
+use Rattle.rmt_chip.specs.Runnable.{StageFits}
 
 -- records of at most 8,192 bytes
 abbrev pub AreShort : List Looked → Type 0
 AreShort looked = All (λ (l : Looked). length l.held.items ≤ 8192) looked
 
-few_held : (u : Unit) → data_bits u < 65536 → held_bytes u ≤ 8192
+few_held : (u : Unit) → unit_data u < 65536 → held_bytes u ≤ 8192
 few_held (Gate g) h = omega arith
 few_held (Slot s) h = omega (arith, h)
 

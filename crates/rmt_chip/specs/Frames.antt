@@ -4,7 +4,7 @@ use Rattle.rmt_cells.specs.declared.cells.Cells.{Cells}
 use Rattle.rmt_cells.specs.declared.cells.Chain.{Chain}
 use Rattle.rmt_cells.specs.Links.{after}
 use Rattle.rmt_cells.specs.Pieces.{cells_for}
-use Rattle.rmt_cells.specs.Stands.{Held, Stands}
+use Rattle.rmt_cells.specs.Stands.{Held, Stands, held_if}
 
 -- the bytes in the first n cells of a chain
 abbrev pub spelt : Cells → Chain → ℕ → List ℕ
@@ -16,11 +16,6 @@ spelt cells chain (suc n) =
 abbrev pub bytes_in : Cells → Option Chain → List ℕ
 bytes_in cells None = []
 bytes_in cells (Some chain) = spelt cells chain (cells_for chain.len)
-
--- a chain with its bytes, if one is there
-abbrev pub held_if : Option Chain → List ℕ → List Held
-held_if None bytes = []
-held_if (Some chain) bytes = record { chain = chain; bytes = bytes } ∷ []
 
 -- the chains of frames, each with its bytes
 abbrev pub held_frames : List (Option Chain) → List (List ℕ) → List Held

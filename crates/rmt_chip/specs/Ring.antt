@@ -1,8 +1,8 @@
 -- The ring of packet slots: an age is a place counted back from the newest, around so many places.
 use Rattle.std.specs.Prelude.{◌≡◌, ℕ, zero, suc, ◌+◌, ◌-◌, ◌<◌, ◌==◌, nat_le, nat_lt, if◌then◌else◌, List, [], length, All, Option, Some, None, option_map, slice_index_or}
+use Rattle.std.specs.Option.{option_or}
 use Rattle.rmt_chip.specs.Types.{Config, Stage}
 use Rattle.rmt_config.specs.ChipRun.{latency_of}
-use Rattle.rmt_config.specs.Life.{or_else}
 use Rattle.rmt_config.specs.RunCells.{RunCells, look_in}
 use Rattle.rmt_chip.specs.declared.packet_slot.PacketSlot.{PacketSlot}
 use Rattle.rmt_chip.specs.Pending.{HaveRoomFor}
@@ -60,4 +60,4 @@ LooksNow c cells item = (k : ℕ) (e : Entered) → k < length c.stages → item
 -- of packets by age the version of the oldest one below an age, if one is there
 abbrev pub oldest_below : (ℕ → Option Entered) → ℕ → Option ℕ
 oldest_below item zero = None
-oldest_below item (suc age) = or_else (option_map (λ (e : Entered). e.version) (item age)) (oldest_below item age)
+oldest_below item (suc age) = option_or (option_map (λ (e : Entered). e.version) (item age)) (oldest_below item age)

@@ -23,6 +23,7 @@ use crate::ring::{place_of, read_keys, read_operands, set_outcomes, write_words}
 use rmt_bits::answer::Verdict;
 use rmt_bits::counts::Counts;
 use rmt_config::config::{Config, Stage};
+use rmt_config::latency::latency as age_of_leaving;
 use rmt_memory::memory::SlotMemory;
 
 /// The age at which a packet leaves: 12 cycles behind the last start, or 0 where there is no stage.
@@ -31,10 +32,7 @@ pub fn latency(stages: &[Stage]) -> u16
     ensures value { result ≡ latency_of stages.now }
     ensures within { result ≤ 384 }
 {
-    match stages.last() {
-        Some(stage) => stage.start + 12,
-        None => 0,
-    }
+    age_of_leaving(stages) as u16
 }
 
 /// One cycle: the input enters the newest slot, every stage acts on the packets at its ages, and

@@ -2,8 +2,8 @@
 
 ghost use Rattle.std.specs.Prelude.{◌≡◌, ◌+◌, ◌++◌, ◌∷◌, ◌≤◌, ℕ, List, [], Option, None, replicate, map, length, IfOk};
 ghost use Rattle.std.proofs.Props.{props};
-ghost use Rattle.rmt_cells.specs.Stands.{Held, Stands, cells_held};
-ghost use Rattle.rmt_chip.specs.Frames.{AreFrames, frames_in, held_if};
+ghost use Rattle.rmt_cells.specs.Stands.{Held, Stands, cells_held, held_if};
+ghost use Rattle.rmt_chip.specs.Frames.{AreFrames, frames_in};
 
 use rmt_cells::cells::{Cells, Chain};
 use std::alloc::{AllocError, Global};

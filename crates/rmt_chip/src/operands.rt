@@ -2,7 +2,8 @@
 
 ghost use Rattle.std.specs.Prelude.{◌≡◌, ◌+◌, ◌*◌, ◌<◌, ◌≤◌, [], ℕ, length, All, Some, slice_get, option_map, slice_index, if◌then◌else◌, vec_len, vec_capacity};
 ghost use Rattle.rmt_bits.specs.Bits.{number_of};
-ghost use Rattle.rmt_config.specs.Life.{written as written_of, op_on, or_else, word_after};
+ghost use Rattle.std.specs.Option.{option_or};
+ghost use Rattle.rmt_config.specs.Life.{written as written_of, op_on, word_after};
 ghost use Rattle.rmt_memory.specs.declared.looked.Looked.{Looked as LookedOf};
 ghost use Rattle.rmt_chip.specs.Ran.{held_of, running_of, all_running};
 ghost use Rattle.rmt_chip.specs.Held.{ReadBy};
@@ -44,7 +45,7 @@ fn push_instruction(due: &mut Vec<Write>, vector: &Vector, held: &[u8], code: &V
     ensures room { vec_capacity due.old ≤ vec_capacity due.new }
     ensures len { vec_len due.new ≡ vec_len due.old + length code.now.ops }
     ensures due { (w : ℕ) → last_on due.new.items w
-        ≡ or_else (option_map (written_of (λ v. slice_index vector.now v) (number_of held.now)) (op_on w code.now.ops)) (last_on due.old.items w) }
+        ≡ option_or (option_map (written_of (λ v. slice_index vector.now v) (number_of held.now)) (op_on w code.now.ops)) (last_on due.old.items w) }
 {
     for op in code.ops.as_slice() {
         due.push_reserved(written(vector, held, *op));
@@ -59,7 +60,7 @@ fn push_ran(due: &mut Vec<Write>, vector: &Vector, code: &[Vliw], looked: &[Look
     ensures room { vec_capacity due.old ≤ vec_capacity due.new }
     ensures len { vec_len due.new ≤ vec_len due.old + most_ops code.now }
     ensures due { (w : ℕ) → last_on due.new.items w
-        ≡ or_else (option_map (written_of (λ v. slice_index vector.now v) (running_of code.now looked.now ran).held) (op_on w (running_of code.now looked.now ran).ops)) (last_on due.old.items w) }
+        ≡ option_or (option_map (written_of (λ v. slice_index vector.now v) (running_of code.now looked.now ran).held) (op_on w (running_of code.now looked.now ran).ops)) (last_on due.old.items w) }
 {
     let at = usize::from(ran.code);
     if at < code.len() {

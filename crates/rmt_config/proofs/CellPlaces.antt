@@ -157,11 +157,3 @@ pub blocks_there : (l : CellLayout) (unit len : ℕ) → unit < l.quanta * l.uni
 blocks_there l unit len lt e =
     let le = mul-le (unit + 1) l.side (l.quanta * l.units) l.side (omega (arith, lt)) (omega arith) in
     omega (arith, le, e)
-
--- the head of an entry lies in the unit's row
-pub head_there : (l : CellLayout) (i : ℕ) → IsLayout l → 8 ≤ l.entry → position_of l i * l.entry + 8 ≤ l.bits * l.side
-head_there l i is le =
-    let low : position_of l i < l.per = mod_below i l.per is.some_per in
-    let one = mul-le (position_of l i + 1) l.entry l.per l.entry (omega (arith, low)) (omega arith) in
-    let next : (position_of l i + 1) * l.entry ≡ position_of l i * l.entry + l.entry = omega arith in
-    omega (arith, one, next, is.fits, le)

@@ -1,6 +1,7 @@
--- A list of packets alone has one run, whose inputs are those of a list of packets.
-use Rattle.std.proofs.Common.{◌≡◌, ℕ, zero, suc, ◌+◌, ◌-◌, List, [], ◌∷◌, ◌++◌, map, replicate, Some, None, refl, ap, ◌∙◌, subst, arith}
+-- A list of packets alone has one run, whose inputs are those of a list of packets; and the writes of a commit are of different cells.
+use Rattle.std.proofs.Common.{◌≡◌, ℕ, zero, suc, ◌+◌, ◌-◌, List, [], ◌∷◌, ◌++◌, map, replicate, Some, None, refl, ap, ◌∙◌, subst, arith, true}
 use Rattle.std.specs.Prelude.{fold}
+use Rattle.std.proofs.lemmas.Bool.Decides.{nat_tests}
 use Rattle.rmt_bits.specs.Packet.{Packet}
 use Rattle.rmt_ast.specs.declared.entry.Entry.{Entry}
 use Rattle.rmt_ast.specs.declared.names.Names.{Names}
@@ -10,7 +11,8 @@ use Rattle.rmt_config.specs.Types.{Config}
 use Rattle.rmt_config.specs.ChipRun.{inputs_of, latency_of}
 use Rattle.rmt_config.specs.RunCells.{own_cells}
 use Rattle.rmt_config.specs.RunInputs.{Enters, Idle, Input, input_of}
-use Rattle.rmt_config.specs.Commits.{RunState, RunsFrom, RunsTo, arrives, behind_packet, ends}
+use Rattle.rmt_config.specs.Commits.{RunState, RunsFrom, RunsTo, arrives, behind_packet, ends, writes_before}
+use Rattle.rmt_config.specs.declared.cell_write.CellWrite.{CellWrite}
 
 module _ (c : Config) (names : Names) where
   -- behind packets, one a cycle
@@ -52,3 +54,7 @@ module _ (c : Config) (names : Names) where
 
   pub some_run : (lists : List (List Entry)) (packets : List Packet) → RunsTo c names lists (map Arrives packets) (map input_of (inputs_of c packets))
   some_run lists packets = subst (RunsTo c names lists (map Arrives packets)) (from_begin lists packets) (some_from (begin lists) packets)
+
+-- two writes, one before the other, are of two cells
+pub writes_apart : (w x : CellWrite) → writes_before w x ≡ true → w.stage ≡ x.stage → w.unit ≡ x.unit → w.cell ≡ x.cell → ⊥
+writes_apart w x before stage place cell = grind (arith, nat_tests, before, stage, place, cell)

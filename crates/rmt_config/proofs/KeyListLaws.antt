@@ -13,7 +13,7 @@ use Rattle.rmt_config.specs.KeysSeen.{key_held, keys_listed, stands_in}
 use Rattle.rmt_config.specs.NamesForm.{stands_in_candidates}
 use Rattle.rmt_config.specs.PartsTold.{part_at, parts_at}
 use Rattle.rmt_config.specs.declared.form.names.part_list.Part.{Part}
-use Rattle.rmt_config.proofs.SpelledLists.{drop-at}
+use Rattle.rmt_config.proofs.RiseLaws.{one_off}
 
 -- ---- what is kept of keys
 
@@ -57,7 +57,7 @@ module _ (whole : Bool) (size : ℕ) (stands : CellNumber → Bool) (key : CellN
   keys-at ns i d old mid new stand lt e is h =
       let n = get_or ns i d in
       let rest = kept_of_keys whole size (map key (drop (i + 1) ns)) in
-      subst (λ xs. KeysAdded whole size stands key xs old new stand) (sym (drop-at ns i d lt))
+      subst (λ xs. KeysAdded whole size stands key xs old new stand) (sym (one_off ns i d lt))
       (record {
         answer = h.answer ∙ sym (ap (λ b. b && list_all stands (drop (i + 1) ns)) e);
         added = λ f. h.added f ∙ ap (λ (xs : List ℕ). xs ++ rest) is ∙ append_assoc old (kept_of whole (bytes_of size (key n))) rest;
@@ -66,7 +66,7 @@ module _ (whole : Bool) (size : ℕ) (stands : CellNumber → Bool) (key : CellN
   -- a cell that doesn't stand so
   pub keys-stop : (ns : List CellNumber) (i : ℕ) (d : CellNumber) (old new : List ℕ) → i < length ns → stands (get_or ns i d) ≡ false → KeysAdded whole size stands key (drop i ns) old new false
   keys-stop ns i d old new lt e =
-      subst (λ xs. KeysAdded whole size stands key xs old new false) (sym (drop-at ns i d lt))
+      subst (λ xs. KeysAdded whole size stands key xs old new false) (sym (one_off ns i d lt))
       (record { answer = sym (ap (λ b. b && list_all stands (drop (i + 1) ns)) e); added = λ f. absurd (false≢true f) })
 
 -- ---- the parts of a table
@@ -78,7 +78,7 @@ module _ (whole : Bool) (c : Config) (size : ℕ) (parts : List Part) where
   module _ (i : ℕ) (x : Part) (lt : i < length parts) (is : x ≡ get_or parts i x) where
     at : (old new : List ℕ) (stand : Bool) → PartKeys whole c size (part_at x ∷ parts_at (drop (i + 1) parts)) old new stand → PartKeys whole c size (parts_at (drop i parts)) old new stand
     at old new stand h =
-        subst (λ (xs : List Part). PartKeys whole c size (parts_at xs) old new stand) (sym (drop-at parts i x lt ∙ ap (λ y. y ∷ drop (i + 1) parts) (sym is))) h
+        subst (λ (xs : List Part). PartKeys whole c size (parts_at xs) old new stand) (sym (one_off parts i x lt ∙ ap (λ y. y ∷ drop (i + 1) parts) (sym is))) h
 
     -- one part more, before the rest
     pub parts-more : (old mid new : List ℕ) (stand : Bool) → KeysAdded whole size (stands_in c (part_at x)) (key_held c (part_at x)) x.slot.now.numbers old mid true

@@ -5,8 +5,9 @@ use Rattle.std.proofs.lemmas.Bool.{cases_lt, lt-ltb, le-ltb}
 use Rattle.rmt_config.specs.Instructions.{unit_instructions}
 use Rattle.rmt_config.specs.declared.limits.LimitHit.{LimitHit}
 use Rattle.rmt_config.specs.Types.{Config, ParserState, ParserEntry, Stage}
-use Rattle.rmt_config.specs.Resources.{is_slot, is_gate, unit_data, unit_sram, unit_tcam, unit_width, greatest_by, most_listed_in, exact_words, ternary_words, crossbar_bits, node_count}
+use Rattle.rmt_config.specs.Resources.{is_slot, is_gate, unit_data, unit_sram, unit_width, greatest_by, most_listed_in, exact_words, ternary_words, crossbar_bits, node_count}
 use Rattle.rmt_config.specs.Limits.{over, or_hit, first_passed, first_hit, stage_hit, stages_hit, entries_hit, states_hit, lookups_hit, entry_hit, sram_hit, tcam_hit, exact_words_hit, ternary_words_hit, slots_hit, code_hit, data_hit, gates_hit, width_hit, listed_hit, nodes_hit, crowded_stage, last_start_hit, parser_limit_hit, reading_limit_hit, unit_limit_hit, stage_limit_hit, IsWithinLimits}
+use Rattle.rmt_config.specs.StageForm.{tcam_blocks}
 
 -- ---- single hits
 
@@ -58,7 +59,7 @@ pub record KeepsLimits (c : Config) : Type 0 where
   pub lookups : AllByRecursion (λ (s : ParserState). length s.lookups ≤ 4) c.parser.states
   pub each_entry : AllByRecursion (λ (e : ParserEntry). (e.need ≤ 128) × (length e.extracts ≤ 64)) c.parser.entries
   pub sram : AllByRecursion (λ (s : Stage). length (flat_map unit_sram s.units) ≤ 106) c.stages
-  pub tcam : AllByRecursion (λ (s : Stage). length (flat_map unit_tcam s.units) ≤ 16) c.stages
+  pub tcam : AllByRecursion (λ (s : Stage). length (flat_map tcam_blocks s.units) ≤ 16) c.stages
   pub exact : AllByRecursion (λ (s : Stage). crossbar_bits exact_words s.units ≤ 640) c.stages
   pub ternary : AllByRecursion (λ (s : Stage). crossbar_bits ternary_words s.units ≤ 640) c.stages
   pub slots : AllByRecursion (λ (s : Stage). count_by is_slot s.units ≤ 16) c.stages
@@ -89,7 +90,7 @@ limits_kept c e =
       lookups = each_item lookups_hit (λ (s : ParserState). length s.lookups ≤ 4) (λ s h. within 4 4 0 (length s.lookups) h) c.parser.states parser.1.1.0;
       each_entry = each_item entry_hit (λ (x : ParserEntry). (x.need ≤ 128) × (length x.extracts ≤ 64)) entry_within c.parser.entries parser.1.1.1.0;
       sram = each_stage (λ (s : Stage). length (flat_map unit_sram s.units)) 106 6 0 c.stages reading.0;
-      tcam = each_stage (λ (s : Stage). length (flat_map unit_tcam s.units)) 16 7 0 c.stages reading.1.0;
+      tcam = each_stage (λ (s : Stage). length (flat_map tcam_blocks s.units)) 16 7 0 c.stages reading.1.0;
       exact = each_stage (λ (s : Stage). crossbar_bits exact_words s.units) 640 8 0 c.stages reading.1.1.0;
       ternary = each_stage (λ (s : Stage). crossbar_bits ternary_words s.units) 640 9 0 c.stages reading.1.1.1.0;
       slots = each_stage (λ (s : Stage). count_by is_slot s.units) 16 10 0 c.stages units.0;

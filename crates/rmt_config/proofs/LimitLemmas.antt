@@ -9,15 +9,16 @@ use Rattle.std.proofs.lemmas.List.Sums.{sum_by-append, sum_by-cons, position_or_
 use Rattle.std.proofs.lemmas.List.FromFn.{length-range_with_len, get_or-range_with_len}
 use Rattle.rmt_config.specs.Types.{Stage, Unit}
 use Rattle.rmt_config.specs.TableForm.{node_of}
-use Rattle.rmt_config.specs.Resources.{is_in, distinct, times_in, most_listed, node_numbers, node_count}
+use Rattle.rmt_config.specs.Resources.{distinct, times_in, most_listed, node_numbers, node_count}
 use Rattle.rmt_config.specs.Limits.{told, crowded_stage}
 use Rattle.rmt_config.specs.LimitSteps.{marked_sum, Marks, Counts}
 use Rattle.rmt_bits.proofs.MostLaws.{start-le}
+use Rattle.rmt_bits.specs.Members.{is_among}
 
 -- ---- numbers in lists
 
-in_more : (ns : List ℕ) (x n : ℕ) → is_in (ns ++ x ∷ []) n ≡ (is_in ns n || eqb x n)
-in_more ns x n = list_any-append (λ m. eqb m n) ns (x ∷ []) ∙ ap (λ b. is_in ns n || b) (or-false (eqb x n))
+in_more : (ns : List ℕ) (x n : ℕ) → is_among (ns ++ x ∷ []) n ≡ (is_among ns n || eqb x n)
+in_more ns x n = list_any-append (λ m. eqb m n) ns (x ∷ []) ∙ ap (λ b. is_among ns n || b) (or-false (eqb x n))
 
 times_more : (ns : List ℕ) (x n : ℕ) → times_in (ns ++ x ∷ []) n ≡ times_in ns n + cond (eqb x n) 1 0
 times_more ns x n =
@@ -25,32 +26,32 @@ times_more ns x n =
     sum_by-append (λ m. cond (eqb m n) 1 0) ns (x ∷ []) ∙ ap (λ k. times_in ns n + k) one
 
 -- what is measured of the distinct numbers, with one number more in front
-distinct_cons : (measure : ℕ → ℕ) (n : ℕ) (ns : List ℕ) → sum_by measure (distinct (n ∷ ns)) ≡ cond (is_in ns n) 0 (measure n) + sum_by measure (distinct ns)
-distinct_cons measure n ns = by_cases (is_in ns n)
+distinct_cons : (measure : ℕ → ℕ) (n : ℕ) (ns : List ℕ) → sum_by measure (distinct (n ∷ ns)) ≡ cond (is_among ns n) 0 (measure n) + sum_by measure (distinct ns)
+distinct_cons measure n ns = by_cases (is_among ns n)
   where
     by_cases : (stands : Bool) → sum_by measure (cond stands (distinct ns) (n ∷ distinct ns)) ≡ cond stands 0 (measure n) + sum_by measure (distinct ns)
     by_cases true = let e : sum_by measure (distinct ns) ≡ 0 + sum_by measure (distinct ns) = omega arith in e
     by_cases false = sum_by-cons measure n (distinct ns)
 
 -- and with one more behind them, which stands there already or is new
-pub distinct_more : (measure : ℕ → ℕ) (ns : List ℕ) (x : ℕ) → sum_by measure (distinct (ns ++ x ∷ [])) ≡ sum_by measure (distinct ns) + cond (is_in ns x) 0 (measure x)
+pub distinct_more : (measure : ℕ → ℕ) (ns : List ℕ) (x : ℕ) → sum_by measure (distinct (ns ++ x ∷ [])) ≡ sum_by measure (distinct ns) + cond (is_among ns x) 0 (measure x)
 distinct_more measure [] x = sum_by-cons measure x [] ∙ (let e : measure x + 0 ≡ 0 + measure x = omega arith in e)
 distinct_more measure (n ∷ ns) x =
     let rest = distinct_more measure ns x in
-    let left : sum_by measure (distinct (n ∷ (ns ++ x ∷ []))) ≡ cond (is_in (ns ++ x ∷ []) n) 0 (measure n) + sum_by measure (distinct (ns ++ x ∷ [])) = distinct_cons measure n (ns ++ x ∷ []) in
+    let left : sum_by measure (distinct (n ∷ (ns ++ x ∷ []))) ≡ cond (is_among (ns ++ x ∷ []) n) 0 (measure n) + sum_by measure (distinct (ns ++ x ∷ [])) = distinct_cons measure n (ns ++ x ∷ []) in
     let right = distinct_cons measure n ns in
-    let stands : is_in (ns ++ x ∷ []) n ≡ (is_in ns n || eqb x n) = in_more ns x n in
+    let stands : is_among (ns ++ x ∷ []) n ≡ (is_among ns n || eqb x n) = in_more ns x n in
     elim (cases_eq n x) [
       | inl same ↦
-          let before : is_in (ns ++ x ∷ []) n ≡ true = stands ∙ ap (λ b. is_in ns n || b) (eq-eqb x n (sym same)) ∙ or-true (is_in ns n) in
-          let l : cond (is_in (ns ++ x ∷ []) n) 0 (measure n) ≡ 0 = ap (λ b. cond b 0 (measure n)) before in
-          let r : cond (is_in (n ∷ ns) x) 0 (measure x) ≡ 0 = ap (λ b. cond (b || is_in ns x) 0 (measure x)) (eq-eqb n x same) in
-          let alike : cond (is_in ns n) 0 (measure n) ≡ cond (is_in ns x) 0 (measure x) = ap (λ k. cond (is_in ns k) 0 (measure k)) same in
+          let before : is_among (ns ++ x ∷ []) n ≡ true = stands ∙ ap (λ b. is_among ns n || b) (eq-eqb x n (sym same)) ∙ or-true (is_among ns n) in
+          let l : cond (is_among (ns ++ x ∷ []) n) 0 (measure n) ≡ 0 = ap (λ b. cond b 0 (measure n)) before in
+          let r : cond (is_among (n ∷ ns) x) 0 (measure x) ≡ 0 = ap (λ b. cond (b || is_among ns x) 0 (measure x)) (eq-eqb n x same) in
+          let alike : cond (is_among ns n) 0 (measure n) ≡ cond (is_among ns x) 0 (measure x) = ap (λ k. cond (is_among ns k) 0 (measure k)) same in
           omega (arith, left, right, rest, l, r, alike)
       | inr other ↦
-          let before : is_in (ns ++ x ∷ []) n ≡ is_in ns n = stands ∙ ap (λ b. is_in ns n || b) (ne_eqb x n (λ s. other (sym s))) ∙ or-false (is_in ns n) in
-          let l : cond (is_in (ns ++ x ∷ []) n) 0 (measure n) ≡ cond (is_in ns n) 0 (measure n) = ap (λ b. cond b 0 (measure n)) before in
-          let r : cond (is_in (n ∷ ns) x) 0 (measure x) ≡ cond (is_in ns x) 0 (measure x) = ap (λ b. cond (b || is_in ns x) 0 (measure x)) (ne_eqb n x other) in
+          let before : is_among (ns ++ x ∷ []) n ≡ is_among ns n = stands ∙ ap (λ b. is_among ns n || b) (ne_eqb x n (λ s. other (sym s))) ∙ or-false (is_among ns n) in
+          let l : cond (is_among (ns ++ x ∷ []) n) 0 (measure n) ≡ cond (is_among ns n) 0 (measure n) = ap (λ b. cond b 0 (measure n)) before in
+          let r : cond (is_among (n ∷ ns) x) 0 (measure x) ≡ cond (is_among ns x) 0 (measure x) = ap (λ b. cond (b || is_among ns x) 0 (measure x)) (ne_eqb n x other) in
           omega (arith, left, right, rest, l, r)
     ]
 
@@ -85,19 +86,19 @@ one_marked ns marks x lt m =
           elim (cases_eq n x) [
             | inl same ↦
                 let now : get_or (set marks x true) x false ≡ true = get_or-set_same marks x true false inside in
-                let stands : is_in (ns ++ x ∷ []) x ≡ true = in_more ns x x ∙ ap (λ b. is_in ns x || b) (eq-eqb x x refl) ∙ or-true (is_in ns x) in
-                ap (λ k. get_or (set marks x true) k false) same ∙ now ∙ sym stands ∙ ap (is_in (ns ++ x ∷ [])) (sym same)
+                let stands : is_among (ns ++ x ∷ []) x ≡ true = in_more ns x x ∙ ap (λ b. is_among ns x || b) (eq-eqb x x refl) ∙ or-true (is_among ns x) in
+                ap (λ k. get_or (set marks x true) k false) same ∙ now ∙ sym stands ∙ ap (is_among (ns ++ x ∷ [])) (sym same)
             | inr other ↦
                 let now : get_or (set marks x true) n false ≡ get_or marks n false = get_or-set_other marks x n true false other in
-                let stands : is_in (ns ++ x ∷ []) n ≡ is_in ns n = in_more ns x n ∙ ap (λ b. is_in ns n || b) (ne_eqb x n (λ s. other (sym s))) ∙ or-false (is_in ns n) in
+                let stands : is_among (ns ++ x ∷ []) n ≡ is_among ns n = in_more ns x n ∙ ap (λ b. is_among ns n || b) (ne_eqb x n (λ s. other (sym s))) ∙ or-false (is_among ns n) in
                 now ∙ m.each n byte ∙ sym stands
           ];
       sums = λ measure.
           let before = m.sums measure in
           let set_one = sum_set measure 0 marks x inside in
           let more = distinct_more measure ns x in
-          let at : cond (get_or marks x false) 0 (measure (0 + x)) ≡ cond (is_in ns x) 0 (measure x) =
-          ap (λ b. cond b 0 (measure (0 + x))) (m.each x lt) ∙ ap (λ k. cond (is_in ns x) 0 (measure k)) (let z : 0 + x ≡ x = omega arith in z) in
+          let at : cond (get_or marks x false) 0 (measure (0 + x)) ≡ cond (is_among ns x) 0 (measure x) =
+          ap (λ b. cond b 0 (measure (0 + x))) (m.each x lt) ∙ ap (λ k. cond (is_among ns x) 0 (measure k)) (let z : 0 + x ≡ x = omega arith in z) in
           omega (arith, before, set_one, more, at);
     }
 

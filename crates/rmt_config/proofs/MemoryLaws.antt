@@ -5,8 +5,8 @@ use Rattle.std.proofs.lemmas.Bool.{and_parts, and_from, eqb-true, eq-eqb, not-tr
 use Rattle.std.proofs.lemmas.Nat.{pow_pos}
 use Rattle.std.proofs.lemmas.List.Elements.{All-head, All-tail}
 use Rattle.rmt_config.specs.declared.form.layout.CellLayout.{CellLayout}
-use Rattle.rmt_config.specs.Types.{Stage, SramRow, TcamRow, SlotUnit}
-use Rattle.rmt_config.specs.declared.config.Memory.TheVariants.{Exact, Ternary}
+use Rattle.rmt_config.specs.Types.{Stage, SramRow, TcamRow, SlotUnit, Memory}
+use Rattle.rmt_config.specs.declared.config.Memory.TheVariants.{Exact, Ternary, Without}
 use Rattle.rmt_config.specs.LaneForm.{bits_of_lanes}
 use Rattle.rmt_config.specs.BlockCounts.{divided_up, record_width, record_units}
 use Rattle.rmt_config.specs.StageForm.{is_listed, srow_number, trow_number}
@@ -18,6 +18,7 @@ use Rattle.rmt_config.specs.MemoryRules.{FormedRows, ExactFits, TernaryFits}
 use Rattle.rmt_config.proofs.HeldRows.{rows-agree}
 use Rattle.rmt_config.proofs.ToldBits.{Agrees, Kept, units_from_blocks, blocks_from_units, kept_from_units, units_from_kept}
 use Rattle.rmt_config.proofs.CellLayouts.{exact_keys-is, exact_records-is, ternary_keys-is, ternary_records-is, exact-entry, exact-data, ternary-record, ternary-key}
+use Rattle.rmt_config.specs.Life.{has_memory}
 
 -- rows by places of blocks, and by cells
 pub kept-iff : {X : Type 0} (l : CellLayout) (held : Blocks) (block row bits : X → ℕ) (rows : List X) (cells blocks : List ℕ) → IsLayout l
@@ -317,3 +318,9 @@ ternary-told stage s d ks rs cs rows fit = (
 
         masks : Unlisted (listed_cells s.numbers) (2048 * d) mask
         masks n lt free = (zeros n lt free).2
+
+-- a slot with a cell has memory
+pub has_cells : (mem : Memory) (n : ℕ) → n < cells_in mem → has_memory mem ≡ true
+has_cells Without n lt = absurd (omega (arith, lt))
+has_cells (Exact k p d w ks rs cs) n lt = refl
+has_cells (Ternary d ks rs cs) n lt = refl

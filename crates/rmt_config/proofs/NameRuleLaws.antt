@@ -2,7 +2,7 @@
 use Rattle.std.proofs.Common.{◌≡◌, ℕ, ◌+◌, ◌<◌, ◌≤◌, List, [], ◌∷◌, ◌++◌, length, get_or, take, drop, Bool, true, false, not, ◌&&◌, ◌||◌, leb, ltb, sym, refl, ap, ◌∙◌, arith}
 use Rattle.std.specs.List.{flat_map, list_all, list_any}
 use Rattle.std.specs.Borrow.{Bor}
-use Rattle.std.specs.Prelude.{Result, Ok, Err, IfOk}
+use Rattle.std.specs.Prelude.{Result, Ok, Err, IfOk, AllPairs}
 use Rattle.std.specs.BTreeMap.{is_at}
 use Rattle.std.specs.BTreeSet.{insert_key}
 use Rattle.std.specs.Cmp.Lexicographic.{slice_cmp}
@@ -16,11 +16,14 @@ use Rattle.std.proofs.lemmas.List.{map-append, take_all, take-append-drop}
 use Rattle.std.proofs.lemmas.List.Folds.{list_all-append, list_any-append}
 use Rattle.std.proofs.lemmas.Slice.Eq.{bytes_eq-Decides}
 use Rattle.std.proofs.lemmas.Map.Text.{is_eq-slice_cmp}
+use Rattle.std.proofs.lemmas.List.Sums.{list_all-from_AllPass}
 use Rattle.rmt_ast.specs.NameList.{bytes_of, is_known, seen}
 use Rattle.rmt_ast.specs.NameRules.{differ, rise}
 use Rattle.rmt_ast.proofs.NameListLaws.{seen_more}
 use Rattle.rmt_config.specs.Order.{rises_from}
+use Rattle.rmt_config.specs.NamesForm.{each_later}
 use Rattle.rmt_bits.proofs.FunctionLaws.{bytes_eq-sym}
+use Rattle.rmt_bits.proofs.PairLaws.{AllPairs-head, AllPairs-tail}
 
 -- ---- all items of lists
 
@@ -178,3 +181,10 @@ by_actions true true false e f g h i fits = refl
 pub if_ok-along : {E : Type 0} (r : Result Bool E) (x y : Bool) → x ≡ y → IfOk r (λ fit. fit ≡ x) → IfOk r (λ fit. fit ≡ y)
 if_ok-along (Ok b) x y e h = h ∙ e
 if_ok-along (Err _) x y e h = tt
+
+-- a rule of each item with each later one
+pub each_later-from : {A : Type 0} (R : A → A → Bool) (xs : List A) → AllPairs (λ a b. R a b ≡ true) xs → each_later R xs ≡ true
+each_later-from R [] h = refl
+each_later-from R (x ∷ xs) h =
+    and_from (list_all (R x) xs) (each_later R xs) (list_all-from_AllPass (R x) xs (AllPairs-head (λ a b. R a b ≡ true) x xs h))
+    (each_later-from R xs (AllPairs-tail (λ a b. R a b ≡ true) x xs h))

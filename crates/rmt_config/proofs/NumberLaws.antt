@@ -11,7 +11,7 @@ use Rattle.rmt_config.specs.Order.{are_new, rises_from}
 use Rattle.rmt_config.proofs.RiseLaws.{increasing_rises}
 use Rattle.rmt_bits.proofs.OptionLaws.{eqb-sym}
 
-distinct_none : IsDistinct eqb []
+pub distinct_none : IsDistinct eqb []
 unfolding IsDistinct
 distinct_none = tt
 

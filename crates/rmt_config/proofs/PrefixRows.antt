@@ -1,12 +1,13 @@
 -- A prefix table is named as its parts are filled, by its rows.
 use Rattle.std.proofs.Common.{◌≡◌, ℕ, ◌+◌, ◌<◌, ◌≤◌, List, [], ◌∷◌, ◌++◌, length, get_or, drop, map, Bool, true, false, not, ◌&&◌, ◌||◌, leb, ltb, eqb, refl, sym, ap, ◌∙◌, append_assoc, subst, arith}
-use Rattle.std.specs.Prelude.{All, IsTrue, is_some, sum, unwrap_or}
+use Rattle.std.specs.Prelude.{All, is_some, sum, unwrap_or}
 use Rattle.std.specs.List.{flat_map, list_all}
 use Rattle.std.proofs.lemmas.Bool.{and_parts, eqb-true, leb-true, le-leb, lt-leb}
 use Rattle.std.proofs.lemmas.List.{append-nil, map-append}
 use Rattle.std.proofs.lemmas.List.Elements.{All-nil, All-cons, All-head, All-tail}
 use Rattle.std.proofs.lemmas.List.Folds.{list_all-append, list_all-map}
 use Rattle.std.proofs.lemmas.List.Sums.{sum_by-cons}
+use Rattle.std.proofs.Math.Bool.{and-true}
 use Rattle.rmt_bits.specs.Bits.{slice}
 use Rattle.rmt_bits.proofs.AllLaws.{All-unmap}
 use Rattle.rmt_bits.proofs.FunctionLaws.{funext}
@@ -32,11 +33,11 @@ use Rattle.rmt_config.specs.PartsTold.{listed_numbers, part_at, parts_at}
 use Rattle.rmt_config.specs.TableForm.{is_ternary}
 use Rattle.rmt_config.specs.NamesForm.{each_later, each_part, entries_by_cell, entry_in, has_keys_once, has_order, has_prefixes, held_by, is_filled_so, is_of_kind, prefix_length, rank_in, stands_in_candidates, tests_of_key}
 use Rattle.rmt_config.specs.PrefixRows.{have_lengths, have_same, length_in, row_goes_first, row_in, rows_keep, rows_of, stand_once}
-use Rattle.rmt_config.proofs.SpelledLists.{drop-at}
 use Rattle.rmt_config.proofs.SpelledParts.{parts-stand}
 use Rattle.rmt_config.proofs.SpelledRanks.{entries-count, later-map}
 use Rattle.rmt_config.proofs.SpelledRows.{all-stand}
 use Rattle.rmt_config.proofs.SpelledTernary.{filled_as, of-kind}
+use Rattle.rmt_config.proofs.RiseLaws.{one_off}
 
 -- ---- the entries of a table, by its rows
 
@@ -86,10 +87,6 @@ abbrev row_rank : ℕ → Row → RankOf
 row_rank w r = record { number = r.number; rank = length_in w r }
 
 -- ---- keys
-
-and-true : (b : Bool) → (b && true) ≡ b
-and-true true = refl
-and-true false = refl
 
 abbrev row_tests : ℕ → Row → List Test
 row_tests w r = tests_of_key (w ∷ []) r.key r.mask
@@ -239,7 +236,7 @@ rows-next c old new parts i x whole lt at e h =
     let here = map (row_in c (part_at x)) (part_at x).slot.numbers in
     let rest = rows_of c (parts_at (drop (i + 1) parts)) in
     ap (λ (rs : List Row). rs ++ rest) e ∙ append_assoc old here rest
-    ∙ ap (λ (rs : List Row). old ++ rs) (sym (ap (λ (ps : List Part). rows_of c (parts_at ps)) (drop-at parts i x lt ∙ ap (λ y. y ∷ drop (i + 1) parts) (sym at))))
+    ∙ ap (λ (rs : List Row). old ++ rs) (sym (ap (λ (ps : List Part). rows_of c (parts_at ps)) (one_off parts i x lt ∙ ap (λ y. y ∷ drop (i + 1) parts) (sym at))))
     ∙ h
 
 pub rows-all : (c : Config) (rows : List Row) (rest : List Part) (whole : List Row) → rest ≡ [] → rows ++ rows_of c (parts_at rest) ≡ whole → rows ≡ whole

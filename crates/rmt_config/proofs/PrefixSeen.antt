@@ -1,18 +1,18 @@
 -- The prefixes of rows, seen one after another.
-use Rattle.std.proofs.Common.{◌≡◌, ℕ, ◌+◌, ◌<◌, List, [], ◌∷◌, length, get_or, drop, Bool, true, false, not, ◌&&◌, ◌||◌, cond, eqb, ltb, refl, sym, ap, ◌∙◌, subst, arith}
+use Rattle.std.proofs.Common.{◌≡◌, ℕ, ◌+◌, ◌<◌, List, [], ◌∷◌, length, get_or, drop, Bool, true, false, not, ◌&&◌, ◌||◌, cond, eqb, refl, sym, ap, ◌∙◌, subst}
 use Rattle.std.specs.List.{list_all, list_any}
 use Rattle.std.specs.Ordering.{is_eq, nat_cmp, ordering_then}
 use Rattle.std.specs.declared.cmp.Ordering.{Ordering}
 use Rattle.std.specs.declared.cmp.Ordering.TheVariants.{Less, Equal, Greater}
 use Rattle.std.specs.BTreeSet.{BTreeSet, Updates, contains}
-use Rattle.std.proofs.lemmas.Bool.{ltb-true, ne_eqb}
 use Rattle.rmt_bits.specs.Bits.{slice}
 use Rattle.rmt_ast.specs.RankPairs.{pair_cmp}
 use Rattle.rmt_config.specs.declared.form.names.prefix_rows.Row.{Row}
 use Rattle.rmt_config.specs.NamesForm.{each_later}
 use Rattle.rmt_config.specs.PrefixRows.{have_same, stand_once}
 use Rattle.rmt_config.proofs.SpelledExact.{differ-all, turn}
-use Rattle.rmt_config.proofs.SpelledLists.{drop-at}
+use Rattle.rmt_config.proofs.OrderLaws.{same_number}
+use Rattle.rmt_config.proofs.RiseLaws.{one_off}
 
 -- ---- items that are new one after another
 
@@ -42,14 +42,6 @@ new-once bits rows =
 abbrev pub same_pair : ℕ × ℕ → ℕ × ℕ → Bool
 same_pair a b = eqb a.0 b.0 && eqb a.1 b.1
 
-tie : (a b : ℕ) → is_eq (nat_cmp a b) ≡ eqb a b
-tie a b = by (ltb a b) (eqb a b) (λ l. ne_eqb a b (λ e. let k = ltb-true a b l in absurd (omega (arith, k, e))))
-  where
-    by : (l e : Bool) → (l ≡ true → e ≡ false) → is_eq (cond l Less (cond e Equal Greater)) ≡ e
-    by true e h = sym (h refl)
-    by false true h = refl
-    by false false h = refl
-
 both : (x y : Ordering) → is_eq (ordering_then x y) ≡ (is_eq x && is_eq y)
 both Less y = refl
 both Equal y = refl
@@ -57,7 +49,7 @@ both Greater y = refl
 
 pair-tie : (a b : ℕ × ℕ) → is_eq (pair_cmp a b) ≡ same_pair a b
 pair-tie a b =
-    both (nat_cmp a.0 b.0) (nat_cmp a.1 b.1) ∙ ap (λ x. x && is_eq (nat_cmp a.1 b.1)) (tie a.0 b.0) ∙ ap (λ x. eqb a.0 b.0 && x) (tie a.1 b.1)
+    both (nat_cmp a.0 b.0) (nat_cmp a.1 b.1) ∙ ap (λ x. x && is_eq (nat_cmp a.1 b.1)) (same_number a.0 b.0) ∙ ap (λ x. eqb a.0 b.0 && x) (same_number a.1 b.1)
 
 abbrev pub pair_of : ℕ → Row → ℕ × ℕ
 pair_of bits r = (slice r.key 0 bits, slice r.mask 0 bits)
@@ -90,7 +82,7 @@ module _ (bits : ℕ) (rows : List Row) where
 
   seen-at : (i : ℕ) (d : Row) (set : BTreeSet (ℕ × ℕ)) → i < length rows → RowsSeen bits rows (drop i rows) set
       → RowsSeen bits rows (get_or rows i d ∷ drop (i + 1) rows) set
-  seen-at i d set lt r = subst (λ rest. RowsSeen bits rows rest set) (drop-at rows i d lt) r
+  seen-at i d set lt r = subst (λ rest. RowsSeen bits rows rest set) (one_off rows i d lt) r
 
   -- the row at a place, whose key and mask were cut to these
   module _ (i : ℕ) (d : Row) (set : BTreeSet (ℕ × ℕ)) (key mask : ℕ) (lt : i < length rows) (h : RowsSeen bits rows (drop i rows) set)

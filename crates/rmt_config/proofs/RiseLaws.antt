@@ -2,7 +2,7 @@
 use Rattle.std.proofs.Common.{◌≡◌, ℕ, zero, suc, ◌+◌, ◌-◌, ◌*◌, ◌/◌, ◌%◌, ◌<◌, ◌≤◌, List, [], ◌∷◌, length, get_or, take, drop, map, Bool, true, false, ◌&&◌, ◌||◌, eqb, leb, add-one, subst, sym, refl, ap, ◌∙◌, arith, inl, inr}
 use Rattle.std.specs.Prelude.{All}
 use Rattle.std.specs.List.Sorted.{IsStrictlyIncreasing}
-use Rattle.std.proofs.lemmas.Bool.{cases_lt, cases_eq, cases_order, and_from, and_parts, leb-true, le-leb, lt-leb, ne_eqb, eq-eqb}
+use Rattle.std.proofs.lemmas.Bool.{cases_lt, cases_eq, cases_order, and_from, and_parts, leb-true, le-leb, ne_eqb, eq-eqb}
 use Rattle.std.proofs.lemmas.List.Elements.{All-head, All-tail}
 use Rattle.std.proofs.Math.Seq.{drop-cons}
 use Rattle.std.proofs.lemmas.List.{get_or_default, get_or-take, get_or-drop, length-take, length-drop}
@@ -176,6 +176,3 @@ run-back P f xs first end height b from le before all k d lt =
 
 pub rise_on : (least n : ℕ) (ns rest : List ℕ) (whole : Bool) → ns ≡ n ∷ rest → least ≤ n → rises_from least ns ≡ whole → rises_from (n + 1) rest ≡ whole
 rise_on least n ns rest whole cut le h = sym (ap (λ b. b && rises_from (n + 1) rest) (le-leb least n le)) ∙ sym (ap (rises_from least) cut) ∙ h
-
-pub rise_off : (least n : ℕ) (ns rest : List ℕ) (whole : Bool) → ns ≡ n ∷ rest → n < least → rises_from least ns ≡ whole → false ≡ whole
-rise_off least n ns rest whole cut lt h = sym (ap (λ b. b && rises_from (n + 1) rest) (lt-leb least n lt)) ∙ sym (ap (rises_from least) cut) ∙ h

@@ -5,16 +5,13 @@ use Rattle.std.specs.Int.{bit_at}
 use Rattle.std.proofs.lemmas.Nat.{div-mul-add}
 use Rattle.std.proofs.lemmas.Bool.{cases_lt, both_ways}
 use Rattle.rmt_bits.specs.Bits.{slice}
-use Rattle.rmt_config.proofs.UnitBits.{bit-zero, slice-zero, slice-zero_bit}
+use Rattle.rmt_config.proofs.UnitBits.{bit-zero, slice-zero, slice-zero_bit, one_is_not_zero}
 
 -- the entry that a bit stands in
 entry_at_bit : (n low position entry : ℕ) → low ≡ position * entry → low ≤ n → n < low + entry → n / entry ≡ position
 entry_at_bit n low position entry at le lt =
     let e : n ≡ position * entry + (n - low) = omega arith in
     ap (λ k. k / entry) e ∙ div-mul-add position entry (n - low) (omega arith)
-
-one_is_not_zero : (n : ℕ) → n ≡ 0 → n ≡ 1 → ⊥
-one_is_not_zero n a b = omega (arith, a, b)
 
 pub told-more : (tell : ℕ → Bool) (x entry bits start low position mx mn : ℕ) → low ≡ position * entry
     → mx ≡ max low start → mn ≡ min (low + entry) (start + bits)

@@ -1,14 +1,14 @@
 -- Where cells don't change, and no configuration has names, what a packet finds is what it finds in the configuration's own cells.
-use Rattle.std.proofs.Common.{◌≡◌, ℕ, Bool, true, false, ◌&&◌, ◌==◌, Option, Some, None, refl, ap, ◌∙◌}
+use Rattle.std.proofs.Common.{◌≡◌, ℕ, Bool, true, false, ◌&&◌, ◌==◌, Option, Some, None, refl, ap, ◌∙◌, ◌/◌, ◌%◌, ◌^◌, ◌+◌, ◌<◌, zero, suc, arith}
 use Rattle.std.specs.Prelude.{bit_and, find, is_some, option_and_then, option_map, slice_get, unwrap_or}
 use Rattle.rmt_bits.proofs.FunctionLaws.{funext}
 use Rattle.rmt_ast.specs.declared.names.Names.{Names}
 use Rattle.rmt_config.specs.Types.{Config, Stage, Unit, SlotUnit}
 use Rattle.rmt_config.specs.declared.config.Unit.TheVariants.{Gate, Slot}
 use Rattle.rmt_config.specs.LaneForm.{bits_of_lanes}
-use Rattle.rmt_config.specs.Cells.{Content, candidates, code_of, content_of, found_in, has_key, is_occupied, look_up, number_of_cell}
+use Rattle.rmt_config.specs.Cells.{Content, candidates, code_of, content_of, found_in, has_key, is_occupied, look_up, number_of_cell, visible_bits}
 use Rattle.rmt_config.specs.ChipRun.{own_look, slot_look}
-use Rattle.rmt_config.specs.RunCells.{as_slot, found_at, found_in_slot, is_hit, look_in, no_content, own_cells, own_content, slot_at}
+use Rattle.rmt_config.specs.RunCells.{as_slot, found_at, found_in_slot, is_hit, look_in, no_content, own_cells, own_content, slot_at, has_bit}
 
 -- without names a cell that has a key is one that is occupied and has it
 hit_is : (version key : ℕ) (x : Content) → is_hit false version key x ≡ has_key key x
@@ -57,3 +57,16 @@ pub look_in-own : (c : Config) → c.names ≡ None → (version k place key : �
 look_in-own c none version k place key =
     ap (λ (names : Option Names). option_and_then (found_in_slot (is_some names) version (own_cells c) k place key) (slot_at c k place)) none
     ∙ at_stage c version k place key (slice_get c.stages k) refl
+
+-- ---- visible bits
+
+both_bits : (m head : ℕ) → m < 2 → head / 2 % 4 ≡ 3 → head / 2 ^ (1 + m) % 2 ≡ 1
+both_bits zero head lt three = omega arith
+both_bits (suc zero) head lt three = omega arith
+both_bits (suc (suc m)) head lt three = absurd (omega (arith, lt))
+
+-- a head with both visible bits shows every version its bit
+pub both_show : (v head : ℕ) → visible_bits head ≡ 3 → has_bit v head ≡ true
+both_show v head three =
+    let one : head / 2 ^ (1 + v % 2) % 2 ≡ 1 = both_bits (v % 2) head (omega arith) three in
+    ap (λ n. n == 1) one

@@ -1,9 +1,8 @@
 -- Bytes of rows of blocks side by side, as keys are read.
-use Rattle.std.proofs.Common.{◌≡◌, ℕ, zero, suc, min, refl, ◌+◌, ◌-◌, ◌*◌, ◌/◌, ◌%◌, ◌^◌, ◌<◌, ◌≤◌, List, [], ◌∷◌, ◌++◌, length, get_or, sym, ap, ◌∙◌, subst, append_assoc, arith, inl, inr}
-use Rattle.std.specs.Prelude.{All}
+use Rattle.std.proofs.Common.{◌≡◌, ℕ, zero, suc, min, refl, ◌+◌, ◌-◌, ◌*◌, ◌/◌, ◌%◌, ◌^◌, ◌<◌, ◌≤◌, List, [], ◌∷◌, ◌++◌, sym, ap, ◌∙◌, subst, append_assoc, arith, inl, inr}
 use Rattle.std.proofs.lemmas.Bool.{cases_lt}
 use Rattle.std.proofs.lemmas.List.{append-nil}
-use Rattle.std.proofs.lemmas.Nat.{div-add-mod', mod_below, pow_pos, pow-add, shr-shr, mul-le}
+use Rattle.std.proofs.lemmas.Nat.{mod_below, pow_pos, pow-add, shr-shr, mul-le}
 use Rattle.std.proofs.Math.Nat.{mod-eq_of_lt, mul-le-mul_left, div-one, pow-le-pow_right}
 use Rattle.rmt_bits.specs.Bits.{slice, bytes_of, number_of}
 use Rattle.rmt_bits.proofs.ByteLaws.{number_of-bytes_of}
@@ -11,23 +10,10 @@ use Rattle.rmt_config.specs.declared.form.layout.CellLayout.{CellLayout}
 use Rattle.rmt_config.specs.Layouts.{IsInSram, IsLayout, local_of, position_of, quantum_of, row_of, unit_of}
 use Rattle.rmt_bits.proofs.BitLaws.{mod-low, slice-lt}
 use Rattle.rmt_config.specs.BlockCounts.{divided_up}
-use Rattle.rmt_config.specs.Types.{SramRow}
-use Rattle.rmt_config.specs.Cells.{Blocks, blocks_at, sram_row, unit_row}
+use Rattle.rmt_config.specs.Cells.{Blocks, blocks_at, unit_row}
 use Rattle.rmt_config.proofs.CellPlaces.{blocks_there, mod-div_rows, unit_below}
-use Rattle.rmt_config.proofs.HeldRows.{sram-within}
-use Rattle.rmt_config.proofs.HeadBits.{head_across, head-bits}
 
--- ---- bytes of a row of blocks side by side
-
--- the byte that stands from a bit on, in one block or across two
-pub byte-read : (rows : List SramRow) (blocks : List ℕ) (row bit first second : ℕ) → All (λ (r : SramRow). r.bits < 2 ^ 112) rows
-    → bit < 112 * length blocks → first ≡ sram_row rows (get_or blocks (bit / 112) 0) row
-    → (bit / 112 + 1 < length blocks → second ≡ sram_row rows (get_or blocks (bit / 112 + 1) 0) row) → (length blocks ≤ bit / 112 + 1 → second ≡ 0)
-    → head_across first second (bit % 112) ≡ slice (unit_row 112 (sram_row rows) row blocks) bit 8
-byte-read rows blocks row bit first second small inside one next last =
-    ap (λ n. head_across n second (bit % 112)) one
-    ∙ sym (head-bits (sram_row rows) row blocks (bit / 112) (bit % 112) second (sram-within rows small) (omega (arith, inside)) (mod_below bit 112 (omega arith)) next last)
-    ∙ ap (λ n. slice (unit_row 112 (sram_row rows) row blocks) n 8) (div-add-mod' bit 112)
+-- ---- lower parts of numbers, and parts of slices
 
 pub mul-more : (m n : ℕ) → 0 < n → m ≤ m * n
 mul-more m n some = let h : m * 1 ≤ m * n = mul-le-mul_left m some in omega (arith, h)
@@ -56,17 +42,6 @@ slice-shr v low len up le =
     ap (λ n. v / 2 ^ low % 2 ^ n / 2 ^ up) e ∙ ap (λ m. v / 2 ^ low % m / 2 ^ up) (pow-add 2 (len - up) up)
     ∙ mod-div_rows (v / 2 ^ low) (2 ^ (len - up)) (2 ^ up) (pow_pos (len - up)) (pow_pos up)
     ∙ ap (λ n. n % 2 ^ (len - up)) (shr-shr v low up)
-
--- a byte of a slice
-pub slice-byte : (v low len up : ℕ) → up ≤ len → slice v (low + up) 8 % 2 ^ (len - up) ≡ slice v low len / 2 ^ up % 256
-slice-byte v low len up le =
-    mod-turned (v / 2 ^ (low + up)) 8 (len - up) ∙ sym (ap (λ n. n % 2 ^ 8) (slice-shr v low len up le))
-
--- the lowest bits of a byte
-pub byte-low : (byte len : ℕ) → byte < 256 → 8 ≤ len → byte ≡ byte % 2 ^ len
-byte-low byte len lt le =
-    let e : byte % 2 ^ 8 ≡ byte = mod-eq_of_lt lt in
-    sym e ∙ sym (mod-within byte 8 len le) ∙ ap (λ n. n % 2 ^ len) e
 
 -- ---- several bytes at once
 

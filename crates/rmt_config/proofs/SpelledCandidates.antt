@@ -1,5 +1,5 @@
 -- A cell is a candidate cell of a key exactly where the key's row in the cell's way is that of the cell.
-use Rattle.std.proofs.Common.{subst, ◌≡◌, ℕ, zero, suc, ◌+◌, ◌-◌, ◌*◌, ◌/◌, ◌%◌, ◌^◌, ◌<◌, List, [], ◌++◌, Bool, true, false, ◌&&◌, ◌||◌, eqb, refl, sym, ap, ◌∙◌, arith}
+use Rattle.std.proofs.Common.{subst, ◌≡◌, ℕ, zero, suc, ◌+◌, ◌-◌, ◌*◌, ◌/◌, ◌%◌, ◌^◌, ◌<◌, List, [], ◌++◌, Bool, true, false, ◌&&◌, ◌||◌, eqb, sym, ap, ◌∙◌, arith}
 use Rattle.std.specs.List.{list_any, flat_map, range_with_len}
 use Rattle.std.proofs.lemmas.Bool.{and_parts, and_from, eqb-true, eq-eqb}
 use Rattle.std.proofs.lemmas.Nat.{div-add-mod', div-mul-add, mod-mul-add, mod_below}
@@ -14,6 +14,7 @@ use Rattle.rmt_config.proofs.SpelledRows.{range-from, range-to}
 use Rattle.rmt_bits.proofs.OptionLaws.{same_Bool}
 use Rattle.std.proofs.Math.Nat.{mod-eq_of_lt}
 use Rattle.std.proofs.lemmas.Nat.{shr_below}
+use Rattle.std.proofs.Math.Bool.{or-false}
 
 -- the cells of a row of a way
 row-cells : (rows per way row cell : ℕ) → 0 < per → row < rows
@@ -42,10 +43,6 @@ row-cells rows per way row cell some low =
         let is : q * per + cell % per ≡ cell = ap (λ n. n * per + cell % per) e ∙ div-add-mod' cell per in
         let lt : cell % per < per = mod_below cell per some in
         range-from (q * per + 0) per cell (omega (arith, is)) (omega (arith, is, lt))
-
-or-false : (b : Bool) → (b || false) ≡ b
-or-false true = refl
-or-false false = refl
 
 -- of four ways one is that of the cell
 one-way : (f g : ℕ → Bool) (w : ℕ) → w < 4 → ((k : ℕ) → f k ≡ (eqb k w && g k)) → (f 0 || (f 1 || (f 2 || (f 3 || false)))) ≡ g w

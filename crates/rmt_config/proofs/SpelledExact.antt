@@ -16,6 +16,7 @@ use Rattle.rmt_config.specs.NamesForm.{each_later, tests_of_key}
 use Rattle.rmt_config.specs.KeysSeen.{news, was_seen}
 use Rattle.std.proofs.Math.Nat.{mod-eq_of_lt, pow-le-pow_right}
 use Rattle.rmt_bits.proofs.OptionLaws.{same_Bool}
+use Rattle.rmt_bits.proofs.FunctionLaws.{bytes_eq-same}
 
 -- ---- new keys differ from all later ones
 
@@ -86,16 +87,13 @@ tests-tell (w ∷ ws) a b m e =
     ∙ ap (λ n. slice b (sum ws) w * 2 ^ sum ws + n) (tests-tell ws a b m parts.1)
     ∙ sym (ap (λ n. b % 2 ^ n) size ∙ mod-pow-add b w (sum ws))
 
-same-bytes : (xs : List ℕ) → bytes_eq xs xs ≡ true
-same-bytes xs = (bytes_eq-Decides xs xs).1 refl
-
 pub keys-tell : (ws : List ℕ) (a b m : ℕ) → a < 2 ^ sum ws → b < 2 ^ sum ws → are_same (tests_of_key ws a m) (tests_of_key ws b m) ≡ eqb a b
 keys-tell ws a b m la lb =
     same_Bool (are_same (tests_of_key ws a m) (tests_of_key ws b m)) (eqb a b)
     (λ e. eq-eqb a b (sym (mod-eq_of_lt la) ∙ tests-tell ws a b m (and_parts _ _ e).0 ∙ mod-eq_of_lt lb))
     (λ e. ap (λ x. are_same (tests_of_key ws x m) (tests_of_key ws b m)) (eqb-true a b e)
-    ∙ ap (λ x. x && bytes_eq (map (λ (t : Test). t.mask) (tests_of_key ws b m)) (map (λ (t : Test). t.mask) (tests_of_key ws b m))) (same-bytes (map value (tests_of_key ws b m)))
-    ∙ same-bytes (map (λ (t : Test). t.mask) (tests_of_key ws b m)))
+    ∙ ap (λ x. x && bytes_eq (map (λ (t : Test). t.mask) (tests_of_key ws b m)) (map (λ (t : Test). t.mask) (tests_of_key ws b m))) (bytes_eq-same (map value (tests_of_key ws b m)))
+    ∙ bytes_eq-same (map (λ (t : Test). t.mask) (tests_of_key ws b m)))
 
 -- the keys of a list are new one after another exactly where the tests of each differ from all later ones
 pub news-differ : (size : ℕ) (ws : List ℕ) (m : ℕ) (ks : List ℕ) → sum ws ≤ 8 * size → All (λ k. k < 2 ^ sum ws) ks

@@ -1,13 +1,12 @@
 -- An order that goes on from item to item is decided on neighbours; and the ranks that are told of entries.
 use Rattle.std.proofs.Common.{◌≡◌, ◌⊎◌, inl, inr, ℕ, ◌+◌, ◌<◌, ◌≤◌, List, [], ◌∷◌, length, get_or, drop, Bool, true, false, ◌&&◌, ltb, eqb, refl, sym, ap, ◌∙◌, arith}
 use Rattle.std.specs.List.{list_all}
-use Rattle.rmt_config.proofs.SpelledLists.{drop-at}
 use Rattle.std.proofs.lemmas.List.{drop_all}
 use Rattle.std.proofs.lemmas.Bool.{and_parts, and_from, or_cases, or_left, or_right, ltb-true, eqb-true, lt-ltb, eq-eqb, false≢true}
-use Rattle.std.specs.Str.{bytes_eq}
 use Rattle.rmt_ast.specs.declared.names.RankOf.{RankOf}
 use Rattle.rmt_ast.specs.Naming.{stands_first}
 use Rattle.rmt_config.specs.NamesForm.{each_later}
+use Rattle.rmt_config.proofs.RiseLaws.{one_off}
 
 -- ---- neighbours
 
@@ -32,8 +31,8 @@ later-near R on x y ys = both-kept (R x y) (list_all (R x) ys) (list_all (R y) y
 pub later-at : {A : Type 0} (R : A → A → Bool) → GoesOn R → (xs : List A) (i : ℕ) (d : A) → i + 1 < length xs
     → each_later R (drop i xs) ≡ (R (get_or xs i d) (get_or xs (i + 1) d) && each_later R (drop (i + 1) xs))
 later-at R on xs i d lt =
-    let here = drop-at xs i d (omega (arith, lt)) in
-    let next = drop-at xs (i + 1) d lt in
+    let here = one_off xs i d (omega (arith, lt)) in
+    let next = one_off xs (i + 1) d lt in
     let x = get_or xs i d in
     let y = get_or xs (i + 1) d in
     ap (each_later R) (here ∙ ap (λ zs. x ∷ zs) next) ∙ later-near R on x y (drop (i + 1 + 1) xs) ∙ ap (λ zs. R x y && each_later R zs) (sym next)
@@ -41,7 +40,7 @@ later-at R on xs i d lt =
 pub later-last : {A : Type 0} (R : A → A → Bool) (xs : List A) (i : ℕ) (d : A) → i < length xs → length xs ≤ i + 1 → each_later R (drop i xs) ≡ each_later R (drop (i + 1) xs)
 later-last R xs i d lt le =
     let none : drop (i + 1) xs ≡ [] = drop_all (i + 1) xs le in
-    ap (each_later R) (drop-at xs i d lt ∙ ap (λ zs. get_or xs i d ∷ zs) none) ∙ ap (each_later R) (sym none)
+    ap (each_later R) (one_off xs i d lt ∙ ap (λ zs. get_or xs i d ∷ zs) none) ∙ ap (each_later R) (sym none)
 
 -- ---- ranks
 
@@ -67,15 +66,3 @@ stands-on a b c h g = by (stands-cases a b h) (stands-cases b c g)
     by (inl x) (inr y) = stands-less a c (omega (arith, x, y.0))
     by (inr x) (inl y) = stands-less a c (omega (arith, x.0, y))
     by (inr x) (inr y) = stands-same a c (x.0 ∙ y.0) (omega (arith, x.1, y.1))
-
--- ---- lists of numbers side by side
-
-pub lengths-differ : (xs ys : List ℕ) → (length xs ≡ length ys → ⊥) → bytes_eq xs ys ≡ false
-lengths-differ [] [] ne = absurd (ne refl)
-lengths-differ [] (y ∷ ys) ne = refl
-lengths-differ (x ∷ xs) [] ne = refl
-lengths-differ (x ∷ xs) (y ∷ ys) ne = none (eqb x y) (lengths-differ xs ys (λ e. ne (omega (arith, e))))
-  where
-    none : (b : Bool) → bytes_eq xs ys ≡ false → (b && bytes_eq xs ys) ≡ false
-    none true e = e
-    none false e = refl

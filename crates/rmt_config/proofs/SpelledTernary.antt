@@ -1,9 +1,11 @@
 -- A ternary table is named as its parts are filled, by its ranks and numbers.
-use Rattle.std.proofs.Common.{◌≡◌, ℕ, List, [], ◌∷◌, length, map, Bool, true, false, ◌&&◌, leb, eqb, refl, sym, ap, ◌∙◌, subst}
+use Rattle.std.proofs.Common.{◌≡◌, length, map, Bool, true, false, ◌&&◌, leb, eqb, refl, sym, ap, ◌∙◌, subst}
 use Rattle.std.specs.Prelude.{All, IsTrue}
 use Rattle.std.specs.List.{IsDistinct, list_all}
 use Rattle.std.specs.Str.{bytes_eq}
-use Rattle.std.proofs.lemmas.Bool.{and_parts, eqb-true, false≢true}
+use Rattle.std.proofs.lemmas.Bool.{and_parts}
+use Rattle.std.proofs.Math.Bool.{and-true}
+use Rattle.rmt_bits.proofs.FunctionLaws.{bytes_eq-true}
 use Rattle.rmt_ast.specs.declared.names.RankOf.{RankOf}
 use Rattle.rmt_ast.specs.declared.names.TableName.{TableName}
 use Rattle.rmt_ast.specs.declared.program.Kind.{Kind}
@@ -34,18 +36,6 @@ ternary-memory (Ternary d ks rs cs) e = e
 pub of-kind : (c : Config) (t : TableName) (k : Kind) → t.kind ≡ k → has_parts c t ≡ true → list_all (λ (p : PartAt). is_of_kind k p.slot.memory) (parts_of c t.node) ≡ true
 of-kind c t k is h = sym (ap (λ k. list_all (λ (p : PartAt). is_of_kind k p.slot.memory) (parts_of c t.node)) is) ∙ (and_parts _ _ h).1
 
-bytes-same : (xs ys : List ℕ) → bytes_eq xs ys ≡ true → xs ≡ ys
-bytes-same [] [] e = refl
-bytes-same [] (y ∷ ys) e = absurd (false≢true e)
-bytes-same (x ∷ xs) [] e = absurd (false≢true e)
-bytes-same (x ∷ xs) (y ∷ ys) e =
-    let parts = and_parts (eqb x y) (bytes_eq xs ys) e in
-    ap (λ z. z ∷ xs) (eqb-true x y parts.0) ∙ ap (λ zs. y ∷ zs) (bytes-same xs ys parts.1)
-
-and-true : (b : Bool) → (b && true) ≡ b
-and-true true = refl
-and-true false = refl
-
 shape : (r n o o' s : Bool) → s ≡ true → (r ≡ true → o ≡ o') → ((true && r) && (n && true && o && s)) ≡ ((r && n) && o')
 shape false n o o' s stand same = refl
 shape true false o o' s stand same = refl
@@ -61,7 +51,7 @@ ternary-answer c t is numbered parts stand =
     ∙ shape told (leb (length es) t.size) (has_order kind.Ternary es) (each_later stands_first t.ranks) (each_part c (stands_in_candidates c) t)
     (all-stand c (is_of_kind kind.Ternary) ternary-memory (parts_of c t.node) stand (of-kind c t kind.Ternary is parts))
     (λ e.
-    let same = bytes-same (map (λ (r : RankOf). r.number) t.ranks) ns e in
+    let same = bytes_eq-true (map (λ (r : RankOf). r.number) t.ranks) ns e in
     later-map stands_first rank_of es
     ∙ ap (each_later stands_first)
     (ranks-told c t is ∙ ap (map (rank_with t.ranks)) (sym same) ∙ told-all t.ranks (subst (IsDistinct eqb) (sym same) (listed-distinct c t.node numbered))))

@@ -9,7 +9,7 @@ use Rattle.rmt_bits.specs.declared.lane.Lane.{Lane}
 use Rattle.rmt_config.specs.Types.{Stage, Unit, GateUnit, UnitGuard, SlotUnit}
 use Rattle.rmt_config.specs.declared.config.Unit.TheVariants.{Gate, Slot}
 use Rattle.rmt_config.specs.Order.{each_between}
-use Rattle.rmt_config.specs.TableForm.{Placed, node_of, guard_of, has_node, is_among, guard_stands, same_flag, same_lane, same_lanes, follows_part, ways_follow, unit_stands, placed_from}
+use Rattle.rmt_config.specs.TableForm.{Placed, node_of, guard_of, has_node, node_is_among, guard_stands, same_flag, same_lane, same_lanes, follows_part, ways_follow, unit_stands, placed_from}
 use Rattle.rmt_config.specs.declared.form.tables.Part.{Part}
 use Rattle.rmt_config.specs.declared.form.tables.Nodes.{Nodes}
 use Rattle.rmt_config.specs.NodesKnown.{placed_of, so_far_of, left_of, last_of, Knows}
@@ -74,17 +74,17 @@ one_test : (m : ℕ) → eqb (1 + m) 1 ≡ not (ltb 0 m)
 one_test m = elim (cases_eq m 0) [ inl e ↦ rw e refl | inr ne ↦ rw (ne_eqb (1 + m) 1 (λ e. ne (omega (arith, e))), lt-ltb 0 m (omega (arith, ne))) refl ]
 
 -- some before
-among_before : (nodes : Nodes) (before rest : List Placed) → Knows nodes before rest → (n : ℕ) → n < 256 → ltb 0 (so_far_of nodes n) ≡ is_among n before
+among_before : (nodes : Nodes) (before rest : List Placed) → Knows nodes before rest → (n : ℕ) → n < 256 → ltb 0 (so_far_of nodes n) ≡ node_is_among n before
 among_before nodes before rest k n lt = ap (ltb 0) (k.so_far n lt) ∙ sym (any_count (has_node n) before)
 
 -- none behind
 none_other : (nodes : Nodes) (before behind : List Placed) (x : Placed) → Knows nodes before (x ∷ behind) → (n : ℕ) → n < 256 → (n ≡ node_of x.unit → ⊥)
-    → eqb (left_of nodes n) 0 ≡ not (is_among n behind)
+    → eqb (left_of nodes n) 0 ≡ not (node_is_among n behind)
 none_other nodes before behind x k n lt other =
     ap (λ m. eqb m 0) (left_other nodes before behind x k n lt other) ∙ zero_test (count_by (has_node n) behind) ∙ ap not (sym (any_count (has_node n) behind))
 
 none_own : (nodes : Nodes) (before behind : List Placed) (x : Placed) → Knows nodes before (x ∷ behind) → node_of x.unit < 256
-    → eqb (left_of nodes (node_of x.unit)) 1 ≡ not (is_among (node_of x.unit) behind)
+    → eqb (left_of nodes (node_of x.unit)) 1 ≡ not (node_is_among (node_of x.unit) behind)
 none_own nodes before behind x k lt =
     let n = node_of x.unit in
     ap (λ m. eqb m 1) (left_own nodes before behind x k lt) ∙ one_test (count_by (has_node n) behind) ∙ ap not (sym (any_count (has_node n) behind))
@@ -111,9 +111,9 @@ pub gate_stands : (nodes : Nodes) (before behind : List Placed) (stage : ℕ) (g
     → (eqb (so_far_of nodes g.node) 0 && eqb (left_of nodes g.node) 1) ≡ unit_stands before (record { stage = stage; unit = Gate g }) behind
 gate_stands nodes before behind stage g k lt guard =
     let x : Placed = record { stage = stage; unit = Gate g } in
-    let none_before : eqb (so_far_of nodes g.node) 0 ≡ not (is_among g.node before) =
+    let none_before : eqb (so_far_of nodes g.node) 0 ≡ not (node_is_among g.node before) =
     zero_test (so_far_of nodes g.node) ∙ ap not (among_before nodes before (x ∷ behind) k g.node lt) in
-    let none_behind : eqb (left_of nodes g.node) 1 ≡ not (is_among g.node behind) = none_own nodes before behind x k lt in
+    let none_behind : eqb (left_of nodes g.node) 1 ≡ not (node_is_among g.node behind) = none_own nodes before behind x k lt in
     rw (guard, none_before, none_behind) refl
 
 pub slot_stands : (nodes : Nodes) (before behind : List Placed) (stage : ℕ) (s : SlotUnit) → Knows nodes before (record { stage = stage; unit = Slot s } ∷ behind) → s.node < 256
@@ -122,7 +122,7 @@ pub slot_stands : (nodes : Nodes) (before behind : List Placed) (stage : ℕ) (s
     ≡ unit_stands before (record { stage = stage; unit = Slot s }) behind
 slot_stands nodes before behind stage s k lt guard =
     let x : Placed = record { stage = stage; unit = Slot s } in
-    let none_behind : eqb (left_of nodes s.node) 1 ≡ not (is_among s.node behind) = none_own nodes before behind x k lt in
+    let none_behind : eqb (left_of nodes s.node) 1 ≡ not (node_is_among s.node behind) = none_own nodes before behind x k lt in
     rw (guard, k.last s.node lt, k.so_far s.node lt, none_behind) refl
 
 -- ---- what is told of a unit whose guard was looked at

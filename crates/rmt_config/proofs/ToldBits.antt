@@ -12,7 +12,7 @@ use Rattle.rmt_config.specs.Cells.{Blocks, unit_row, blocks_at}
 use Rattle.rmt_config.specs.CellForm.{EndsAt}
 use Rattle.rmt_config.specs.StageForm.{is_listed}
 use Rattle.rmt_config.specs.Layouts.{number_in, quantum_of, local_of, unit_of, row_of, position_of, index_in, entry_in, is_told, BlocksTold, IsLayout}
-use Rattle.rmt_config.proofs.UnitBits.{bit-zero, slice-zero, slice-zero_bit, below-from_bits, Within, unit_bit, unit_bit_past}
+use Rattle.rmt_config.proofs.UnitBits.{bit-zero, slice-zero, slice-zero_bit, below-from_bits, Within, unit_bit, unit_bit_past, one_is_not_zero}
 use Rattle.rmt_config.proofs.CellPlaces.{index_row, index_position, unit_back, index_below, unit_quantum, index_back, number_quantum, number_local, number_back, local_below, number_below}
 
 -- ---- rows that stand for what blocks hold
@@ -46,9 +46,6 @@ blocks_at-has blocks side unit o lo lt =
 blocks_at-item : (blocks : List ℕ) (side unit o : ℕ) → o < side → get_or (blocks_at blocks side unit) o 0 ≡ get_or blocks (unit * side + o) 0
 blocks_at-item blocks side unit o lo =
     get_or-take side (drop (unit * side) blocks) o 0 lo ∙ get_or-drop (unit * side) blocks o 0
-
-one_is_not_zero : (n : ℕ) → n ≡ 0 → n ≡ 1 → ⊥
-one_is_not_zero n a b = omega (arith, a, b)
 
 -- at equal places the same may be set
 told-same : (l : CellLayout) (cells : List ℕ) (unit row i unit' row' i' : ℕ) → unit' ≡ unit → row' ≡ row → i' ≡ i
@@ -180,7 +177,7 @@ told-from l cells unit row position lp li h =
     let c = is_listed (number_in l (unit / l.units) (index_in l unit row position)) cells in
     and_from (a && b) c (and_from a b (lt-ltb position l.per lp) (lt-ltb (index_in l unit row position) (l.ways * l.way) li)) h
 
-some_place : (l : CellLayout) → IsLayout l → 0 < l.rows * l.per
+pub some_place : (l : CellLayout) → IsLayout l → 0 < l.rows * l.per
 some_place l is =
     let lt = mul-lt 0 0 l.rows l.per is.some_rows is.some_per in omega (arith, lt)
 

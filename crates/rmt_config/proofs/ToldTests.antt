@@ -7,6 +7,7 @@ use Rattle.std.proofs.lemmas.Bool.{and_parts, or_cases, cases_eq, both_ways, not
 use Rattle.std.proofs.lemmas.List.Sums.{AllPass-from_list_all}
 use Rattle.rmt_config.specs.declared.form.layout.CellLayout.{CellLayout}
 use Rattle.rmt_config.specs.Layouts.{is_told, BlocksTold}
+use Rattle.rmt_config.proofs.UnitBits.{one_is_not_zero}
 
 -- what passes at each number below one
 abbrev pub all_below : (ℕ → Bool) → ℕ → Bool
@@ -29,9 +30,6 @@ row_test l cells unit place row bits =
 abbrev pub blocks_test : {X : Type 0} → CellLayout → (X → ℕ) → (X → ℕ) → (X → ℕ) → List ℕ → List X → List ℕ → Bool
 blocks_test l block row bits cells rows blocks =
     all_below (λ j. list_all (λ x. not (eqb (block x) (get_or blocks j 0)) || row_test l cells (j / l.side) (j % l.side) (row x) (bits x)) rows) (length blocks)
-
-not_zero : (n : ℕ) → n ≡ 0 → n ≡ 1 → ⊥
-not_zero n a b = omega (arith, a, b)
 
 pub told-from_test : {X : Type 0} (l : CellLayout) (block row bits : X → ℕ) (cells : List ℕ) (rows : List X) (blocks : List ℕ)
     → blocks_test l block row bits cells rows blocks ≡ true → BlocksTold l block row bits cells rows blocks
@@ -57,6 +55,6 @@ told-from_test {X} l block row bits cells rows blocks h j lt k d ltk e t small o
     bit same =
         elim (or_cases (eqb (bit_at (bits x) t) 0) (is_told l cells (j / l.side) (row x) ((j % l.side * l.bits + t) / l.entry))
         (below-at (λ t. eqb (bit_at (bits x) t) 0 || is_told l cells (j / l.side) (row x) ((j % l.side * l.bits + t) / l.entry)) l.bits t same small)) as (λ _. Told) [
-          | inl none ↦ absurd (not_zero (bit_at (bits x) t) (eqb-true (bit_at (bits x) t) 0 none) one)
+          | inl none ↦ absurd (one_is_not_zero (bit_at (bits x) t) (eqb-true (bit_at (bits x) t) 0 none) one)
           | inr told ↦ told
         ]

@@ -4,7 +4,7 @@ use Rattle.std.specs.Int.{bit_at}
 use Rattle.std.proofs.lemmas.Nat.{pow_pos, pow-add, shr-shr, shr_split, mod_below, mul-add-lt}
 use Rattle.std.proofs.lemmas.Nat.Bits.{bit_at-zero, bit_at_cat_low, bit_at_cat_high, bit_at_above, bit_at-lt, same_from_bits, same_from_bits_below}
 use Rattle.rmt_bits.specs.Bits.{slice}
-use Rattle.rmt_bits.proofs.BitLaws.{slice-add, slice-lt}
+use Rattle.rmt_bits.proofs.BitLaws.{slice-add, slice-lt, turned}
 use Rattle.rmt_config.specs.Cells.{Blocks, unit_row}
 
 -- a bit that isn't 1 is 0
@@ -52,9 +52,6 @@ below-from_bits x end h =
 -- each row of a block has no more bits than the block
 abbrev pub Within : ℕ → Blocks → Type 0
 Within size held = (block row : ℕ) → held block row < 2 ^ size
-
-turned : (a b m : ℕ) → a + m * b ≡ b * m + a
-turned a b m = omega arith
 
 pub unit_row-lt : (size : ℕ) (held : Blocks) (row : ℕ) (blocks : List ℕ) → Within size held → unit_row size held row blocks < 2 ^ (length blocks * size)
 unit_row-lt size held row [] w = pow_pos (0 * size)
@@ -111,3 +108,6 @@ unit-across held row blocks o t a w lo lt le =
     ∙ ap (λ n. slice x n a * 2 ^ b + slice x (o * 112 + t) b) next
     ∙ ap (λ n. n * 2 ^ b + slice x (o * 112 + t) b) (unit-slice held row blocks (o + 1) 0 a w lo (omega (arith, le)))
     ∙ ap (λ n. slice (held (get_or blocks (o + 1) 0) row) 0 a * 2 ^ b + n) (unit-slice held row blocks o t b w (omega (arith, lo)) (omega (arith, lt)))
+
+pub one_is_not_zero : (n : ℕ) → n ≡ 0 → n ≡ 1 → ⊥
+one_is_not_zero n a b = omega (arith, a, b)

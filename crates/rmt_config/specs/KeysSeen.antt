@@ -3,12 +3,10 @@ use Rattle.std.specs.Prelude.{◌≡◌, ℕ, ◌+◌, ◌*◌, ◌/◌, ◌<◌
 use Rattle.std.specs.List.{list_any, flat_map, range_with_len}
 use Rattle.std.specs.Str.{bytes_eq}
 use Rattle.std.specs.Global.{Global}
-use Rattle.std.specs.declared.cmp.Ordering.{Ordering}
-use Rattle.std.specs.Ordering.{nat_cmp}
-use Rattle.std.specs.Cmp.Lexicographic.{slice_cmp}
 use Rattle.std.specs.BTreeSet.{BTreeSet, contains}
 use Rattle.rmt_bits.specs.Bits.{bytes_of}
 use Rattle.rmt_bits.specs.Hash.{hash_row}
+use Rattle.rmt_bits.specs.Members.{by_numbers}
 use Rattle.rmt_config.specs.Types.{CellNumber, Config, Memory, SramRow}
 use Rattle.rmt_config.specs.declared.config.Memory.TheVariants.{Without, Exact, Ternary}
 use Rattle.rmt_config.specs.LaneForm.{bits_of_lanes}
@@ -16,12 +14,9 @@ use Rattle.rmt_config.specs.Rooms.{PartAt}
 use Rattle.rmt_config.specs.NamesForm.{held_by}
 use Rattle.rmt_config.specs.Cells.{candidates, cell_of, entry_at, index_of, sram_row}
 
-abbrev pub order : Vec ℕ Global → Vec ℕ Global → Ordering
-order x y = slice_cmp nat_cmp x.items y.items
-
 -- a set has the keys of a list, each as that many bytes
 abbrev pub Knows : ℕ → List ℕ → BTreeSet (Vec ℕ Global) → Type 0
-Knows size keys set = (q : Vec ℕ Global) → contains order set q ≡ list_any (λ k. bytes_eq (bytes_of size k) q.items) keys
+Knows size keys set = (q : Vec ℕ Global) → contains by_numbers set q ≡ list_any (λ k. bytes_eq (bytes_of size k) q.items) keys
 
 -- whether a key was seen before
 abbrev pub was_seen : ℕ → ℕ → List ℕ → Bool

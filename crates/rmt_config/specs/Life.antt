@@ -1,6 +1,7 @@
 -- One packet's way through the stages: its words at each age, its outcomes, and what it counts.
 use Rattle.std.specs.Prelude.{ℕ, ◌+◌, ◌*◌, ◌-◌, ◌%◌, ◌/◌, ◌^◌, List, [], ◌∷◌, ◌++◌, Bool, true, false, ◌&&◌, ◌==◌, nat_le, bit_and, bit_or, bit_xor, if◌then◌else◌, Option, Some, None, find, fold, reverse, replicate, slice_get, slice_index, slice_set, option_map, unwrap_or}
 use Rattle.std.specs.List.{list_all}
+use Rattle.std.specs.Option.{option_or}
 use Rattle.rmt_bits.specs.Bits.{slice, deposit}
 use Rattle.rmt_bits.specs.declared.lane.Lane.{Lane}
 use Rattle.rmt_config.specs.Types.{Stage, Unit, GateTest, UnitGuard, SlotUnit, Memory, Vliw, Operation, OpKind, Source}
@@ -138,15 +139,10 @@ abbrev pub acts_of : Look → ℕ → Stage → Words → List ℕ → Acts
 acts_of look k stage words outcomes =
     fold (unit_acts look k stage words) (record { outcomes = outcomes; running = []; counted = []; place = 0 }) stage.units
 
--- the first of two that is there
-abbrev pub or_else : {A : Type 0} → Option A → Option A → Option A
-or_else (Some x) o = Some x
-or_else None o = o
-
 -- the word that the last running unit with an operation on it writes, from the words that it reads; the last unit stands first
 abbrev pub word_after : List Running → Words → ℕ → Option ℕ
 word_after [] words w = None
-word_after (r ∷ rs) words w = or_else (option_map (written words r.held) (op_on w r.ops)) (word_after rs words w)
+word_after (r ∷ rs) words w = option_or (option_map (written words r.held) (op_on w r.ops)) (word_after rs words w)
 
 -- the life through one more stage, which has number k: keys and tests are read at its start, operands and old words
 -- 9 cycles later, and whole words are written 12 cycles after the start and seen from then on

@@ -4,7 +4,8 @@ use Rattle.std.specs.List.{flat_map, count_by, sum_by, range_with_len, position_
 use Rattle.rmt_config.specs.Instructions.{unit_instructions}
 use Rattle.rmt_config.specs.declared.limits.LimitHit.{LimitHit}
 use Rattle.rmt_config.specs.Types.{Config, ParserConfig, ParserState, ParserEntry, Stage}
-use Rattle.rmt_config.specs.Resources.{is_slot, is_gate, unit_data, unit_sram, unit_tcam, unit_width, greatest_by, most_listed_in, exact_words, ternary_words, crossbar_bits, node_count}
+use Rattle.rmt_config.specs.Resources.{is_slot, is_gate, unit_data, unit_sram, unit_width, greatest_by, most_listed_in, exact_words, ternary_words, crossbar_bits, node_count}
+use Rattle.rmt_config.specs.StageForm.{tcam_blocks}
 
 -- ---- the limits
 
@@ -86,7 +87,7 @@ sram_hit k stage = passed 6 k (length (flat_map unit_sram stage.units))
 
 -- 7: 16 TCAM blocks, likewise
 abbrev pub tcam_hit : ℕ → Stage → Option LimitHit
-tcam_hit k stage = passed 7 k (length (flat_map unit_tcam stage.units))
+tcam_hit k stage = passed 7 k (length (flat_map tcam_blocks stage.units))
 
 -- 8: 640 bits of the words that exact keys read
 abbrev pub exact_words_hit : ℕ → Stage → Option LimitHit

@@ -1,23 +1,21 @@
 -- What the units of a stage take of the chip: memory blocks, crossbar words, slots, gates, instructions, data bits; and the nodes of all stages.
 use Rattle.std.specs.Prelude.{ℕ, ◌+◌, max, List, [], ◌∷◌, ◌++◌, length, map, Bool, true, false, ◌==◌, if◌then◌else◌}
-use Rattle.std.specs.List.{flat_map, list_any, count_by, sum_by, fold}
+use Rattle.std.specs.List.{flat_map, count_by, sum_by, fold}
 use Rattle.rmt_bits.specs.Words.{word_size}
 use Rattle.rmt_bits.specs.declared.lane.Lane.{Lane}
+use Rattle.rmt_bits.specs.Members.{is_among}
 use Rattle.rmt_config.specs.Types.{Stage, Unit, GateTest, Memory}
 use Rattle.rmt_config.specs.declared.config.Unit.TheVariants.{Gate, Slot}
 use Rattle.rmt_config.specs.declared.config.Memory.TheVariants.{Without, Exact, Ternary}
 use Rattle.rmt_config.specs.TableForm.{node_of}
+use Rattle.rmt_config.specs.StageForm.{tcam_blocks}
 
 -- ---- lists of numbers
-
--- whether a number stands in a list
-abbrev pub is_in : List ℕ → ℕ → Bool
-is_in ns n = list_any (λ m. m == n) ns
 
 -- the numbers of a list, each once
 abbrev pub distinct : List ℕ → List ℕ
 distinct [] = []
-distinct (n ∷ ns) = if is_in ns n then distinct ns else n ∷ distinct ns
+distinct (n ∷ ns) = if is_among ns n then distinct ns else n ∷ distinct ns
 
 -- how often a number stands in a list
 abbrev pub times_in : List ℕ → ℕ → ℕ
@@ -52,12 +50,6 @@ memory_sram Without = []
 memory_sram (Exact width per quanta first_way keys records counters) = keys ++ records ++ counters
 memory_sram (Ternary quanta keys records counters) = records ++ counters
 
--- the TCAM blocks that it lists
-abbrev pub memory_tcam : Memory → List ℕ
-memory_tcam Without = []
-memory_tcam (Exact width per quanta first_way keys records counters) = []
-memory_tcam (Ternary quanta keys records counters) = keys
-
 -- the blocks side by side of a row of an exact memory
 abbrev pub memory_width : Memory → ℕ
 memory_width Without = 0
@@ -68,11 +60,6 @@ memory_width (Ternary quanta keys records counters) = 0
 abbrev pub unit_sram : Unit → List ℕ
 unit_sram (Gate g) = []
 unit_sram (Slot s) = memory_sram s.memory
-
--- the TCAM blocks that a unit lists
-abbrev pub unit_tcam : Unit → List ℕ
-unit_tcam (Gate g) = []
-unit_tcam (Slot s) = memory_tcam s.memory
 
 -- the blocks side by side of a row of its exact memory
 abbrev pub unit_width : Unit → ℕ
@@ -85,7 +72,7 @@ most_listed blocks = greatest_by (times_in blocks) blocks
 
 -- the same over the SRAM blocks and the TCAM blocks of a stage's units
 abbrev pub most_listed_in : List Unit → ℕ
-most_listed_in units = max (most_listed (flat_map unit_sram units)) (most_listed (flat_map unit_tcam units))
+most_listed_in units = max (most_listed (flat_map unit_sram units)) (most_listed (flat_map tcam_blocks units))
 
 -- ---- crossbars
 

@@ -32,13 +32,14 @@ placed_units c = placed_from 0 c.stages
 abbrev pub has_node : ℕ → Placed → Bool
 has_node node p = node_of p.unit == node
 
-abbrev pub is_among : ℕ → List Placed → Bool
-is_among node units = list_any (has_node node) units
+-- some unit of a node is among these
+abbrev pub node_is_among : ℕ → List Placed → Bool
+node_is_among node units = list_any (has_node node) units
 
 -- a guard's parent is another node, all of whose units stand before
 abbrev pub guard_stands : ℕ → Option UnitGuard → List Placed → List Placed → Bool
 guard_stands node None before behind = true
-guard_stands node (Some g) before behind = not (g.parent == node) && is_among g.parent before && not (is_among g.parent behind)
+guard_stands node (Some g) before behind = not (g.parent == node) && node_is_among g.parent before && not (node_is_among g.parent behind)
 
 -- ---- the parts of a table
 
@@ -105,11 +106,11 @@ unit_stands before placed behind =
     guard_stands (node_of placed.unit) (guard_of placed.unit) before behind && stands placed.unit
   where
     stands : Unit → Bool
-    stands (Gate g) = not (is_among g.node before) && not (is_among g.node behind)
+    stands (Gate g) = not (node_is_among g.node before) && not (node_is_among g.node behind)
     stands (Slot s) =
         follows_part placed.stage s (find (has_node s.node) before)
         && ways_follow (count_by (has_node s.node) before) s.memory
-        && same_flag s.last (not (is_among s.node behind))
+        && same_flag s.last (not (node_is_among s.node behind))
 
 abbrev pub tables_are_formed : Config → Bool
 tables_are_formed c = each_between unit_stands [] (placed_units c)

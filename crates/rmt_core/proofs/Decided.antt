@@ -1,5 +1,5 @@
 -- A configuration keeps the rules of form, or it doesn't.
-use Rattle.std.proofs.Common.{◌≡◌, ◌⊎◌, inl, inr, ⊎_elim, ℕ, zero, suc, ◌+◌, ◌*◌, ◌^◌, ◌<◌, ◌≤◌, Bool, true, false, ◌&&◌, eqb, List, [], ◌∷◌, length, sym, refl, subst, arith}
+use Rattle.std.proofs.Common.{◌≡◌, ◌⊎◌, inl, inr, ⊎_elim, ℕ, zero, suc, ◌+◌, ◌*◌, ◌^◌, ◌<◌, ◌≤◌, Bool, true, false, eqb, List, [], ◌∷◌, length, sym, refl, subst, arith}
 use Rattle.std.specs.Prelude.{All, IsTrue, ◌==◌, not}
 use Rattle.std.proofs.lemmas.Bool.{cases_eq, cases_lt, ne_eqb}
 use Rattle.std.proofs.Math.Nat.{le-mul_of_pos_right}
@@ -18,6 +18,7 @@ use Rattle.rmt_config.specs.StageForm.{rows_are_formed}
 use Rattle.rmt_config.specs.TableForm.{tables_are_formed}
 use Rattle.rmt_config.specs.TailForm.{has_names_with_tails}
 use Rattle.std.specs.List.{list_all, list_any}
+use Rattle.std.proofs.Math.Bool.{and-false}
 
 -- it holds, or it does not
 abbrev pub IsDecided : Type 0 → Type 0
@@ -64,10 +65,6 @@ each P d (x ∷ xs) = along (λ y. All-cons P x xs y.0 y.1) (λ all. (All-head P
 abbrev IsClearFrom : ℕ → Blocks → Type 0
 IsClearFrom m held = (block row : ℕ) → m ≤ row → held block row ≡ 0
 
-never_and : (a : Bool) → (a && false) ≡ false
-never_and true = refl
-never_and false = refl
-
 clear_from : {X : Type 0} (block_of row_of part : X → ℕ) (rows : List X) → (m : ℕ) × IsClearFrom m (held_of block_of row_of part rows)
 clear_from block_of row_of part [] = (0, λ block row le. refl)
 clear_from {X} block_of row_of part (r ∷ rows) =
@@ -77,7 +74,7 @@ clear_from {X} block_of row_of part (r ∷ rows) =
     one : (block row : ℕ) → row_of r < row → held_of block_of row_of part rows block row ≡ 0 → held_of block_of row_of part (r ∷ rows) block row ≡ 0
     one block row less e =
         let other : eqb (row_of r) row ≡ false = ne_eqb (row_of r) row (λ same. omega arith) in
-        rw (other, never_and (eqb (block_of r) block)) e
+        rw (other, and-false (eqb (block_of r) block)) e
 
 module _ (size : ℕ) (held : Blocks) (m : ℕ) (clear : IsClearFrom m held) where
   clear_unit : (row : ℕ) → m ≤ row → (blocks : List ℕ) → unit_row size held row blocks ≡ 0

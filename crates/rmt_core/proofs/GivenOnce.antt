@@ -5,6 +5,7 @@ use Rattle.std.proofs.lemmas.Bool.{cases_order}
 use Rattle.std.proofs.lemmas.List.{length-map}
 use Rattle.rmt_bits.specs.Packet.{Packet}
 use Rattle.rmt_bits.specs.declared.lane.Lane.{Lane}
+use Rattle.rmt_update.proofs.LoadedLaws.{NeverBoth}
 use Rattle.rmt_core.specs.Types.{Program, Config, Stage}
 use Rattle.rmt_ast.specs.declared.entry.Entry.{Entry}
 use Rattle.rmt_ast.specs.Answers.{answers_of}
@@ -12,8 +13,6 @@ use Rattle.rmt_check.specs.Means.{Means, Outcome}
 use Rattle.rmt_entries.specs.declared.fault.EntryFault.{EntryFault}
 use Rattle.rmt_entries.specs.declared.fault.EntryFault.TheVariants.{NoMemory, At}
 use Rattle.rmt_entries.specs.Entries.{entries_of}
-use Rattle.rmt_cuckoo.specs.declared.layout.Ways.{Ways}
-use Rattle.rmt_cuckoo.specs.Loading.{IsLoading, IsOverfull}
 use Rattle.rmt_config.specs.ChipRun.{cycles_of, inputs_of, latency_of}
 use Rattle.rmt_items.specs.declared.fault.ImageFault.{ImageFault}
 use Rattle.rmt_image.specs.Reading.{Answers as ImageAnswers}
@@ -78,10 +77,6 @@ OneMeaning = (text : List ℕ) (m n : Outcome) → Means text m → Means text n
 -- no bytes spell two maps
 abbrev pub OneMap : Type 0
 OneMap = (bytes : List ℕ) (m n : MapFile) → SpellsMap bytes m → SpellsMap bytes n → m ≡ n
-
--- no table has both a loading and keys with too few cells
-abbrev pub NeverBoth : Type 0
-NeverBoth = (layout : List Ways) (seed : ℕ) (keys : List (List ℕ)) (cells members : List ℕ) (count : ℕ) → IsLoading layout seed keys cells → IsOverfull layout seed keys members count → ⊥
 
 -- ---- two givens
 

@@ -1,6 +1,6 @@
 -- What placers have in common: the refusals before the nodes are placed, and how many stages there are.
 use Rattle.std.proofs.Common.{◌≡◌, ◌≢◌, ◌≤◌, ℕ, List, Option, Some, None, Result, Ok, Err, length, refl, sym, ap, subst, ◌∙◌, arith}
-use Rattle.std.specs.Prelude.{IfErr, IfOk, option_map}
+use Rattle.std.specs.Prelude.{IfOk, option_map}
 use Rattle.std.specs.Option.{option_or}
 use Rattle.std.proofs.lemmas.Option.{none-some, same_Some}
 use Rattle.std.proofs.lemmas.List.{length-map}
@@ -45,10 +45,6 @@ use Rattle.rmt_core.specs.Compiling.{IsMadeBy}
 use Rattle.rmt_core.specs.Making.{AreBothRefused}
 use Rattle.rmt_core.specs.Placers.{HasFewStages, IsPlacedBy, placed_by, placing_refusal, refusal_by}
 use Rattle.rmt_bits.proofs.OptionLaws.{same_Ok}
-
--- what is done has not failed
-pub done_not_failed : {A E : Type 0} (x : A) (e : E) → (let r : Result A E = Ok x in r) ≢ Err e
-done_not_failed {A} {E} x e same = subst (λ (r : Result A E). IfErr r (λ _. ⊥)) same tt
 
 -- fields have one packing, and nodes one placement
 pub same_placed : (placer : Placer) (p : Program) (a b : List (List Lane)) (parts others : List Part) → packing p ≡ Ok a → packing p ≡ Ok b

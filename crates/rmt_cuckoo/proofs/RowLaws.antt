@@ -14,20 +14,13 @@ use Rattle.rmt_cuckoo.specs.declared.choices.Choices.{Choices}
 use Rattle.rmt_cuckoo.specs.Loading.{cells_in, cells_of, way_of, ways_from, ways_of, row_start, candidates}
 use Rattle.rmt_cuckoo.specs.Choices.{IsWay, rows_in, choices_at, AreChoices, AreWithin}
 use Rattle.rmt_cuckoo.specs.Search.{AreTaken}
-use Rattle.rmt_bits.proofs.ListLaws.{range_more}
-
--- one cell more of a row
-pub range_next : (start cell : ℕ) → start ≤ cell → range_with_len start (cell + 1 - start) ≡ range_with_len start (cell - start) ++ cell ∷ []
-range_next start cell le =
-    let at : start + (cell - start) ≡ cell = omega arith in
-    let more : cell + 1 - start ≡ (cell - start) + 1 = omega arith in
-    ap (range_with_len start) more ∙ range_more start (cell - start) ∙ ap (λ (c : ℕ). range_with_len start (cell - start) ++ c ∷ []) at
+use Rattle.rmt_bits.proofs.ListLaws.{range-next}
 
 pub row_more : (all before : List ℕ) (start cell : ℕ) → start ≤ cell → all ≡ before ++ range_with_len start (cell - start)
     → all ++ cell ∷ [] ≡ before ++ range_with_len start (cell + 1 - start)
 row_more all before start cell le so_far =
     ap (λ (cs : List ℕ). cs ++ cell ∷ []) so_far ∙ append_assoc before (range_with_len start (cell - start)) (cell ∷ [])
-    ∙ ap (λ (cs : List ℕ). before ++ cs) (sym (range_next start cell le))
+    ∙ ap (λ (cs : List ℕ). before ++ cs) (sym (range-next start cell le))
 
 -- one taken cell more of a row
 pub taken_next : (holders : List ℕ) (start cell : ℕ) → start ≤ cell → 0 < get_or holders cell 0
@@ -35,16 +28,8 @@ pub taken_next : (holders : List ℕ) (start cell : ℕ) → start ≤ cell → 
     → All (λ c. 0 < get_or holders c 0) (range_with_len start (cell + 1 - start))
 taken_next holders start cell le taken so_far =
     let P : ℕ → Type 0 = λ c. 0 < get_or holders c 0 in
-    subst (All P) (sym (range_next start cell le))
+    subst (All P) (sym (range-next start cell le))
     (All-append P (range_with_len start (cell - start)) (cell ∷ []) so_far (All-cons P cell [] taken (All-nil P)))
-
--- a cell of a row
-pub in_row : (start per cell : ℕ) → start ≤ cell → cell < start + per → Contains (range_with_len start per) cell
-in_row start per cell le lt =
-    let i = cell - start in
-    let short : i < per = omega arith in
-    let same : start + i ≡ cell = omega arith in
-    (i, omega (arith, length-range_with_len start per), get_or-range_with_len start per i cell short ∙ same)
 
 -- numbers of a range are below its end
 pub range_below : (a n end : ℕ) → a + n ≤ end → All (λ c. c < end) (range_with_len a n)

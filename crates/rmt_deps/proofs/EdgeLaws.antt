@@ -11,34 +11,35 @@ use Rattle.std.proofs.lemmas.List.{append-nil, length-append, get_or_append_left
 use Rattle.rmt_bits.proofs.AllLaws.{All-flat_map}
 use Rattle.rmt_bits.proofs.ListLaws.{range_more}
 use Rattle.rmt_bits.specs.declared.lane.Lane.{Lane}
+use Rattle.rmt_bits.specs.Members.{is_among}
 use Rattle.rmt_ast.specs.declared.program.Program.{Program}
 use Rattle.rmt_ast.specs.declared.program.Guard.{Guard}
 use Rattle.rmt_ast.specs.declared.deps.Edge.{Edge}
 use Rattle.rmt_ast.specs.declared.deps.EdgeKind.{EdgeKind}
 use Rattle.rmt_ast.specs.declared.deps.EdgeKind.TheVariants.{Match, Action, Successor, Reverse, Word}
 use Rattle.rmt_phv.specs.Sets.{Meet}
-use Rattle.rmt_deps.specs.Edges.{contains, meet, depends, edge, edges_between, edges_from, edges_among, dependencies_of, on_different_arms, are_other_arms, guards_of, guard_of, guard_then, guards_up, GoesForward, GoForward}
+use Rattle.rmt_deps.specs.Edges.{meet, depends, edge, edges_between, edges_from, edges_among, dependencies_of, on_different_arms, are_other_arms, guards_of, guard_of, guard_then, guards_up, GoesForward, GoForward}
 use Rattle.rmt_deps.specs.NumberSets.{IsSet}
 
 -- two sets meet where the lists of their numbers do
 pub meet_is : (a b xs ys : List ℕ) (m : Bool) → IsSet a xs → IsSet b ys → (IsTrue m ↔ Meet a b) → m ≡ meet xs ys
 meet_is a b xs ys m in_a in_b iff =
     elim (cases_Bool (meet xs ys)) [
-      | inl some ↦ by_lists (Any-from_list_any (contains ys) xs some) ∙ sym some
+      | inl some ↦ by_lists (Any-from_list_any (is_among ys) xs some) ∙ sym some
       | inr none ↦ false_from_ne_true m (λ is. by_sets none (iff.0 is)) ∙ sym none
     ]
   where
-    by_lists : (k : ℕ) × (n : ℕ) × (k < length xs) × (get_or xs k n ≡ n) × (contains ys n ≡ true) → m ≡ true
+    by_lists : (k : ℕ) × (n : ℕ) × (k < length xs) × (get_or xs k n ≡ n) × (is_among ys n ≡ true) → m ≡ true
     by_lists (k, n, lt, is, other) =
-        let here : contains xs n ≡ true = list_any_at (λ x. eqb x n) xs k n lt (eq-eqb (get_or xs k n) n is) in
+        let here : is_among xs n ≡ true = list_any_at (λ x. eqb x n) xs k n lt (eq-eqb (get_or xs k n) n is) in
         iff.1 (n, (in_a n ∙ here, in_b n ∙ other))
 
     by_sets : meet xs ys ≡ false → Meet a b → ⊥
     by_sets none (n, both) =
         let first = Any-from_list_any (λ x. eqb x n) xs (sym (in_a n) ∙ both.0) in
         let is : first.1 ≡ n = eqb-true first.1 n first.4 in
-        let pass : contains ys (get_or xs first.0 first.1) ≡ true = ap (contains ys) (first.3 ∙ is) ∙ sym (in_b n) ∙ both.1 in
-        false≢true (sym none ∙ list_any_at (contains ys) xs first.0 first.1 first.2 pass)
+        let pass : is_among ys (get_or xs first.0 first.1) ≡ true = ap (is_among ys) (first.3 ∙ is) ∙ sym (in_b n) ∙ both.1 in
+        false≢true (sym none ∙ list_any_at (is_among ys) xs first.0 first.1 first.2 pass)
 
 -- one kind more
 pub kinds_more : (t : EdgeKind → Bool) (f : EdgeKind → Edge) (kinds : List EdgeKind) (i : ℕ) (d : EdgeKind) → i < length kinds

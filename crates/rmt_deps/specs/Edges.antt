@@ -2,6 +2,7 @@
 use Rattle.std.specs.Prelude.{ℕ, zero, suc, ◌+◌, ◌-◌, List, [], ◌∷◌, ◌++◌, Bool, false, not, ◌&&◌, ◌||◌, ◌==◌, ◌<◌, if◌then◌else◌, Option, Some, None, option_map, unwrap_or, slice_get, map, filter, length, bit_and, All}
 use Rattle.std.specs.List.{list_any, flat_map, range_with_len}
 use Rattle.rmt_bits.specs.declared.lane.Lane.{Lane}
+use Rattle.rmt_bits.specs.Members.{is_among}
 use Rattle.rmt_ast.specs.declared.program.Program.{Program}
 use Rattle.rmt_ast.specs.declared.program.Action.{Action}
 use Rattle.rmt_ast.specs.declared.program.Assign.{Assign}
@@ -66,15 +67,12 @@ abbrev pub writes_of : Program → ℕ → List ℕ
 writes_of p n = of_node p (of_table p written_by) (λ field. []) n
 
 -- the words in which some fields have pieces
-abbrev pub words_of : List (List Lane) → List ℕ → List ℕ
-words_of places fields = flat_map (λ f. map (λ (l : Lane). l.word) (lanes_of places f)) fields
+abbrev pub words_of_fields : List (List Lane) → List ℕ → List ℕ
+words_of_fields places fields = flat_map (λ f. map (λ (l : Lane). l.word) (lanes_of places f)) fields
 
 -- some number stands in both lists
-abbrev pub contains : List ℕ → ℕ → Bool
-contains xs n = list_any (λ x. x == n) xs
-
 abbrev pub meet : List ℕ → List ℕ → Bool
-meet xs ys = list_any (contains ys) xs
+meet xs ys = list_any (is_among ys) xs
 
 -- ---- arms
 
@@ -120,7 +118,7 @@ depends p places kind.Match a b = meet (writes_of p a) (keys_of p b)
 depends p places kind.Action a b = meet (writes_of p a) (reads_of p b) || meet (writes_of p a) (writes_of p b)
 depends p places kind.Successor a b = is_parent a (guard_of p b)
 depends p places kind.Reverse a b = meet (writes_of p b) (keys_of p a) || meet (writes_of p b) (reads_of p a)
-depends p places kind.Word a b = meet (words_of places (writes_of p a)) (words_of places (writes_of p b))
+depends p places kind.Word a b = meet (words_of_fields places (writes_of p a)) (words_of_fields places (writes_of p b))
 
 abbrev pub edge : ℕ → ℕ → EdgeKind → Edge
 edge a b k = record { from = a; to = b; kind = k }

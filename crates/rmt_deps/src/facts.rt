@@ -1,8 +1,9 @@
 //! What is kept of each node: the fields and words that it touches as sets, and its guards.
 
 ghost use Rattle.std.specs.Prelude.{◌≡◌, ◌≤◌, ◌/◌, ◌<◌, ◌||◌, ℕ, All, IfOk, length};
+ghost use Rattle.rmt_bits.specs.Members.{is_among};
 ghost use Rattle.rmt_phv.specs.Sets.{has};
-ghost use Rattle.rmt_deps.specs.Edges.{contains, guard_of as guard_of_node, guards_of};
+ghost use Rattle.rmt_deps.specs.Edges.{guard_of as guard_of_node, guards_of};
 ghost use Rattle.rmt_deps.specs.NumberSets.{IsSet};
 
 use crate::touched::{fields_of, words};
@@ -80,7 +81,7 @@ fn greatest(numbers: &[u32]) -> u32
 /// Puts numbers into a set that has bits for them.
 fn insert_each(set: &mut [u64], numbers: &[u32])
     requires { All (λ n. n / 64 < length set.old) numbers.now }
-    ensures { (n : ℕ) → has set.new n ≡ (contains numbers.now n || has set.old n) }
+    ensures { (n : ℕ) → has set.new n ≡ (is_among numbers.now n || has set.old n) }
 {
     for number in numbers {
         insert(set, *number as usize);

@@ -6,7 +6,7 @@ ghost use Rattle.rmt_bits.specs.declared.lane.Lane.{Lane};
 ghost use Rattle.rmt_ast.specs.declared.program.Assign.{Assign};
 ghost use Rattle.rmt_ast.specs.Places.{lanes_of};
 ghost use Rattle.rmt_phv.specs.Places.{written_by};
-ghost use Rattle.rmt_deps.specs.Edges.{leaf_fields, expr_fields, read_by, of_action, of_table as of_table_by, keys_of, reads_of, writes_of, words_of as words_of_fields};
+ghost use Rattle.rmt_deps.specs.Edges.{leaf_fields, expr_fields, read_by, of_action, of_table as of_table_by, keys_of, reads_of, writes_of, words_of_fields};
 
 use rmt_ast::program::{Assign, Expr, Leaf, Program, Table, What};
 use rmt_bits::answer::Numbers;

@@ -8,6 +8,7 @@ use Rattle.rmt_config.specs.declared.config.Config.{Config}
 use Rattle.rmt_config.specs.Commits.{RunState}
 use Rattle.rmt_config.specs.Limits.{IsWithinLimits}
 use Rattle.rmt_config.specs.RunInputs.{Idle, Input}
+use Rattle.rmt_refine.specs.RunStates.{first_state}
 use Rattle.rmt_chip.specs.declared.chip.Chip.{Chip}
 use Rattle.rmt_chip.specs.Stands.{Stands}
 use Rattle.rmt_chip.proofs.StandsLaws.{no_limit}
@@ -20,7 +21,7 @@ use Rattle.rmt_drive.specs.declared.running.state.Run.{Run}
 use Rattle.rmt_drive.specs.declared.status.Status.{Status}
 use Rattle.rmt_drive.specs.declared.status.Status.TheVariants as status
 use Rattle.rmt_drive.specs.declared.watch.Watch.{Watch}
-use Rattle.rmt_drive.specs.ChipEvents.{Comes, at_start, begins, empty_cycles, lists_in, names_in}
+use Rattle.rmt_drive.specs.ChipEvents.{Comes, begins, empty_cycles, lists_in, names_in}
 use Rattle.rmt_drive.specs.ChipReading.{by_chip, read_by, unread_by}
 use Rattle.rmt_drive.specs.ChipRuns.{EndsFull, RanWhole, RunsChip, RunsSo}
 use Rattle.rmt_drive.specs.ChipText.{end_of, lines_of, run_text}
@@ -45,7 +46,7 @@ use Rattle.rmt_drive.proofs.RunsLaws.{is_ending, not_written, status_all}
 pub small_chip : (c : Config) (inputs : List Input) (chip : Chip) → Stands c inputs chip → IsWithinLimits c
 small_chip c inputs chip s = subst IsWithinLimits s.config_is (no_limit chip.config chip.limits)
 
-commits_first : (c : Config) (commits : Option Commits) → AreCommitsOf c commits → AreCommitsAt c (unread_by c) (at_start c (lists_in c)) commits
+commits_first : (c : Config) (commits : Option Commits) → AreCommitsOf c commits → AreCommitsAt c (unread_by c) (first_state c (lists_in c)) commits
 commits_first c None h = (refl, refl, refl)
 commits_first c (Some commits) h = h
 
@@ -53,7 +54,7 @@ pub follows_first : (w : Watch) (c : Config) (run : Run) (chip : Chip) (commits 
     → Follows w c (unread_by c) run chip commits now now
 follows_first w c run chip commits now stands of goes = record {
   made = [];
-  state = at_start c (lists_in c);
+  state = first_state c (lists_in c);
   come = record {
     formed = stands.formed;
     small = small_chip c [] chip stands;

@@ -8,7 +8,7 @@ use Rattle.rmt_bits.specs.Packet.{Packet}
 use Rattle.rmt_config.specs.declared.config.Config.{Config}
 use Rattle.rmt_ast.specs.declared.entry.Entry.{Entry}
 use Rattle.rmt_ast.specs.declared.names.Names.{Names}
-use Rattle.rmt_ast.specs.Changes.{Adds, Change, Installed, Removes, at_first, changed, committed, list_of}
+use Rattle.rmt_ast.specs.Changes.{Adds, Change, Installed, Removes, at_first, changed, committed, list_of, key_of_entry, is_held}
 use Rattle.rmt_ast.specs.EntryLists.{Terms}
 use Rattle.rmt_ast.specs.Events.{Arrives, Commits, Event}
 use Rattle.rmt_ast.specs.NameRules.{AreEntriesOf, names_are_formed, terms_named}
@@ -28,7 +28,7 @@ use Rattle.rmt_plain.specs.Stands.{entries_after}
 use Rattle.rmt_plain.proofs.EventLaws.{entries_after-append}
 use Rattle.rmt_update.specs.Fitting.{AreFit}
 use Rattle.rmt_update.specs.Following.{AreBelow, IsNextAbove}
-use Rattle.rmt_lists.specs.Running.{Running, added_to, begins as begins_with, holds, key_of_entry, key_of_name, line_change, refusal_of, unless, with_entry, with_one, without_key, without_one}
+use Rattle.rmt_lists.specs.Running.{Running, added_to, begins as begins_with, key_of_name, line_change, refusal_of, unless, with_entry, with_one, without_key, without_one}
 use Rattle.rmt_update.proofs.BookLaws.{names-fit}
 use Rattle.rmt_update.proofs.FitMakes.{makes_fit, version_fit}
 use Rattle.rmt_update.proofs.FitOwn.{own_fit}
@@ -74,7 +74,7 @@ module _ (r next : Running) where
 
   key_said : (o : Result EntryName ℕ) → without_key r o ≡ Ok next → IsSaid r next (removed_by o)
   key_said (Err code) h = absurd (cc)
-  key_said (Ok k) h = by (holds (key_of_name k) (list_of r.now.lists k.table)) h
+  key_said (Ok k) h = by (is_held (key_of_name k) (list_of r.now.lists k.table)) h
     where
       by : (there : Bool) → cond {A = Result Running ℕ} there (Ok (without_one r k.table (key_of_name k))) (Err 8) ≡ Ok next → IsSaid r next (Removes k.table (key_of_name k) ∷ [])
       by false h = absurd (cc)

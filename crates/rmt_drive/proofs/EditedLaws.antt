@@ -11,7 +11,7 @@ use Rattle.rmt_ast.specs.declared.entry.Entry.{Entry}
 use Rattle.rmt_ast.specs.declared.names.Names.{Names}
 use Rattle.rmt_ast.specs.declared.program.Kind.{Kind}
 use Rattle.rmt_ast.specs.declared.program.Kind.TheVariants as kind
-use Rattle.rmt_ast.specs.Changes.{Adds, Change, Installed, Removes, at_first, changed, committed, list_of}
+use Rattle.rmt_ast.specs.Changes.{Adds, Change, Installed, Removes, at_first, changed, committed, list_of, key_of_entry, is_held}
 use Rattle.rmt_ast.specs.EntryLists.{AreEntries, IsEntry, Terms, terms_of}
 use Rattle.rmt_ast.specs.Events.{Arrives, Commits}
 use Rattle.rmt_ast.specs.NameRules.{names_are_formed, terms_named}
@@ -28,7 +28,7 @@ use Rattle.rmt_refine.specs.Fit.{AreFitChanges, CanBeAdded, CanBeMade, has_once}
 use Rattle.rmt_refine.specs.Units.{table_at}
 use Rattle.rmt_refine.proofs.FitLaws.{commit_follows, first_below}
 use Rattle.rmt_refine.proofs.NamedLaws.{keyed_terms, terms_named_is}
-use Rattle.rmt_lists.specs.Running.{Running, added_to, begins, holds, key_of_entry, key_of_name, line_change, refusal_of, unless, with_entry, with_one, without_key, without_one}
+use Rattle.rmt_lists.specs.Running.{Running, added_to, begins, key_of_name, line_change, refusal_of, unless, with_entry, with_one, without_key, without_one}
 use Rattle.rmt_drive.specs.EventText.{EventReading, added_by, change_said, removed_by, unread, with_change, with_commit, with_packet}
 use Rattle.rmt_drive.specs.PlainRunning.{IsEdited, committed_by}
 
@@ -66,7 +66,7 @@ module _ (p : Program) (names : Names) (lists : List (List Entry)) (are : names 
     -- an entry that is added
     one_added : (e : Entry) (t : Terms) → IsEntry e.table t e → terms_named names e.table ≡ Some t → unless (refusal_of t.kind t.size r.most r.taken (key_of_entry e) (list_of r.now.lists e.table)) (with_one r e) ≡ Ok next
         → IsChange p r next (Adds e ∷ [])
-    one_added e t is told h = free (has_keys_once t.kind && holds (key_of_entry e) es) refl (leb t.size (length es)) refl (leb r.most r.taken) h
+    one_added e t is told h = free (has_keys_once t.kind && is_held (key_of_entry e) es) refl (leb t.size (length es)) refl (leb r.most r.taken) h
       where
         es : List Entry
         es = list_of r.now.lists e.table
@@ -74,7 +74,7 @@ module _ (p : Program) (names : Names) (lists : List (List Entry)) (are : names 
         table : (x : Table) × (table_at p e.table ≡ Some x) × (terms_of p x ≡ t)
         table = its_table e.table t told
 
-        free : (once : Bool) → (has_keys_once t.kind && holds (key_of_entry e) es) ≡ once → (full : Bool) → leb t.size (length es) ≡ full → (many : Bool)
+        free : (once : Bool) → (has_keys_once t.kind && is_held (key_of_entry e) es) ≡ once → (full : Bool) → leb t.size (length es) ≡ full → (many : Bool)
             → unless (cond once (Some 6) (cond full (Some 7) (cond many (Some 9) None))) (with_one r e) ≡ Ok next → IsChange p r next (Adds e ∷ [])
         free true a full b many h = absurd (cc)
         free false a true b many h = absurd (cc)
@@ -83,7 +83,7 @@ module _ (p : Program) (names : Names) (lists : List (List Entry)) (are : names 
             let n = sym (same_Ok (with_one r e) next h) in
             let added : CanBeAdded t es e = record {
               is_entry = is;
-              is_new = ap (λ (k : Bool). k && holds (key_of_entry e) es) (sym (once_is t.kind)) ∙ a;
+              is_new = ap (λ (k : Bool). k && is_held (key_of_entry e) es) (sym (once_is t.kind)) ∙ a;
               has_room = leb-false t.size (length es) b;
             } in
             record {
@@ -111,7 +111,7 @@ module _ (p : Program) (names : Names) (lists : List (List Entry)) (are : names 
             terms e (named_entry_law names text e formed is) (terms_named r.names e.table) (ap (λ (ns : Names). terms_named ns e.table) (sym same)) h
 
     -- an entry that is removed
-    one_removed : (k : EntryName) (there : Bool) → holds (key_of_name k) (list_of r.now.lists k.table) ≡ there → cond {A = Result Running ℕ} there (Ok (without_one r k.table (key_of_name k))) (Err 8) ≡ Ok next
+    one_removed : (k : EntryName) (there : Bool) → is_held (key_of_name k) (list_of r.now.lists k.table) ≡ there → cond {A = Result Running ℕ} there (Ok (without_one r k.table (key_of_name k))) (Err 8) ≡ Ok next
         → IsChange p r next (Removes k.table (key_of_name k) ∷ [])
     one_removed k false is h = absurd (cc)
     one_removed k true is h =
@@ -127,7 +127,7 @@ module _ (p : Program) (names : Names) (lists : List (List Entry)) (are : names 
 
     key_removed : (o : Result EntryName ℕ) → without_key r o ≡ Ok next → IsChange p r next (removed_by o)
     key_removed (Err code) h = absurd (cc)
-    key_removed (Ok k) h = one_removed k (holds (key_of_name k) (list_of r.now.lists k.table)) refl h
+    key_removed (Ok k) h = one_removed k (is_held (key_of_name k) (list_of r.now.lists k.table)) refl h
 
     -- a line that is taken
     pub line_changes : IsTrue (names_are_formed names) → (text : List ℕ) → line_change r text ≡ Ok next → IsChange p r next (change_said r.names text)

@@ -11,6 +11,7 @@ use Rattle.rmt_bits.proofs.AllLaws.{All-find, All-slice_get}
 use Rattle.rmt_bits.proofs.ListLaws.{find-passes}
 use Rattle.rmt_bits.proofs.MemberLaws.{Contains-first, Contains-later, Contains-unmap, flat_from, from_flat_map}
 use Rattle.rmt_pack.proofs.EntryLaws.{AllPairs-unmap}
+use Rattle.rmt_pack.proofs.RankLaws.{IsRowKind}
 use Rattle.rmt_config.proofs.LayoutLaws.{memory_formed}
 use Rattle.rmt_ast.specs.declared.entry.Entry.{Entry}
 use Rattle.rmt_ast.specs.declared.names.Names.{Names}
@@ -33,7 +34,7 @@ use Rattle.rmt_config.specs.RunCells.{RunCells}
 use Rattle.rmt_config.proofs.SpelledParts.{parts-stand}
 use Rattle.rmt_config.proofs.SpelledWays.{parts-follow}
 use Rattle.rmt_update.proofs.BookLaws.{TableFacts, table-facts}
-use Rattle.rmt_update.proofs.FirstLaws.{IsRowKind, firsts, firsts-differ, firsts-within}
+use Rattle.rmt_update.proofs.FirstLaws.{firsts, firsts-differ, firsts-within}
 use Rattle.rmt_update.proofs.OncePlaced.{all-numbers}
 use Rattle.rmt_update.proofs.PartOrder.{IsPartOf, nodes-apart, parts-own, rooms-apart, same-as}
 use Rattle.rmt_update.proofs.PlacedLaws.{zip-pairs}

@@ -2,7 +2,7 @@
 use Rattle.std.proofs.Common.{◌≡◌, ⊎_elim, ℕ, zero, suc, ◌+◌, ◌-◌, ◌<◌, ◌≤◌, ◌&&◌, Bool, false, cond, leb, List, [], ◌∷◌, ◌++◌, length, take, max, Option, Some, None, sym, refl, ap, ◌∙◌, subst, arith, length-append}
 use Rattle.std.specs.Prelude.{filter_map, fold, is_some, option_and_then, option_map, slice_get}
 use Rattle.std.specs.List.{count_by, range_with_len, cons_option}
-use Rattle.std.proofs.lemmas.Bool.{cases_lt, le-leb, lt-ltb, le-ltb}
+use Rattle.std.proofs.lemmas.Bool.{cases_lt, le-leb, lt-ltb, le-ltb, lt-leb}
 use Rattle.std.proofs.lemmas.List.{take-append-le, take_all}
 use Rattle.std.proofs.lemmas.List.Elements.{filter_map-append}
 use Rattle.std.proofs.lemmas.List.Sums.{fold_push, sum_by_push}
@@ -51,9 +51,6 @@ count_more f k =
     let at : 0 + k ≡ k = omega arith in
     ap (count_by f) (range_more 0 k) ∙ sum_by_push (λ n. one_if (f n)) (range_with_len 0 k) (0 + k) ∙ ap (λ n. count_by f (range_with_len 0 k) + one_if (f n)) at
 
-not_leb : (a b : ℕ) → b < a → leb a b ≡ false
-not_leb a b h = grind (arith, h)
-
 -- of the packets up to a cycle those below an age and those that entered before
 flown : (inputs : List Input) (n k : ℕ) → count_by (flies inputs n) (range_with_len 0 k) + packets (take (n + 1 - k) inputs) ≡ packets (take (n + 1) inputs)
 flown inputs n zero =
@@ -66,7 +63,7 @@ flown inputs n (suc k) =
     let counted : count_by (flies inputs n) (range_with_len 0 (suc k)) ≡ count_by (flies inputs n) (range_with_len 0 k) + one_if (flies inputs n k) =
     ap (λ m. count_by (flies inputs n) (range_with_len 0 m)) size ∙ count_more (flies inputs n) k in
     ⊎_elim (λ (past : n < k).
-    let here : one_if (flies inputs n k) ≡ 0 = ap (λ b. one_if (b && enters_at inputs (n - k))) (not_leb k n past) in
+    let here : one_if (flies inputs n k) ≡ 0 = ap (λ b. one_if (b && enters_at inputs (n - k))) (lt-leb k n past) in
     let none : n + 1 - suc k ≡ n + 1 - k = omega (arith, past) in
     let same : packets (take (n + 1 - suc k) inputs) ≡ packets (take (n + 1 - k) inputs) = ap (λ m. packets (take m inputs)) none in
     omega (arith, before, counted, here, same))

@@ -4,6 +4,7 @@ use Rattle.std.specs.Prelude.{fold, map, option_and_then, option_map, replicate,
 use Rattle.std.proofs.lemmas.Bool.{cases_lt, lt-ltb, le-ltb}
 use Rattle.std.proofs.lemmas.List.{take-append-le, take_all, length-map, length-replicate}
 use Rattle.std.proofs.lemmas.Option.{none-some, same_Some, slice_get_within}
+use Rattle.std.specs.Option.{option_or}
 use Rattle.rmt_bits.proofs.ListLaws.{slice_get-front, slice_get-pushed}
 use Rattle.rmt_bits.specs.Packet.{Packet}
 use Rattle.rmt_ast.specs.declared.entry.Entry.{Entry}
@@ -13,7 +14,6 @@ use Rattle.rmt_config.specs.declared.config.Config.{Config}
 use Rattle.rmt_config.specs.declared.cell_write.CellWrite.{CellWrite}
 use Rattle.rmt_config.specs.ChipRun.{latency_of}
 use Rattle.rmt_config.specs.Commits.{Makes, RunState, moves, stays, waits}
-use Rattle.rmt_config.specs.Life.{or_else}
 use Rattle.rmt_config.specs.RunCells.{RunCells, own_cells, with_version, with_write}
 use Rattle.rmt_config.specs.RunInputs.{Enters, Idle, Input, Turns, Writes, after_input, cells_at, packet_of}
 use Rattle.rmt_chip.specs.Held.{Entered}
@@ -291,7 +291,7 @@ module _ (c : Config) (names : Names) (lists : List (List Entry)) where
 none_below : (item : ℕ → Option Entered) (k : ℕ) → ((age : ℕ) → age < k → item age ≡ None) → oldest_below item k ≡ None
 none_below item zero none = refl
 none_below item (suc k) none =
-    ap (λ (o : Option Entered). or_else (option_map (λ (e : Entered). e.version) o) (oldest_below item k)) (none k (omega arith)) ∙ none_below item k (λ age lt. none age (omega (arith, lt)))
+    ap (λ (o : Option Entered). option_or (option_map (λ (e : Entered). e.version) o) (oldest_below item k)) (none k (omega arith)) ∙ none_below item k (λ age lt. none age (omega (arith, lt)))
 
 -- it is at least as old as any
 pub record IsOldest (item : ℕ → Option Entered) (k age : ℕ) : Type 0 where
@@ -309,7 +309,7 @@ oldest_more item k age e lt at later (Some f) here = record {
   older = omega (arith, lt);
   below = omega arith;
   there = here;
-  is = ap (λ (o : Option Entered). or_else (option_map (λ (x : Entered). x.version) o) (oldest_below item k)) here;
+  is = ap (λ (o : Option Entered). option_or (option_map (λ (x : Entered). x.version) o) (oldest_below item k)) here;
 }
 oldest_more item k age e lt at later None here =
     let apart : age ≡ k → ⊥ = λ same. none-some e (sym here ∙ ap item (sym same) ∙ at) in
@@ -321,7 +321,7 @@ oldest_more item k age e lt at later None here =
       older = r.older;
       below = omega (arith, within);
       there = r.there;
-      is = ap (λ (o : Option Entered). or_else (option_map (λ (x : Entered). x.version) o) (oldest_below item k)) here ∙ r.is;
+      is = ap (λ (o : Option Entered). option_or (option_map (λ (x : Entered). x.version) o) (oldest_below item k)) here ∙ r.is;
     }
 
 one_below : (item : ℕ → Option Entered) (k age : ℕ) (e : Entered) → age < k → item age ≡ Some e → IsOldest item k age

@@ -23,13 +23,10 @@ use Rattle.rmt_refine.proofs.FilledLaws.{full_seen}
 use Rattle.rmt_pack.proofs.RoomOrderLaws.{room_there}
 use Rattle.rmt_refine.proofs.PartLaws.{some_and}
 use Rattle.rmt_pack.proofs.PlacedLaws.{Comes, HasItsRoom, Stays, Takes, all_placed, each_has_its_room, each_placed}
-use Rattle.rmt_refine.proofs.VisibleBitLaws.{seen_next}
+use Rattle.rmt_refine.proofs.VisibleBitLaws.{seen_next, bit}
 use Rattle.rmt_update.proofs.OncePlaced.{at-own, at-place, both-at, found-in, placed-found}
 
 -- ---- heads that a version sees
-
-abbrev bit : ℕ → ℕ → Bool
-bit m head = head / 2 ^ (1 + m) % 2 == 1
 
 -- a version has one of two parities
 at_parity : (P : ℕ → Type 0) (v : ℕ) → P 0 → P 1 → P (v % 2)

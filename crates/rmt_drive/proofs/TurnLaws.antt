@@ -16,6 +16,7 @@ use Rattle.rmt_chip.specs.declared.frame.Frame.{Frame}
 use Rattle.rmt_chip.specs.Inputs.{MayEnter, packets_of}
 use Rattle.rmt_chip.specs.Leaving.{AnswersIf}
 use Rattle.rmt_chip.specs.Stands.{Stands, entered_of}
+use Rattle.rmt_chip.proofs.EnteredLaws.{byte_of}
 use Rattle.rmt_refine.specs.EventRuns.{outcomes_in}
 use Rattle.rmt_drive.specs.declared.running.state.Run.{Run}
 use Rattle.rmt_drive.specs.declared.watch.Watch.{Watch}
@@ -50,10 +51,6 @@ pub record Clocked (c : Config) (made : List Input) (x : Input) (old new : Run) 
   pub cycles : new.cycles ≡ old.cycles + 1
   pub answered : new.answered ≡ old.answered + cond (is_some left) 1 0
   pub flies : new.flight ≡ max old.flight (entered_of chip - old.answered)
-
-byte_of : (b : Bool) → bool_byte b ≡ cond b 1 0
-byte_of true = refl
-byte_of false = refl
 
 -- by the numbers that a run counts in a cycle
 pub clocked_so : (c : Config) (made : List Input) (x : Input) (old new : Run) (chip : Chip) (left : Option Verdict) (bytes : List ℕ) (some : Bool) (n entered behind m : ℕ)

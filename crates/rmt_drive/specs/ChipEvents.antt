@@ -3,14 +3,15 @@ use Rattle.std.specs.Prelude.{◌≡◌, ◌<◌, ℕ, ◌-◌, List, [], ◌∷
 use Rattle.rmt_bits.specs.Packet.{Packet}
 use Rattle.rmt_ast.specs.declared.entry.Entry.{Entry}
 use Rattle.rmt_ast.specs.declared.names.Names.{Names}
-use Rattle.rmt_ast.specs.Changes.{Change, at_first, committed}
+use Rattle.rmt_ast.specs.Changes.{Change, committed}
 use Rattle.rmt_ast.specs.Events.{Arrives, Commits, Event}
 use Rattle.rmt_config.specs.declared.config.Config.{Config}
 use Rattle.rmt_config.specs.declared.cell_write.CellWrite.{CellWrite}
 use Rattle.rmt_config.specs.Commits.{AreFilled, AreWrites, Makes, Placed, RunState, behind_commit, behind_packet, placed_after, waits}
-use Rattle.rmt_config.specs.RunCells.{RunCells, own_cells}
+use Rattle.rmt_config.specs.RunCells.{RunCells}
 use Rattle.rmt_config.specs.RunInputs.{Enters, Idle, Input, Turns, Writes}
 use Rattle.rmt_config.specs.NamesForm.{entries_spelled}
+use Rattle.rmt_refine.specs.RunStates.{first_state}
 
 -- the names of a configuration, none of any table where it has none, and the entries that it spells by them
 abbrev pub names_in : Config → Names
@@ -19,17 +20,13 @@ names_in c = unwrap_or c.names (record { tables = [] })
 abbrev pub lists_in : Config → List (List Entry)
 lists_in c = unwrap_or (option_map (entries_spelled c) c.names) []
 
--- before the first packet, with the entries that a configuration's own cells hold
-abbrev pub at_start : Config → List (List Entry) → RunState
-at_start c lists = record { cells = own_cells c; entries = at_first lists; cycle = 0; older_gone = 0; all_gone = 0 }
-
 -- the cycles of a commit
 abbrev pub commit_cycles : RunState → Bool → ℕ → List CellWrite → List Input
 commit_cycles r moved seed writes = replicate (waits r moved) Idle ++ (map Writes writes ++ Turns seed ∷ [])
 
 -- A run has come so far with these packets and commits by these inputs, and goes on from here: `RunsTo` without the cycles at its end.
 pub data Comes (c : Config) (names : Names) (lists : List (List Entry)) : List Event → List Input → RunState → Type 0 where
-  begins : Comes c names lists [] [] (at_start c lists)
+  begins : Comes c names lists [] [] (first_state c lists)
   arrived : (events : List Event) (made : List Input) (r : RunState) (packet : Packet)
       → Comes c names lists events made r → Comes c names lists (events ++ Arrives packet ∷ []) (made ++ Enters packet ∷ []) (behind_packet c r)
   turned : (events : List Event) (made : List Input) (r : RunState) (changes : List Change) (moved : Bool) (seed : ℕ) (next : RunCells) (writes : List CellWrite)

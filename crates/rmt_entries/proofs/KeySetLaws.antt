@@ -11,9 +11,10 @@ use Rattle.std.proofs.lemmas.Slice.Eq.{bytes_eq-Decides}
 use Rattle.std.proofs.Math.Nat.{mod-lt}
 use Rattle.std.proofs.Math.Seq.{drop-append-add, get_or-append_seam, take-length}
 use Rattle.rmt_bits.proofs.FunctionLaws.{bytes_eq-sym}
+use Rattle.rmt_bits.specs.Members.{by_numbers}
 use Rattle.rmt_entries.specs.declared.key_set.Spot.{Spot}
 use Rattle.rmt_entries.specs.declared.key_set.Spot.TheVariants.{Free, Held, Crowded}
-use Rattle.rmt_entries.specs.KeySets.{IsWhole, KeySet, Stands, apart, by_numbers, holds, home, is_at, is_near, is_there, list_at, near, place_of, spot_in, spot_of}
+use Rattle.rmt_entries.specs.KeySets.{IsWhole, KeySet, Stands, apart, holds, home, is_at, is_near, is_there, list_at, near, place_of, spot_in, spot_of}
 
 -- ---- lists behind their lengths
 

@@ -16,12 +16,10 @@ use Rattle.rmt_ast.specs.EntryLists.{IsEntry}
 use Rattle.rmt_ast.specs.NameRules.{action_names_differ, are_widths, has_fields, has_names, has_params, has_size, may_have_ranks, names_are_formed, nodes_rise, rise, table_is_formed, table_names_differ, terms_named, terms_of_name}
 use Rattle.rmt_ast.specs.Naming.{has_key}
 use Rattle.rmt_entries.specs.declared.fault.EntryFault.{EntryFault}
-use Rattle.rmt_entries.specs.declared.fault.EntryFault.TheVariants.{At, NoMemory}
 use Rattle.rmt_entries.specs.Entries.{Read, of_table, read_line, read_words}
-use Rattle.rmt_entries.specs.Fault.{Gives}
 use Rattle.rmt_entries.specs.Lines.{is_printable, words}
-use Rattle.rmt_entries.specs.LinesSoFar.{IsFault, IsReadable}
-use Rattle.rmt_entries.specs.NamedLines.{IsNamedEntry, action_word, alone, entry_read, key_of_table, key_words, named_entry, named_table, named_tables, table_in}
+use Rattle.rmt_entries.specs.LinesSoFar.{IsReadable}
+use Rattle.rmt_entries.specs.NamedLines.{IsNamedEntry, action_word, entry_read, key_of_table, key_words, named_entry, named_table, named_tables, table_in}
 use Rattle.rmt_entries.specs.Tables.{AppliedTable, table_named}
 use Rattle.rmt_entries.specs.Taken.{AreNarrow}
 use Rattle.rmt_entries.proofs.LawKeys.{HasParams, ReadOf}
@@ -119,21 +117,6 @@ module _ (tables : List AppliedTable) (n : ℕ) (name : List ℕ) (old rest : Li
       by : (xs : List (List ℕ)) → (length xs == 0) ≡ false → key_words tables (name ∷ xs) ≡ key_of_table xs (table_named tables name)
       by [] e = cc
       by (x ∷ xs) e = refl
-
-pub few_entry_words : (tables : List AppliedTable) (n : ℕ) (old : List (List ℕ)) → length old ≤ 1 → read_words tables n old ≡ Err 1
-few_entry_words tables n [] h = refl
-few_entry_words tables n (x ∷ []) h = refl
-few_entry_words tables n (x ∷ y ∷ ys) h = absurd (omega (arith, h))
-
-pub few_words_of_key : (tables : List AppliedTable) (old : List (List ℕ)) → length old ≤ 1 → key_words tables old ≡ Err 1
-few_words_of_key tables [] h = refl
-few_words_of_key tables (x ∷ []) h = refl
-few_words_of_key tables (x ∷ y ∷ ys) h = absurd (omega (arith, h))
-
--- a fault of a line that stands alone
-pub gives_alone : {X : Type 0} (fault : EntryFault) (wanted : Result X ℕ) → IsFault fault 1 (λ code. wanted ≡ Err code) → Gives (Err fault) (alone wanted)
-gives_alone NoMemory wanted h = tt
-gives_alone (At code line) wanted h = ap alone h.1 ∙ ap (λ (l : ℕ). Err (At code l)) (sym h.0)
 
 -- a table is the first of its node
 not_above : (n : ℕ) (ts : List TableName) → list_all (λ m. nat_lt n m) (map (λ (t : TableName). t.node) ts) ≡ true → All (λ (t : TableName). n < t.node) ts

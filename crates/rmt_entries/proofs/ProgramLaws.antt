@@ -17,9 +17,10 @@ use Rattle.rmt_ast.specs.EntryLists.{Terms, params_of, terms_at, terms_of}
 use Rattle.rmt_ast.specs.State.{width_of}
 use Rattle.rmt_ast.specs.WellFormed.{IsProgram, IsTable, IsAction, IsWidth}
 use Rattle.rmt_ast.proofs.WellFormedLemmas.{narrow_field}
+use Rattle.rmt_ast.specs.Naming.{name_of_action}
 use Rattle.rmt_entries.specs.Reads.{node_terms}
 use Rattle.rmt_entries.specs.LinesSoFar.{IsAppliedBy, IsBelow, IsReadable}
-use Rattle.rmt_entries.specs.Tables.{AppliedTable, action_name, applied_table, applied_tables, table_at, table_of, tables_from}
+use Rattle.rmt_entries.specs.Tables.{AppliedTable, applied_table, applied_tables, table_at, table_of, tables_from}
 use Rattle.rmt_entries.proofs.LawKeys.{HasParams}
 use Rattle.rmt_entries.specs.Taken.{AreNarrow}
 
@@ -34,7 +35,7 @@ readable : (p : Program) → IsProgram p → (n : ℕ) (t : Table) → IsTable p
 readable p h n t is = record {
   widths = All-map (λ w. w ≤ 128) (width_of p) t.key (λ k d lt. narrow_field p h (get_or t.key k d));
   params = All-map AreNarrow (params_of p) t.actions (λ k d lt. narrow_params p h (get_or t.actions k d));
-  few_actions = rw (length-map t.actions (action_name p)) (omega (arith, is.few_actions));
+  few_actions = rw (length-map t.actions (name_of_action p)) (omega (arith, is.few_actions));
 }
 
 -- the table of a program that a node applies
@@ -70,7 +71,7 @@ all_params p n (x ∷ xs) = All-cons_option HasParams (table_at p n x.what) (tab
   where
     by : (o : Option Table) → IfSome (option_map (applied_table p n) o) HasParams
     by None = tt
-    by (Some t) = length-map t.actions (params_of p) ∙ sym (length-map t.actions (action_name p))
+    by (Some t) = length-map t.actions (params_of p) ∙ sym (length-map t.actions (name_of_action p))
 
 pub have_params : (p : Program) → All HasParams (applied_tables p)
 have_params p = all_params p 0 p.nodes

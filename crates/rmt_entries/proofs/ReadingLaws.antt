@@ -1,6 +1,5 @@
 -- Reading a word for each width, one after another.
 use Rattle.std.proofs.Common.{◌≡◌, ℕ, ◌+◌, ◌<◌, List, [], ◌∷◌, ◌++◌, Option, Some, None, length, get_or, drop, refl, sym, ap, append_assoc, add-one, drop-cons}
-use Rattle.std.proofs.lemmas.List.{append-nil}
 use Rattle.rmt_entries.specs.Keys.{both, onto, read_each}
 
 -- what was read stands before what is read then
@@ -33,6 +32,3 @@ module _ {X : Type 0} (read : ℕ → List ℕ → Option X) (done : List X) (wi
     where
       by : (o : Option (List X × List (List ℕ))) → behind done (both {X = X} onto None o) ≡ None
       by o = refl
-
-pub read_all : {X : Type 0} (read : ℕ → List ℕ → Option X) (done : List X) (widths : List ℕ) (i : ℕ) (words : List (List ℕ)) → drop i widths ≡ [] → behind done (read_each read (drop i widths) words) ≡ Some (done, words)
-read_all read done widths i words e = rw e (ap (λ xs. Some (xs, words)) (append-nil done))

@@ -2,10 +2,8 @@
 use Rattle.std.specs.Prelude.{◌≡◌, ◌≢◌, ◌<◌, ◌≤◌, ℕ, zero, suc, ◌+◌, ◌-◌, ◌*◌, ◌/◌, ◌%◌, ◌^◌, ◌==◌, ◌&&◌, ◌||◌, if◌then◌else◌, Bool, true, false, not, List, Vec, bit_xor, fold, length, take, drop, slice_index_or}
 use Rattle.std.specs.Global.{Global}
 use Rattle.std.specs.BTreeSet.{BTreeSet, contains}
-use Rattle.std.specs.Cmp.Lexicographic.{slice_cmp}
-use Rattle.std.specs.Ordering.{nat_cmp}
 use Rattle.std.specs.Str.{bytes_eq}
-use Rattle.std.specs.declared.cmp.Ordering.{Ordering}
+use Rattle.rmt_bits.specs.Members.{by_numbers}
 use Rattle.rmt_entries.specs.declared.key_set.Spot.{Spot}
 use Rattle.rmt_entries.specs.declared.key_set.Spot.TheVariants.{Free, Held, Crowded}
 
@@ -58,9 +56,6 @@ abbrev pub is_there : Bool → Spot → Bool
 is_there others (Free place) = false
 is_there others Held = true
 is_there others Crowded = others
-
-abbrev pub by_numbers : Vec ℕ Global → Vec ℕ Global → Ordering
-by_numbers x y = slice_cmp nat_cmp x.items y.items
 
 -- a list is among these
 abbrev pub holds : List ℕ → List ℕ → BTreeSet (Vec ℕ Global) → Vec ℕ Global → Bool

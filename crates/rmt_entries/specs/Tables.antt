@@ -1,14 +1,14 @@
 -- The tables of a program as their entries' lines see them.
-use Rattle.std.specs.Prelude.{ℕ, List, Option, None, map, find, option_map, unwrap_or, slice_get, []}
+use Rattle.std.specs.Prelude.{ℕ, List, Option, None, map, find, option_map, slice_get}
 use Rattle.std.specs.List.{enumerate_from, filter_map}
 use Rattle.std.specs.Str.{bytes_eq}
 use Rattle.rmt_ast.specs.declared.program.Program.{Program}
-use Rattle.rmt_ast.specs.declared.program.Action.{Action}
 use Rattle.rmt_ast.specs.declared.program.Table.{Table}
 use Rattle.rmt_ast.specs.declared.program.Node.{Node}
 use Rattle.rmt_ast.specs.declared.program.What.{What}
 use Rattle.rmt_ast.specs.declared.program.What.TheVariants.{Apply, Gate}
 use Rattle.rmt_ast.specs.EntryLists.{Terms, terms_of}
+use Rattle.rmt_ast.specs.Naming.{name_of_action}
 
 -- a table with the node that applies it, and the names of its list of actions
 pub record AppliedTable : Type 0 where
@@ -17,12 +17,8 @@ pub record AppliedTable : Type 0 where
   pub terms : Terms
   pub actions : List (List ℕ)
 
--- the name of an action
-abbrev pub action_name : Program → ℕ → List ℕ
-action_name p a = unwrap_or (option_map (λ (x : Action). x.name) (slice_get p.actions a)) []
-
 abbrev pub applied_table : Program → ℕ → Table → AppliedTable
-applied_table p node t = record { node = node; name = t.name; terms = terms_of p t; actions = map (action_name p) t.actions }
+applied_table p node t = record { node = node; name = t.name; terms = terms_of p t; actions = map (name_of_action p) t.actions }
 
 -- the table that a node applies; an `if` has none
 abbrev pub table_of : Program → What → Option Table

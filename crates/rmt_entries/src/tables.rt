@@ -4,7 +4,8 @@ ghost use Rattle.std.specs.Prelude.{◌≡◌, ◌≤◌, length, map, IfOk, opt
 ghost use Rattle.rmt_ast.specs.EntryLists.{params_of};
 ghost use Rattle.rmt_ast.specs.State.{width_of};
 ghost use Rattle.rmt_ast.specs.NameList.{seen};
-ghost use Rattle.rmt_entries.specs.Tables.{action_name, applied_table, applied_tables, table_named, table_of};
+ghost use Rattle.rmt_ast.specs.Naming.{name_of_action};
+ghost use Rattle.rmt_entries.specs.Tables.{applied_table, applied_tables, table_named, table_of};
 ghost use Rattle.rmt_entries.specs.NamedTables.{name_of_table, seen_table, seen_tables};
 
 use rmt_ast::name_list::NameList;
@@ -88,7 +89,7 @@ fn width_of(program: &Program, field: u32) -> u8
 
 /// The name of an action, and the widths of its parameters.
 fn listed_action(program: &Program, action: u32) -> (&[u8], &[u8])
-    ensures name { result.0.now ≡ action_name program.now action }
+    ensures name { result.0.now ≡ name_of_action program.now action }
     ensures params { result.1.now ≡ params_of program.now action }
 {
     match program.actions.get(action as usize) {
@@ -123,7 +124,7 @@ fn listed_actions<'a>(
     program: &'a Program,
     actions: &[u32],
 ) -> Result<ListedActions<'a>, AllocError>
-    ensures names { IfOk result (λ listed. seen listed.names.items ≡ map (action_name program.now) actions.now) }
+    ensures names { IfOk result (λ listed. seen listed.names.items ≡ map (name_of_action program.now) actions.now) }
     ensures params { IfOk result (λ listed. seen listed.params.items ≡ map (params_of program.now) actions.now) }
 {
     let mut names = Vec::new(alloc);

@@ -27,13 +27,10 @@ part-apart count first cells own once =
           (All-weaker (λ (s : Stand). there s ≡ true) (λ (s : Stand). s.cell - first < cells)
           (λ s passes.
           let parts = and_parts (leb first s.cell) (ltb s.cell (first + cells)) passes in
-          let low = leb-true first s.cell parts.0 in
-          let high = ltb-true s.cell (first + cells) parts.1 in
-          omega (arith, low, high)) inside passed);
+          omega (arith, leb-true first s.cell parts.0, ltb-true s.cell (first + cells) parts.1)) inside passed);
       apart = AllPairs-map (λ (a b : Stand). a.cell ≢ b.cell) (counted_from first) inside
           (λ i j d less lt.
           let rise : (get_or inside i d).cell < (get_or inside j d).cell = AllPairs-filter (λ (a b : Stand). a.cell < b.cell) there own once.rise i j d less lt in
           let parts = and_parts (leb first (get_or inside i d).cell) (ltb (get_or inside i d).cell (first + cells)) (passed i d (omega (arith, less, lt))) in
-          let low = leb-true first (get_or inside i d).cell parts.0 in
-          λ same. omega (arith, rise, low, same));
+          λ same. omega (arith, rise, leb-true first (get_or inside i d).cell parts.0, same));
     }

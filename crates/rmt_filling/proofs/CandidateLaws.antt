@@ -5,7 +5,6 @@ use Rattle.std.specs.List.{flat_map, range_with_len}
 use Rattle.std.proofs.lemmas.Bool.{both_ways, cases_lt, ltb-true, lt-ltb}
 use Rattle.std.proofs.lemmas.Grind.{flat_map-append}
 use Rattle.std.proofs.lemmas.List.Elements.{All-cons, All-nil, Contains-append_cases, All-contains}
-use Rattle.std.proofs.lemmas.List.FromFn.{get_or-range_with_len, length-range_with_len}
 use Rattle.std.proofs.lemmas.List.Sums.{sum_by_push}
 use Rattle.std.proofs.lemmas.Nat.{mod_below, mul-le}
 use Rattle.rmt_bits.proofs.ListLaws.{range_more}
@@ -18,15 +17,8 @@ use Rattle.rmt_cuckoo.specs.declared.layout.Ways.{Ways}
 use Rattle.rmt_cuckoo.specs.declared.way.Way.{Way}
 use Rattle.rmt_cuckoo.specs.Loading.{candidates, cells_in, row_start, way_of, ways_from}
 use Rattle.rmt_pack.proofs.FindLaws.{Contains-range, range_bounds}
-use Rattle.rmt_bits.proofs.MemberLaws.{Contains-unmap, Contains-flat_map, from_flat_map}
+use Rattle.rmt_bits.proofs.MemberLaws.{Contains-unmap, Contains-flat_map, from_flat_map, Contains-between}
 use Rattle.rmt_config.proofs.CellLaws.{cell_lt}
-
-range_there : (a n x : ℕ) → a ≤ x → x < a + n → Contains (range_with_len a n) x
-range_there a n x low high =
-    let long = length-range_with_len a n in
-    let i = x - a in
-    let back : a + i ≡ x = omega (arith, low) in
-    (i, omega (arith, low, high, long), get_or-range_with_len a n i x (omega (arith, low, high)) ∙ back)
 
 none_of : (n : ℕ) → nat_lt 0 n ≡ false → n ≡ 0
 none_of zero e = refl
@@ -69,9 +61,7 @@ module _ (q : ℕ → ℕ) (per : ℕ) where
   quanta_rise zero k = let e : k + 0 ≡ k = omega arith in rw e (omega arith)
   quanta_rise (suc d) k =
       let e : k + suc d ≡ k + d + 1 = omega arith in
-      let rest = quanta_rise d k in
-      let next = quanta_next (k + d) in
-      rw e (omega (arith, rest, next))
+      rw e (omega (arith, quanta_rise d k, quanta_next (k + d)))
 
   module _ (seed : ℕ) (key : List ℕ) where
     abbrev cells_of_way : Way → List ℕ
@@ -114,21 +104,18 @@ module _ (q : ℕ → ℕ) (per : ℕ) where
         by true e h rest =
             let own = map (way_of (4 * parts_upto k) (first_cell k) (part_at k)) (0 ∷ 1 ∷ 2 ∷ 3 ∷ []) in
             let more = ways_from (4 * parts_upto k + 4) (first_cell k + cells_in (part_at k)) (layout_from (k + 1) d) in
-            let one = parts_next k in
             let counted : ◌≡◌ {A = ℕ} (cond (nat_lt 0 (q k)) 1 0) 1 = ap (λ b. cond b 1 0) e in
-            let number : 4 * parts_upto k + 4 ≡ 4 * parts_upto (k + 1) = omega (arith, one, counted) in
+            let number : 4 * parts_upto k + 4 ≡ 4 * parts_upto (k + 1) = omega (arith, parts_next k, counted) in
             elim (Contains-append_cases (flat_map cells_of_way own) (flat_map cells_of_way more) x (subst (λ zs. Contains zs x) (flat_map-append cells_of_way own more) h)) [
               | inl here ↦ in_ways last k x (omega (arith, sum)) (ltb-true 0 (q k) e) here
               | inr later ↦ rest (subst (λ f. Contains (flat_map cells_of_way (ways_from (4 * parts_upto (k + 1)) f (layout_from (k + 1) d))) x) (cells_next k)
                   (subst (λ m. Contains (flat_map cells_of_way (ways_from m (first_cell k + cells_in (part_at k)) (layout_from (k + 1) d))) x) number later))
             ]
         by false e h rest =
-            let one = parts_next k in
             let counted : ◌≡◌ {A = ℕ} (cond (nat_lt 0 (q k)) 1 0) 0 = ap (λ b. cond b 1 0) e in
-            let same : parts_upto k ≡ parts_upto (k + 1) = omega (arith, one, counted) in
-            let next = quanta_next k in
+            let same : parts_upto k ≡ parts_upto (k + 1) = omega (arith, parts_next k, counted) in
             let none : q k ≡ 0 = none_of (q k) e in
-            let quanta : quanta_upto k ≡ quanta_upto (k + 1) = omega (arith, next, none) in
+            let quanta : quanta_upto k ≡ quanta_upto (k + 1) = omega (arith, quanta_next k, none) in
             rest (subst (λ a. Contains (flat_map cells_of_way (ways_from (4 * parts_upto (k + 1)) (4096 * a * per) (layout_from (k + 1) d))) x) quanta
             (subst (λ m. Contains (flat_map cells_of_way (ways_from (4 * m) (first_cell k) (layout_from (k + 1) d))) x) same h))
 
@@ -136,17 +123,12 @@ module _ (q : ℕ → ℕ) (per : ℕ) where
     bounds : (last x : ℕ) (r : InPart last x) → (first_cell r.k ≤ x) × (x < first_cell (r.k + 1))
     bounds last x r =
         let way = way_of (4 * parts_upto r.k) (first_cell r.k) (part_at r.k) r.way in
-        let some = r.some in
-        let row : hash_row seed way.number key way.rows < way.rows = mod_below _ (1024 * q r.k) (omega (arith, some)) in
+        let row : hash_row seed way.number key way.rows < way.rows = mod_below _ (1024 * q r.k) (omega (arith, r.some)) in
         let range = range_bounds (row_start seed key way) per x r.there in
-        let low = range.0 in
-        let high = range.1 in
         let apart = spread (hash_row seed way.number key way.rows) r.way (1024 * q r.k) per (first_cell r.k) in
-        let from : first_cell r.k ≤ x = omega (arith, low, apart) in
-        let inside = cell_lt r.way (hash_row seed way.number key way.rows) (1024 * q r.k) per (x - first_cell r.k) r.is_way row (omega (arith, high, apart, from)) in
-        let next = cells_next r.k in
-        let whole = all_rows (q r.k) in
-        (from, omega (arith, from, inside, next, whole))
+        let from : first_cell r.k ≤ x = omega (arith, range.0, apart) in
+        let inside = cell_lt r.way (hash_row seed way.number key way.rows) (1024 * q r.k) per (x - first_cell r.k) r.is_way row (omega (arith, range.1, apart, from)) in
+        (from, omega (arith, from, inside, cells_next r.k, all_rows (q r.k)))
       where
         all_rows : (n : ℕ) → 4 * (1024 * n) * per ≡ 4 * (1024 * n * per)
         all_rows n = omega arith
@@ -155,20 +137,17 @@ module _ (q : ℕ → ℕ) (per : ℕ) where
     cells_rise a b le =
         let d = b - a in
         let e : a + d ≡ b = omega (arith, le) in
-        let rise = quanta_rise d a in
-        let some : quanta_upto a ≤ quanta_upto b = subst (λ m. quanta_upto a ≤ quanta_upto m) e rise in
+        let some : quanta_upto a ≤ quanta_upto b = subst (λ m. quanta_upto a ≤ quanta_upto m) e (quanta_rise d a) in
         mul-le (4096 * quanta_upto a) per (4096 * quanta_upto b) per (omega (arith, some)) (omega arith)
 
     -- so a cell tells its part
     same_part : (last k x : ℕ) → first_cell k ≤ x → x < first_cell (k + 1) → (r : InPart last x) → r.k ≡ k
     same_part last k x low high r =
         let own = bounds last x r in
-        let own_low = own.0 in
-        let own_high = own.1 in
         elim (cases_lt r.k k) [
-          | inl lt ↦ absurd (let up = cells_rise (r.k + 1) k (omega (arith, lt)) in omega (arith, own_high, up, low))
+          | inl lt ↦ absurd (let up = cells_rise (r.k + 1) k (omega (arith, lt)) in omega (arith, own.1, up, low))
           | inr ge ↦ elim (cases_lt k r.k) [
-            | inl gt ↦ absurd (let up = cells_rise (k + 1) r.k (omega (arith, gt)) in omega (arith, own_low, up, high))
+            | inl gt ↦ absurd (let up = cells_rise (k + 1) r.k (omega (arith, gt)) in omega (arith, own.0, up, high))
             | inr le ↦ omega (arith, ge, le)
           ]
         ]
@@ -183,8 +162,7 @@ looked_for q per seed width bits key k x ks rs cs loaded low high =
     let none : 0 ≡ first_cell q per 0 = omega arith in
     let r = find_part q per seed bytes 32 0 32 x (omega arith)
     (subst (λ f. Contains (flat_map (cells_of_way q per seed bytes) (ways_from 0 f (layout_from q per 0 32))) x) none loaded) in
-    let next = quanta_next q per k in
-    let end : first_cell q per k + 4096 * q k * per ≡ first_cell q per (k + 1) = rw next (omega arith) in
+    let end : first_cell q per k + 4096 * q k * per ≡ first_cell q per (k + 1) = rw (quanta_next q per k) (omega arith) in
     let same = same_part q per seed bytes 32 k x low (omega (arith, high, end)) r in
     there (r.way) r.is_way (subst (λ j. Contains (cells_of_way q per seed bytes (way_of (4 * parts_upto q per j) (first_cell q per j) (part_at q per j) r.way)) x) same r.there)
   where
@@ -195,12 +173,10 @@ looked_for q per seed width bits key k x ks rs cs loaded low high =
         let first = 4096 * sum_by q (range_with_len 0 k) * per in
         let row = key_row seed (4 * count_by (λ j. nat_lt 0 (q j)) (range_with_len 0 k)) (q k) bits key in
         let range = range_bounds (first + way * (1024 * q k * per) + row way * per) per x h in
-        let from = range.0 in
-        let upto = range.1 in
         let apart = spread (row way) way (1024 * q k) per first in
         Contains-flat_map (λ w. range_with_len (index_of (1024 * q k) per (record { way = w; row = row w; position = 0 })) per) (range_with_len 0 4) way (x - first)
         (Contains-range 4 way is_way)
-        (range_there ((way * (1024 * q k) + row way) * per + 0) per (x - first) (omega (arith, from, apart, low)) (omega (arith, upto, apart, low)))
+        (Contains-between ((way * (1024 * q k) + row way) * per + 0) per (x - first) (omega (arith, range.0, apart, low)) (omega (arith, range.1, apart, low)))
 
 -- A cell into which a key is loaded is one of the parts' cells.
 pub below_all : (q : ℕ → ℕ) (per seed : ℕ) (key : List ℕ) (x : ℕ)
@@ -209,8 +185,4 @@ pub below_all : (q : ℕ → ℕ) (per seed : ℕ) (key : List ℕ) (x : ℕ)
 below_all q per seed key x loaded =
     let none : 0 ≡ first_cell q per 0 = omega arith in
     let r = find_part q per seed key 32 0 32 x (omega arith) (subst (λ f. Contains (flat_map (cells_of_way q per seed key) (ways_from 0 f (layout_from q per 0 32))) x) none loaded) in
-    let own = bounds q per seed key 32 x r in
-    let high = own.1 in
-    let last = r.before in
-    let up = cells_rise q per seed key (r.k + 1) 32 (omega (arith, last)) in
-    omega (arith, high, up)
+    omega (arith, (bounds q per seed key 32 x r).1, cells_rise q per seed key (r.k + 1) 32 (omega (arith, r.before)))

@@ -59,10 +59,9 @@ pub data-fits : (p : Program) (t : Table) (action : ℕ) → action < length t.a
 data-fits p t action lt =
     let xs = map (param_bits p) t.actions in
     let there : action < length xs = let e = length-map t.actions (param_bits p) in omega (arith, e, lt) in
-    let le = items-le (λ x. x) 0 xs action 0 there in
     let at : get_or xs action 0 ≡ param_bits p (slice_index t.actions action) = get_or-map (param_bits p) t.actions action 0 0 lt in
     let same : sum (params_of p (slice_index t.actions action)) ≡ param_bits p (slice_index t.actions action) = bits (slice_get p.actions (slice_index t.actions action)) in
-    omega (arith, le, at, same)
+    omega (arith, items-le (λ x. x) 0 xs action 0 there, at, same)
   where
     bits : (o : Option Action) → sum (unwrap_or (option_map (λ (x : Action). x.params) o) []) ≡ unwrap_or (option_map (λ (x : Action). sum x.params) o) 0
     bits None = refl
@@ -80,16 +79,14 @@ before-one R xs i d pairs there k e lt =
 pub key-number : (ws : List ℕ) (ts : List Test) → AllZip IsTest ws ts
     → number_of (bytes_of (divided_up (sum ws) 8) (tests_as_one (λ t. t.value) ws ts)) ≡ tests_as_one (λ t. t.value) ws ts
 key-number ws ts all =
-    let lt = tests_value-lt ws ts all in
     let covers = divided_up-covers (sum ws) 8 (omega arith) in
     let wide : 2 ^ sum ws ≤ 2 ^ (8 * divided_up (sum ws) 8) = pow-le-pow_right (omega arith) (omega (arith, covers)) in
-    number_of-bytes_of (divided_up (sum ws) 8) (tests_as_one (λ t. t.value) ws ts) (omega (arith, lt, wide))
+    number_of-bytes_of (divided_up (sum ws) 8) (tests_as_one (λ t. t.value) ws ts) (omega (arith, tests_value-lt ws ts all, wide))
 
 pub data-small : (ws vs : List ℕ) (bits : ℕ) → AllZip Fits ws vs → sum ws ≤ bits → args_as_one ws vs < 2 ^ bits
 data-small ws vs bits fit le =
-    let lt = args-lt ws vs fit in
     let wide : 2 ^ sum ws ≤ 2 ^ bits = pow-le-pow_right (omega arith) le in
-    omega (arith, lt, wide)
+    omega (arith, args-lt ws vs fit, wide)
 
 pub entry-of : (p : Program) (t : Table) (es : List Entry) (entries : AreOf p t es) (i : ℕ) (e : Entry) → slice_get es i ≡ Some e → IsEntry entries.0 (terms_of p t) e
 entry-of p t es entries i e at = All-slice_get (IsEntry entries.0 (terms_of p t)) es i e entries.1 at

@@ -16,5 +16,4 @@ folding_data p t a folded folding (i, lt, is) =
     let same : param_bits p a ≡ sum folded.params =
     ap (λ (o : Option Action). unwrap_or (option_map (λ (x : Action). sum x.params) o) 0) found.1 ∙ sym (ap sum (folded_is found.0 folded found.2).0) in
     let most = All-unmap (λ m. m ≤ data_bits p t) (param_bits p) t.actions (items-le (λ x. x) 0 (map (param_bits p) t.actions)) i a lt in
-    let here = ap (param_bits p) is in
-    omega (arith, most, here, same)
+    omega (arith, most, ap (param_bits p) is, same)

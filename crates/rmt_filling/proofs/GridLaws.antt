@@ -1,4 +1,5 @@
 -- The rows of blocks in one list.
+use Rattle.std.proofs.lemmas.Bool.Decides.{nat_tests}
 use Rattle.std.proofs.Common.{◌≡◌, ℕ, ◌+◌, ◌*◌, ◌<◌, ◌≤◌, List, length, get_or, set, cond, sym, ap, ◌∙◌, arith, inl, inr}
 use Rattle.std.proofs.lemmas.Bool.{cases_lt, lt-ltb, le-ltb}
 use Rattle.std.proofs.lemmas.List.{get_or-set_same, get_or-set_other, get_or_past}
@@ -12,11 +13,7 @@ pub row_in-high : (size : ℕ) (xs : List ℕ) (block row : ℕ) → size ≤ ro
 row_in-high size xs block row le = ap (λ b. cond b (get_or xs (block * size + row) 0) 0) (le-ltb row size le)
 
 pub row_in-none : (size : ℕ) (xs : List ℕ) (block row : ℕ) → ((k : ℕ) → get_or xs k 0 ≡ 0) → row_in size xs block row ≡ 0
-row_in-none size xs block row none =
-    elim (cases_lt row size) as (λ _. row_in size xs block row ≡ 0) [
-      | inl lt ↦ row_in-low size xs block row lt ∙ none (block * size + row)
-      | inr le ↦ row_in-high size xs block row le
-    ]
+row_in-none size xs block row none = let here = none (block * size + row) in grind (arith, nat_tests, here)
 
 -- blocks behind the last
 pub row_in-past : (size many : ℕ) (xs : List ℕ) (block row : ℕ) → length xs ≡ many * size → many ≤ block → row_in size xs block row ≡ 0

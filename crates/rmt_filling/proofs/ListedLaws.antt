@@ -1,14 +1,15 @@
 -- Rows that are listed one after another.
+use Rattle.std.proofs.lemmas.Bool.Decides.{nat_tests}
 use Rattle.std.proofs.Common.{◌≡◌, ℕ, zero, suc, ◌+◌, ◌*◌, ◌<◌, ◌≤◌, List, [], ◌∷◌, ◌++◌, Some, None, map, Bool, true, false, ◌&&◌, leb, sym, refl, ap, ◌∙◌, subst, arith, inl, inr}
 use Rattle.std.specs.Prelude.{All, Option, ◌==◌, find, option_map, unwrap_or}
 use Rattle.std.specs.Option.{option_or}
-use Rattle.std.proofs.lemmas.Bool.{cases_eq, cases_lt, le-leb, ne_eqb, eq-eqb, and_parts}
+use Rattle.std.proofs.lemmas.Bool.{cases_lt, le-leb, eq-eqb, and_parts}
 use Rattle.std.proofs.lemmas.List.{length_push}
 use Rattle.std.proofs.lemmas.List.Elements.{All-head, All-tail, All-push, All-weaker}
 use Rattle.std.proofs.lemmas.List.Folds.{find-append}
 use Rattle.std.proofs.lemmas.Nat.{same_from_place}
 use Rattle.rmt_filling.specs.Types.{SramRow, TcamRow}
-use Rattle.rmt_config.specs.Cells.{Blocks, sram_row, tcam_row}
+use Rattle.rmt_config.specs.Cells.{Blocks, tcam_row}
 use Rattle.rmt_config.specs.Order.{rises_from}
 use Rattle.rmt_config.specs.StageForm.{srow_number, trow_number}
 use Rattle.rmt_filling.specs.Listing.{IsSramRow, IsTcamRow, IsSramListed, IsTcamListed, ListsSram, ListsTcam}
@@ -37,11 +38,7 @@ module _ {X : Type 0} (block_of row_of : X → ℕ) (size : ℕ) where
   part_at part xs b r = unwrap_or (option_map part (find (is_at b r) xs)) 0
 
   not_at : (b r : ℕ) (x : X) → (block_of x ≡ b → row_of x ≡ r → ⊥) → is_at b r x ≡ false
-  not_at b r x other =
-      elim (cases_eq (block_of x) b) as (λ _. is_at b r x ≡ false) [
-        | inl e ↦ ap (λ (t : Bool). t && (row_of x == r)) (eq-eqb (block_of x) b e) ∙ ne_eqb (row_of x) r (other e)
-        | inr ne ↦ ap (λ (t : Bool). t && (row_of x == r)) (ne_eqb (block_of x) b ne)
-      ]
+  not_at b r x other = grind (arith, nat_tests, other)
 
   here_at : (x : X) → is_at (block_of x) (row_of x) x ≡ true
   here_at x = ap (λ (t : Bool). t && (row_of x == row_of x)) (eq-eqb (block_of x) (block_of x) refl) ∙ eq-eqb (row_of x) (row_of x) refl
@@ -125,6 +122,20 @@ module _ {X : Type 0} (block_of row_of : X → ℕ) (size : ℕ) where
             ∙ sym (ap (λ k. held k r) (sym same.0) ∙ ap (held block) (sym same.1) ∙ none)
       ]
 
+  -- with all rows of so many blocks
+  pub found-all : (part : X → ℕ) (held : Blocks) (xs : List X) (most blocks : ℕ) → All (λ x. number x < most) xs → All (λ x. row_of x < size) xs
+      → ((b r : ℕ) → r < size → b < blocks → size * b + r < most) → ((b r : ℕ) → blocks ≤ b → most ≤ size * b + r)
+      → ((b r : ℕ) → r < size → size * b + r < most → part_at part xs b r ≡ held b r)
+      → ((b r : ℕ) → size ≤ r → held b r ≡ 0) → ((b r : ℕ) → blocks ≤ b → held b r ≡ 0) → (b r : ℕ) → part_at part xs b r ≡ held b r
+  found-all part held xs most blocks before low inside outside found off past b r =
+      elim (cases_lt r size) as (λ _. part_at part xs b r ≡ held b r) [
+        | inl lt ↦ elim (cases_lt b blocks) as (λ _. part_at part xs b r ≡ held b r) [
+          | inl there ↦ found b r lt (inside b r lt there)
+          | inr high ↦ part-none part xs most b r before (outside b r high) ∙ sym (past b r high)
+        ]
+        | inr high ↦ part-off part xs b r low high ∙ sym (off b r high)
+      ]
+
 -- ---- SRAM
 
 abbrev sram_block : SramRow → ℕ
@@ -161,13 +172,8 @@ sram-all held rows was off past = record {
   blocks = λ k d lt. let n = was.before k d lt in omega (arith, n);
   rise = was.rise;
   few = omega (arith, was.few);
-  same = λ b r. elim (cases_lt r 1024) as (λ _. sram_row rows b r ≡ held b r) [
-    | inl low ↦ elim (cases_lt b 106) as (λ _. sram_row rows b r ≡ held b r) [
-      | inl in_stage ↦ was.found b r low (omega (arith, low, in_stage))
-      | inr high ↦ part-none sram_block sram_number 1024 (λ (x : SramRow). x.bits) rows 108544 b r was.before (omega (arith, high)) ∙ sym (past b r high)
-    ]
-    | inr high ↦ part-off sram_block sram_number 1024 (λ (x : SramRow). x.bits) rows b r (All-weaker (IsSramRow held) (λ (x : SramRow). x.row < 1024) (λ x is. is.row) rows was.each) high ∙ sym (off b r high)
-  ];
+  same = found-all sram_block sram_number 1024 (λ (x : SramRow). x.bits) held rows 108544 106 was.before (All-weaker (IsSramRow held) (λ (x : SramRow). x.row < 1024) (λ x is. is.row) rows was.each)
+      (λ b r lt there. omega (arith, lt, there)) (λ b r high. omega (arith, high)) was.found off past;
 }
 
 -- ---- TCAM
@@ -219,11 +225,6 @@ tcam-all values masks rows was off past = record {
   where
     all : (part : TcamRow → ℕ) (held : Blocks) → ((b r : ℕ) → r < 2048 → 2048 * b + r < 32768 → tcam_row part rows b r ≡ held b r)
         → ((b r : ℕ) → 2048 ≤ r → held b r ≡ 0) → ((b r : ℕ) → 16 ≤ b → held b r ≡ 0) → (b r : ℕ) → tcam_row part rows b r ≡ held b r
-    all part held found none behind b r =
-        elim (cases_lt r 2048) as (λ _. tcam_row part rows b r ≡ held b r) [
-          | inl low ↦ elim (cases_lt b 16) as (λ _. tcam_row part rows b r ≡ held b r) [
-            | inl in_stage ↦ found b r low (omega (arith, low, in_stage))
-            | inr high ↦ part-none tcam_block tcam_number 2048 part rows 32768 b r was.before (omega (arith, high)) ∙ sym (behind b r high)
-          ]
-          | inr high ↦ part-off tcam_block tcam_number 2048 part rows b r (All-weaker (IsTcamRow values masks) (λ (x : TcamRow). x.row < 2048) (λ x is. is.row) rows was.each) high ∙ sym (none b r high)
-        ]
+    all part held =
+        found-all tcam_block tcam_number 2048 part held rows 32768 16 was.before (All-weaker (IsTcamRow values masks) (λ (x : TcamRow). x.row < 2048) (λ x is. is.row) rows was.each)
+        (λ b r lt there. omega (arith, lt, there)) (λ b r high. omega (arith, high))

@@ -26,8 +26,7 @@ module _ (p : Program) (t : Table) (need : PartNeed) (taken : Taken) (key : need
       let own_data = data_bits p t in
       let fits : f.per * (bits + 8) ≤ 112 * f.width =
       let le = mul-le f.per (bits + 8) (112 * f.width / (bits + 8)) (bits + 8) format.cells (omega arith) in
-      let whole = div-add-mod' (112 * f.width) (bits + 8) in
-      omega (arith, le, whole) in
+      omega (arith, le, div-add-mod' (112 * f.width) (bits + 8)) in
       let records : s.records ≡ (exact_block_counts f.width f.per need.quanta own_data false).records = ap (λ n. (exact_block_counts f.width f.per need.quanta n false).records) held in
       let within : taken.sram + (s.keys + s.records) ≤ 106 = let le = room.sram in omega (arith, le) in (
         kind,

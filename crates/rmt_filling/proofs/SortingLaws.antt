@@ -30,8 +30,7 @@ placed_push n (y ∷ ys) x =
 
 pub placed_more : (xs : List ℕ) (i : ℕ) (d : ℕ) → i < length xs → placed_from 0 (take (i + 1) xs) ≡ placed_from 0 (take i xs) ++ record { cell = get_or xs i d; entry = i } ∷ []
 placed_more xs i d lt =
-    let taken = length-take-le i xs (omega (arith, lt)) in
-    let long : 0 + length (take i xs) ≡ i = omega (arith, taken) in
+    let long : 0 + length (take i xs) ≡ i = omega (arith, length-take-le i xs (omega (arith, lt))) in
     ap (placed_from 0) (take_more xs i d lt) ∙ placed_push 0 (take i xs) (get_or xs i d)
     ∙ ap (λ m. placed_from 0 (take i xs) ++ record { cell = get_or xs i d; entry = m } ∷ []) long
 
@@ -43,8 +42,7 @@ rows_push n (y ∷ ys) x =
 
 pub rows_more : (xs : List Stand) (i : ℕ) (d : Stand) → i < length xs → rows_from 0 (take (i + 1) xs) ≡ rows_from 0 (take i xs) ++ record { cell = i; entry = (get_or xs i d).entry } ∷ []
 rows_more xs i d lt =
-    let taken = length-take-le i xs (omega (arith, lt)) in
-    let long : 0 + length (take i xs) ≡ i = omega (arith, taken) in
+    let long : 0 + length (take i xs) ≡ i = omega (arith, length-take-le i xs (omega (arith, lt))) in
     ap (rows_from 0) (take_more xs i d lt) ∙ rows_push 0 (take i xs) (get_or xs i d)
     ∙ ap (λ m. rows_from 0 (take i xs) ++ record { cell = m; entry = (get_or xs i d).entry } ∷ []) long
 
@@ -71,9 +69,8 @@ distinct_moved xs ys moved distinct = AllPairs-from_IsDistinct Decides-eqb ys (I
 range_distinct : (n : ℕ) → AllPairs ◌≢◌ (range_with_len 0 n)
 range_distinct n i j d lt inside e =
     let long = length-range_with_len 0 n in
-    let at_i = get_or-range_with_len 0 n i d (omega (arith, lt, inside, long)) in
     let at_j = get_or-range_with_len 0 n j d (omega (arith, inside, long)) in
-    omega (arith, lt, e, at_i, at_j)
+    omega (arith, lt, e, get_or-range_with_len 0 n i d (omega (arith, lt, inside, long)), at_j)
 
 -- parts of items that differ
 mapped_differ : {X : Type 0} (f : X → ℕ) (xs : List X) → AllPairs ◌≢◌ (map f xs) → AllPairs (λ a b. f a ≢ f b) xs
@@ -93,11 +90,9 @@ module _ (numbers : List ℕ) (few : length numbers < 2 ^ 32) (ys : List Stand) 
 
   pub long_as : length ys ≡ length numbers
   long_as =
-      let moved = length_permutation (placed_from 0 numbers) ys are.same in
       let same = length-map (placed_from 0 numbers) (λ (s : Stand). s.entry) in
-      let range = length-range_with_len 0 (length numbers) in
       let whole = ap length (entries_placed 0 numbers) in
-      omega (arith, moved, same, range, whole)
+      omega (arith, length_permutation (placed_from 0 numbers) ys are.same, same, length-range_with_len 0 (length numbers), whole)
 
   within : (i : ℕ) (d : Stand) → i < length ys → (get_or ys i d).entry < length numbers
   within i d lt = slice_get_within numbers (get_or ys i d).entry (get_or ys i d).cell (all_loaded i d lt)
@@ -108,13 +103,11 @@ module _ (numbers : List ℕ) (few : length numbers < 2 ^ 32) (ys : List Stand) 
   -- by number, and those of one number by place
   pub in_turn : AllPairs (λ (a b : Stand). (a.cell < b.cell) ⊎ ((a.cell ≡ b.cell) × (a.entry < b.entry))) ys
   in_turn i j d lt inside =
-      let a = get_or ys i d in
-      let b = get_or ys j d in
       let rise = are.sorted i j d (omega (arith, lt)) inside in
       let in_a = within i d (omega (arith, lt, inside)) in
       let in_b = within j d inside in
       let ne = entries_differ i j d lt inside in
-      elim (cases_lt a.cell b.cell) [
+      elim (cases_lt (get_or ys i d).cell (get_or ys j d).cell) [
         | inl less ↦ inl less
         | inr more ↦ inr (omega (arith, rise, in_a, in_b, few, more), omega (arith, rise, in_a, in_b, few, more, ne))
       ]
@@ -185,10 +178,9 @@ stand_in_order kind es ys few has fit rising are = record {
 
     rises_by : (a b : Stand) (e f : Entry) → slice_get es a.entry ≡ Some e → slice_get es b.entry ≡ Some f → a.entry < b.entry → e.number < f.number
     rises_by a b e f at bt lt =
-        let r = rising a.entry b.entry e lt (slice_get_within es b.entry f bt) in
         let same_e : (get_or es a.entry e).number ≡ e.number = ap (λ (x : Entry). x.number) (get_or_from_slice_get es a.entry e e at) in
         let same_f : (get_or es b.entry e).number ≡ f.number = ap (λ (x : Entry). x.number) (get_or_from_slice_get es b.entry f e bt) in
-        omega (arith, r, same_e, same_f)
+        omega (arith, rising a.entry b.entry e lt (slice_get_within es b.entry f bt), same_e, same_f)
 
     fits : (n : ℕ) (e : Entry) → slice_get es n ≡ Some e → e.rank < 2 ^ 32
     fits n e at = subst (λ (x : Entry). x.rank < 2 ^ 32) (get_or_from_slice_get es n e e at) (fit n e (slice_get_within es n e at))
@@ -206,8 +198,7 @@ stand_in_order kind es ys few has fit rising are = record {
 
     in_rows : AllPairs (λ (a b : Stand). (e f : Entry) → slice_get es a.entry ≡ Some e → slice_get es b.entry ≡ Some f → GoesFirst kind e f) (rows_from 0 ys)
     in_rows i j d lt inside e f at bt =
-        let many = long_rows 0 ys in
-        let in_j : j < length ys = omega (arith, inside, many) in
+        let in_j : j < length ys = omega (arith, inside, long_rows 0 ys) in
         let in_i : i < length ys = omega (arith, in_j, lt) in
         two (get_or ys i d) (get_or ys j d) e f (all_loaded (map (rank_in kind) es) small ys are i d in_i) (all_loaded (map (rank_in kind) es) small ys are j d in_j)
         (in_turn (map (rank_in kind) es) small ys are i j d lt in_j)

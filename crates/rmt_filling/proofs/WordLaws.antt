@@ -68,9 +68,8 @@ words-masked [] values masks same = All-nil IsMaskedWord
 words-masked (x ∷ xs) values masks same =
     let v : x.value < 2 ^ 40 = All-head (λ w. w < 2 ^ 40) x.value (map (λ (w : TcamWord). w.value) xs) values in
     let m : x.mask < 2 ^ 40 = All-head (λ w. w < 2 ^ 40) x.mask (map (λ (w : TcamWord). w.mask) xs) masks in
-    let vs = joined_words (map (λ (w : TcamWord). w.value) xs) in
     let ms = joined_words (map (λ (w : TcamWord). w.mask) xs) in
-    let parts = split x.value x.mask vs ms v m same in
+    let parts = split x.value x.mask (joined_words (map (λ (w : TcamWord). w.value) xs)) ms v m same in
     All-cons IsMaskedWord x xs (record { value = v; mask = m; masked = parts.0 })
     (words-masked xs (All-tail (λ w. w < 2 ^ 40) x.value (map (λ (w : TcamWord). w.value) xs) values) (All-tail (λ w. w < 2 ^ 40) x.mask (map (λ (w : TcamWord). w.mask) xs) masks) parts.1)
   where

@@ -1,19 +1,10 @@
-//! Keys and data of entries as bytes.
+//! The widths of fields.
 
-ghost use Rattle.std.specs.Prelude.{◌≡◌, slice_index, ℕ, ◌+◌, ◌*◌, ◌<◌, ◌≤◌, ◌^◌, All, IfOk, length, map, replicate, sum};
-ghost use Rattle.std.specs.List.{AllZip};
-ghost use Rattle.rmt_ast.specs.declared.program.Test.{Test};
-ghost use Rattle.rmt_bits.specs.Bits.{bytes_of, number_of};
+ghost use Rattle.std.specs.Prelude.{◌≡◌, ◌<◌, All, IfOk, length, map};
 ghost use Rattle.rmt_ast.specs.State.{width_of};
-ghost use Rattle.rmt_ast.specs.WellFormed.{Fits, IsTest};
-ghost use Rattle.rmt_config.specs.BlockCounts.{divided_up};
-ghost use Rattle.rmt_config.specs.Rooms.{args_as_one, tests_as_one};
 
-use rmt_ast::program::{Program, Test};
+use rmt_ast::program::Program;
 use rmt_bits::answer::Bytes;
-use rmt_bits::bits::bytes_of_bits;
-use rmt_pack::format::divide_up;
-use rmt_pack::need::sum_of;
 use std::alloc::{AllocError, Global};
 
 /// The widths of some fields.
@@ -26,79 +17,4 @@ pub fn widths_of(alloc: Global, program: &Program, fields: &[u32]) -> Result<Byt
         widths.push(program.fields.as_slice()[*field as usize].width)?;
     }
     Ok(widths)
-}
-
-/// As many bytes, all 0, as hold so many bits.
-fn bytes_for(alloc: Global, bits: u32) -> Result<Vec<u8>, AllocError>
-    requires { bits < 65536 }
-    ensures { IfOk result (λ bytes. bytes.items ≡ replicate (divided_up bits 8) 0) }
-{
-    vec![in alloc; 0; divide_up(bits, 8) as usize]
-}
-
-/// Puts the values of tests of these widths side by side into bytes that are 0, from a bit on to the last one.
-fn put_tests(bytes: &mut [u8], first: u32, widths: &[u8], tests: &[Test])
-    requires few { length bytes.old < 2 ^ 16 }
-    requires zero { number_of bytes.old ≡ 0 }
-    requires room { first + sum widths.now ≡ 8 * length bytes.old }
-    requires narrow { All (λ w. w ≤ 128) widths.now }
-    requires tests { AllZip IsTest widths.now tests.now }
-    ensures number { number_of bytes.new ≡ tests_as_one (λ (t : Test). t.value) widths.now tests.now }
-    ensures bytes { (k : ℕ) → slice_index bytes.new k < 2 ^ 8 }
-{
-    let mut from = first;
-    for (at, test) in tests.iter().enumerate() {
-        bytes_of_bits(test.value, widths[at], bytes, from);
-        from += widths[at] as u32;
-    }
-}
-
-/// The values of tests of these widths side by side, the first highest, as the lowest bits of bytes.
-pub fn key_bytes(alloc: Global, widths: &[u8], tests: &[Test]) -> Result<Vec<u8>, AllocError>
-    requires tests { AllZip IsTest widths.now tests.now }
-    requires narrow { All (λ w. w ≤ 128) widths.now }
-    requires few { sum widths.now ≤ 640 }
-    ensures { IfOk result (λ bytes. bytes.items ≡
-        bytes_of (divided_up (sum widths.now) 8) (tests_as_one (λ (t : Test). t.value) widths.now tests.now)) }
-{
-    let bits = sum_of(widths);
-    let mut bytes = bytes_for(alloc, bits)?;
-    put_tests(&mut bytes, divide_up(bits, 8) * 8 - bits, widths, tests);
-    Ok(bytes)
-}
-
-/// Puts arguments of these widths side by side into bytes that are 0, the first from bit `low` upward.
-fn put_args(bytes: &mut [u8], low: u32, widths: &[u8], args: &[u128])
-    requires few { length bytes.old < 2 ^ 16 }
-    requires zero { number_of bytes.old ≡ 0 }
-    requires room { low + sum widths.now ≤ 8 * length bytes.old }
-    requires widths { All (λ w. w ≤ 128) widths.now }
-    requires fit { AllZip Fits widths.now args.now }
-    ensures { number_of bytes.new ≡ 2 ^ low * args_as_one widths.now args.now }
-{
-    let mut above = bytes.len() as u32 * 8 - low;
-    for at in 0..widths.len() {
-        above -= widths[at] as u32;
-        bytes_of_bits(args[at], widths[at], bytes, above);
-    }
-}
-
-/// A record of so many bits as bytes: arguments of these widths side by side, the first from bit `low` upward.
-pub fn record_bytes(
-    alloc: Global,
-    bits: u32,
-    low: u32,
-    widths: &[u8],
-    args: &[u128],
-) -> Result<Vec<u8>, AllocError>
-    requires args { AllZip Fits widths.now args.now }
-    requires narrow { All (λ w. w ≤ 128) widths.now }
-    requires few { bits < 65536 }
-    requires room { low + sum widths.now ≤ bits }
-    ensures long { IfOk result (λ bytes. length bytes.items ≡ divided_up bits 8) }
-    ensures number { IfOk result (λ bytes. number_of bytes.items ≡ 2 ^ low * args_as_one widths.now args.now) }
-{
-    let mut bytes = bytes_for(alloc, bits)?;
-    put_args(&mut bytes, low, widths, args);
-    Ok(bytes)
 }

@@ -12,13 +12,14 @@ ghost use Rattle.rmt_config.specs.Rooms.{args_as_one, tests_as_one};
 ghost use Rattle.rmt_filling.specs.Holding.{ExactSo, PutsCell, exact_part, head_for};
 ghost use Rattle.rmt_filling.specs.Rooms.{CanBeWritten, StandApart};
 
-use crate::data::{key_bytes, record_bytes, widths_of};
+use crate::data::widths_of;
 use crate::entries::{PartEntries, PlacedEntry, placed_entry};
 use crate::held::held_bits;
 use crate::shapes::exact_shape;
 use rmt_ast::program::Kind;
 use rmt_bits::answer::Bytes;
 use rmt_pack::cell::write_cell;
+use rmt_pack::encoding::{args_bytes, tests_bytes};
 use rmt_pack::head::Head;
 use rmt_pack::need::key_bits;
 use rmt_pack::record::write_record;
@@ -48,8 +49,8 @@ fn write_exact(
     ensures { OnOk result (PutsCell (blocks_of sram.old) (blocks_of sram.new) shape.now cell
         (head_for placed.now.code + 256 * tests_as_one (λ (t : Test). t.value) widths.now placed.now.entry.now.tests) (args_as_one placed.now.params.now placed.now.entry.now.args)) }
 {
-    let key = key_bytes(alloc, widths, placed.entry.tests.as_slice())?;
-    let held = record_bytes(
+    let key = tests_bytes(alloc, widths, placed.entry.tests.as_slice(), false)?;
+    let held = args_bytes(
         alloc,
         shape.held as u32,
         0,

@@ -2,9 +2,9 @@
 
 ghost use Rattle.std.specs.Prelude.{◌≡◌, IfOk};
 ghost use Rattle.rmt_ast.specs.WellFormed.{IsProgram, IsTable};
-ghost use Rattle.rmt_filling.specs.Formats.{formats_of as formats_by_rule, what_format};
+ghost use Rattle.rmt_filling.specs.Formats.{formats_of as formats_by_rule};
 ghost use Rattle.rmt_pack.specs.Formats.{memory_format};
-ghost use Rattle.rmt_pack.specs.Placements.{table_need as need_of_table};
+ghost use Rattle.rmt_pack.specs.Placements.{table_need as need_of_table, what_format};
 
 use rmt_ast::program::{Node, Program, Table, What};
 use rmt_bits::sequence::Sequence;

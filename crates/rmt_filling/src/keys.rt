@@ -7,7 +7,7 @@ ghost use Rattle.rmt_ast.specs.State.{width_of};
 ghost use Rattle.rmt_ast.specs.WellFormed.{IsKeyed, IsProgram, IsTest};
 ghost use Rattle.rmt_filling.specs.Keys.{CanBeLoaded, IsTried, keys_of as keys_as_bytes};
 
-use crate::data::{key_bytes, widths_of};
+use crate::data::widths_of;
 use crate::stands::{Stands, as_loaded};
 use rmt_ast::entry::Entry;
 use rmt_ast::program::{Program, Table};
@@ -15,6 +15,7 @@ use rmt_bits::sequence::Sequence;
 use rmt_cuckoo::fault::LoadFault;
 use rmt_cuckoo::layout::{Keys, Layout};
 use rmt_cuckoo::load;
+use rmt_pack::encoding::tests_bytes;
 use std::alloc::{AllocError, Global};
 
 /// What comes of loading one table.
@@ -46,7 +47,7 @@ pub fn keys_of(
     let widths = widths_of(alloc, program, table.key.as_slice())?;
     let mut keys = Sequence::new(alloc);
     for entry in entries {
-        let key = key_bytes(alloc, widths.as_slice(), entry.tests.as_slice())?;
+        let key = tests_bytes(alloc, widths.as_slice(), entry.tests.as_slice(), false)?;
         keys.push(Sequence::from_vec(key))?;
     }
     Ok(keys)

@@ -15,7 +15,7 @@ ghost use Rattle.rmt_filling.specs.Holding.{AreKeyBlocks, TernarySo, head_for, t
 ghost use Rattle.rmt_filling.specs.Listing.{masks_of, values_of};
 ghost use Rattle.rmt_filling.specs.Rooms.{CanBeWritten, StandApart};
 
-use crate::data::{record_bytes, widths_of};
+use crate::data::widths_of;
 use crate::entries::{PartEntries, PlacedEntry, placed_entry};
 use crate::held::held_bits;
 use crate::shapes::ternary_shape;
@@ -24,6 +24,7 @@ use crate::words::write_tests;
 use rmt_ast::program::Kind;
 use rmt_bits::answer::Bytes;
 use rmt_bits::bits::bytes_of_bits;
+use rmt_pack::encoding::args_bytes;
 use rmt_pack::fault::PackFault;
 use rmt_pack::need::key_bits;
 use rmt_pack::record::write_record;
@@ -58,7 +59,7 @@ fn headed_bytes(
     ensures len { IfOk result (λ bytes. length bytes.items ≡ divided_up bits 8) }
     ensures value { IfOk result (λ bytes. number_of bytes.items ≡ head_for code + 256 * args_as_one widths.now args.now) }
 {
-    let mut bytes = record_bytes(alloc, bits, 8, widths, args)?;
+    let mut bytes = args_bytes(alloc, bits, 8, widths, args)?;
     put_head(&mut bytes, code);
     Ok(bytes)
 }

@@ -11,20 +11,19 @@ use Rattle.std.proofs.lemmas.List.Kept.{AllPairs-cons}
 use Rattle.std.proofs.lemmas.List.Sorted.{All-permutation, Contains-permutation, IsPermutation-swap}
 use Rattle.std.proofs.lemmas.Map.Made.{IsDistinct-from_AllPairs}
 use Rattle.std.proofs.lemmas.Map.Steps.{le-length_from_below, length-le_from_distinct_below}
-use Rattle.rmt_bits.proofs.MemberLaws.{Contains-filter, Contains-first, Contains-later, Contains-unfilter, list_any-Contains}
+use Rattle.rmt_bits.proofs.MemberLaws.{Contains-filter, Contains-first, Contains-later, Contains-unfilter, list_any-Contains, Contains-from_any, among-Contains}
 use Rattle.rmt_bits.proofs.PairLaws.{AllPairs-append, AllPairs-none}
 use Rattle.rmt_ast.specs.declared.deps.Edge.{Edge}
 use Rattle.rmt_ast.specs.declared.deps.Deps.{Deps}
-use Rattle.rmt_config.specs.Resources.{is_in}
 use Rattle.rmt_deps.specs.Edges.{GoesForward, GoForward}
 use Rattle.rmt_deps.specs.Levels.{all_edges}
 use Rattle.rmt_deps.proofs.LevelLaws.{edges_forward}
 use Rattle.rmt_pack.proofs.FormatLaws.{of_range}
 use Rattle.rmt_place.specs.Placing.{InOrder, IsGoodOrder}
-use Rattle.rmt_place.proofs.LeastLaws.{contains_in, in_contains}
 use Rattle.rmt_improve.specs.Orders.{by_weight, exchanged, heaviest, is_blocked, is_heavier, joins, may_be_next, next_nodes}
 use Rattle.rmt_improve.proofs.BestLaws.{best-holds}
 use Rattle.rmt_bits.proofs.AllLaws.{All-between}
+use Rattle.rmt_bits.specs.Members.{is_among}
 
 -- ---- one more node behind others
 
@@ -36,17 +35,17 @@ AllPairs-more R xs x pairs all =
     AllPairs-append R xs (x ∷ []) pairs (AllPairs-cons R x [] (All-nil (R x)) (AllPairs-none R))
     (λ i d lt. All-cons (R (get_or xs i d)) x [] (all i d lt) (All-nil (R (get_or xs i d))))
 
-is_in-split : (ns : List ℕ) (m q : ℕ) → is_in (ns ++ m ∷ []) q ≡ true → (is_in ns q ≡ true) ⊎ (m ≡ q)
-is_in-split ns m q is = elim (or_cases (is_in ns q) (is_in (m ∷ []) q) (sym (list_any-append (λ k. eqb k q) ns (m ∷ [])) ∙ is)) [
+is_in-split : (ns : List ℕ) (m q : ℕ) → is_among (ns ++ m ∷ []) q ≡ true → (is_among ns q ≡ true) ⊎ (m ≡ q)
+is_in-split ns m q is = elim (or_cases (is_among ns q) (is_among (m ∷ []) q) (sym (list_any-append (λ k. eqb k q) ns (m ∷ [])) ∙ is)) [
   | inl there ↦ inl there
   | inr last ↦ elim (or_cases (eqb m q) false last) [ inl same ↦ inr (eqb-true m q same) | inr none ↦ absurd (false≢true none) ]
 ]
 
-is_in-front : (ns ms : List ℕ) (q : ℕ) → is_in ns q ≡ true → is_in (ns ++ ms) q ≡ true
-is_in-front ns ms q is = list_any-append (λ k. eqb k q) ns ms ∙ ap (λ b. b || is_in ms q) is
+is_in-front : (ns ms : List ℕ) (q : ℕ) → is_among ns q ≡ true → is_among (ns ++ ms) q ≡ true
+is_in-front ns ms q is = list_any-append (λ k. eqb k q) ns ms ∙ ap (λ b. b || is_among ms q) is
 
-not_among : (ns : List ℕ) (m : ℕ) → is_in ns m ≡ false → All (λ n. n ≢ m) ns
-not_among ns m none i d lt same = false≢true (sym none ∙ contains_in ns m (i, lt, get_or_default ns i m d lt ∙ same))
+not_among : (ns : List ℕ) (m : ℕ) → is_among ns m ≡ false → All (λ n. n ≢ m) ns
+not_among ns m none i d lt same = false≢true (sym none ∙ among-Contains ns m (i, lt, get_or_default ns i m d lt ∙ same))
 
 -- ---- the nodes that are taken
 
@@ -54,22 +53,22 @@ not_among ns m none i d lt same = false≢true (sym none ∙ contains_in ns m (i
 record IsFront (edges : List Edge) (nodes : ℕ) (taken : List ℕ) : Type 0 where
   numbers : All (λ n. n < nodes) taken
   once : AllPairs ◌≢◌ taken
-  closed : (e : Edge) → Contains edges e → is_in taken e.to ≡ true → is_in taken e.from ≡ true
+  closed : (e : Edge) → Contains edges e → is_among taken e.to ≡ true → is_among taken e.from ≡ true
   forward : All (λ e. InOrder e taken) edges
 
 -- the first node of an edge to a node that isn't blocked is taken
-first_taken : (edges : List Edge) (taken : List ℕ) (n : ℕ) (e : Edge) → is_blocked edges taken n ≡ false → Contains edges e → e.to ≡ n → is_in taken e.from ≡ true
-first_taken edges taken n e free there ends = elim (cases_Bool (is_in taken e.from)) [
+first_taken : (edges : List Edge) (taken : List ℕ) (n : ℕ) (e : Edge) → is_blocked edges taken n ≡ false → Contains edges e → e.to ≡ n → is_among taken e.from ≡ true
+first_taken edges taken n e free there ends = elim (cases_Bool (is_among taken e.from)) [
   | inl is ↦ is
   | inr out ↦
-      let passes : (eqb e.to n && not (is_in taken e.from)) ≡ true = ap (λ b. b && not (is_in taken e.from)) (eq-eqb e.to n ends) ∙ ap not out in
-      absurd (false≢true (sym free ∙ list_any-Contains (λ (x : Edge). eqb x.to n && not (is_in taken x.from)) edges e there passes))
+      let passes : (eqb e.to n && not (is_among taken e.from)) ≡ true = ap (λ b. b && not (is_among taken e.from)) (eq-eqb e.to n ends) ∙ ap not out in
+      absurd (false≢true (sym free ∙ list_any-Contains (λ (x : Edge). eqb x.to n && not (is_among taken x.from)) edges e there passes))
 ]
 
 front_more : (edges : List Edge) (nodes : ℕ) (taken : List ℕ) (m : ℕ) → IsFront edges nodes taken → m < nodes → may_be_next edges taken m ≡ true → IsFront edges nodes (taken ++ m ∷ [])
 front_more edges nodes taken m front lt next =
-    let parts = and_parts (not (is_in taken m)) (not (is_blocked edges taken m)) next in
-    let out : is_in taken m ≡ false = not-true (is_in taken m) parts.0 in
+    let parts = and_parts (not (is_among taken m)) (not (is_blocked edges taken m)) next in
+    let out : is_among taken m ≡ false = not-true (is_among taken m) parts.0 in
     let free : is_blocked edges taken m ≡ false = not-true (is_blocked edges taken m) parts.1 in
     record {
       numbers = All-more (λ n. n < nodes) taken m front.numbers lt;
@@ -81,25 +80,24 @@ front_more edges nodes taken m front lt next =
       forward = λ i d inside. AllPairs-more (λ x y. x ≡ (get_or edges i d).to → y ≢ (get_or edges i d).from) taken m (front.forward i d inside)
           (λ j f within to from.
           (let e = get_or edges i d in
-          let taken_to = contains_in taken e.to (j, within, get_or_default taken j e.to f within ∙ to) in
-          let taken_from = front.closed e (Contains-get_or edges i d inside) taken_to in
-          false≢true (sym out ∙ (ap (is_in taken) from ∙ taken_from))));
+          let taken_to = among-Contains taken e.to (j, within, get_or_default taken j e.to f within ∙ to) in
+          false≢true (sym out ∙ (ap (is_among taken) from ∙ (front.closed e (Contains-get_or edges i d inside) taken_to)))));
     }
 
 -- all numbers below k are taken, or there is a least one that isn't
 first_out : (taken : List ℕ) (k : ℕ)
-    → ((j : ℕ) → j < k → is_in taken j ≡ true) ⊎ ((q : ℕ) × (q < k) × (is_in taken q ≡ false) × ((j : ℕ) → j < q → is_in taken j ≡ true))
+    → ((j : ℕ) → j < k → is_among taken j ≡ true) ⊎ ((q : ℕ) × (q < k) × (is_among taken q ≡ false) × ((j : ℕ) → j < q → is_among taken j ≡ true))
 first_out taken zero = inl (λ j lt. absurd (omega (arith, lt)))
 first_out taken (suc k) = elim (first_out taken k) [
   | inr found ↦ inr (found.0, (let lt = found.1 in omega (arith, lt)), found.2, found.3)
-  | inl all ↦ elim (cases_Bool (is_in taken k)) [
-    | inl there ↦ inl (λ j lt. elim (cases_eq j k) [ inl same ↦ ap (is_in taken) same ∙ there | inr other ↦ all j (omega arith) ])
+  | inl all ↦ elim (cases_Bool (is_among taken k)) [
+    | inl there ↦ inl (λ j lt. elim (cases_eq j k) [ inl same ↦ ap (is_among taken) same ∙ there | inr other ↦ all j (omega arith) ])
     | inr out ↦ inr (k, omega arith, out, all)
   ]
 ]
 
 -- the least node that isn't taken may be next, for edges go forward
-least_next : (edges : List Edge) (nodes : ℕ) (taken : List ℕ) (q : ℕ) → All (GoesForward nodes) edges → is_in taken q ≡ false → ((j : ℕ) → j < q → is_in taken j ≡ true)
+least_next : (edges : List Edge) (nodes : ℕ) (taken : List ℕ) (q : ℕ) → All (GoesForward nodes) edges → is_among taken q ≡ false → ((j : ℕ) → j < q → is_among taken j ≡ true)
     → may_be_next edges taken q ≡ true
 least_next edges nodes taken q forward out before =
     let free : is_blocked edges taken q ≡ false = elim (cases_Bool (is_blocked edges taken q)) [ inl held ↦ absurd (never held) | inr none ↦ none ] in
@@ -107,17 +105,17 @@ least_next edges nodes taken q forward out before =
   where
     never : is_blocked edges taken q ≡ true → ⊥
     never held =
-        let some = Any-from_list_any (λ (e : Edge). eqb e.to q && not (is_in taken e.from)) edges held in
+        let some = Any-from_list_any (λ (e : Edge). eqb e.to q && not (is_among taken e.from)) edges held in
         let e = some.1 in
-        let parts = and_parts (eqb e.to q) (not (is_in taken e.from)) some.4 in
+        let parts = and_parts (eqb e.to q) (not (is_among taken e.from)) some.4 in
         let ends : e.to ≡ q = eqb-true e.to q parts.0 in
         let goes = All-contains (GoesForward nodes) edges e forward (some.0, some.2, some.3) in
-        false≢true (sym (not-true (is_in taken e.from) parts.1) ∙ before e.from (omega (arith, goes.later, ends)))
+        false≢true (sym (not-true (is_among taken e.from) parts.1) ∙ before e.from (omega (arith, goes.later, ends)))
 
 some_next : (edges : List Edge) (nodes : ℕ) (taken : List ℕ) → All (GoesForward nodes) edges → length taken < nodes → (q : ℕ) × Contains (next_nodes edges taken nodes) q
 some_next edges nodes taken forward few = elim (first_out taken nodes) [
   | inl all ↦
-      let le = le-length_from_below taken nodes (λ q lt. list_any-Contains (eqb q) taken q (in_contains taken q (all q lt)) (eq-eqb q q refl)) in
+      let le = le-length_from_below taken nodes (λ q lt. list_any-Contains (eqb q) taken q (Contains-from_any taken q (all q lt)) (eq-eqb q q refl)) in
       absurd (omega (arith, le, few))
   | inr found ↦
       let q = found.0 in
@@ -164,8 +162,8 @@ front_of edges weights (suc k) forward le =
 
 -- numbers below as many as there are of them, each once: every one is there
 all_there : (nodes : ℕ) (order : List ℕ) → All (λ n. n < nodes) order → AllPairs ◌≢◌ order → length order ≡ nodes → (q : ℕ) → q < nodes → Contains order q
-all_there nodes order numbers once size q lt = elim (cases_Bool (is_in order q)) [
-  | inl there ↦ in_contains order q there
+all_there nodes order numbers once size q lt = elim (cases_Bool (is_among order q)) [
+  | inl there ↦ Contains-from_any order q there
   | inr out ↦
       let pairs : AllPairs (λ x y. x ≢ y) (q ∷ order) = AllPairs-cons (λ x y. x ≢ y) q order (λ i d inside same. not_among order q out i d inside (sym same)) once in
       let le = length-le_from_distinct_below (q ∷ order) nodes (IsDistinct-from_AllPairs Decides-eqb (q ∷ order) pairs) (below q order lt numbers) in
@@ -194,8 +192,7 @@ by_weight_good deps weights forward =
 pub good_length : (nodes : ℕ) (edges : List Edge) (order : List ℕ) → IsGoodOrder nodes edges order → length order ≡ nodes
 good_length nodes edges order good =
     let least = le-length_from_below order nodes (λ q lt. list_any-Contains (eqb q) order q (good.all_there q lt) (eq-eqb q q refl)) in
-    let most = length-le_from_distinct_below order nodes (IsDistinct-from_AllPairs Decides-eqb order good.once) below in
-    omega (arith, least, most)
+    omega (arith, least, length-le_from_distinct_below order nodes (IsDistinct-from_AllPairs Decides-eqb order good.once) below)
   where
     below : (x : ℕ) → list_any (eqb x) order ≡ true → x < nodes
     below x is =
@@ -261,20 +258,6 @@ swap_good nodes edges order i good lt apart =
           let joined = joined_by edges order i e (Contains-get_or edges k d inside) (get_or_default order i 0 f (omega arith) ∙ from) (get_or_default order (i + 1) 0 f lt ∙ to) in
           false≢true (sym apart ∙ joined)));
     }
-
--- and isn't where one does
-pub swap_bad : (nodes : ℕ) (edges : List Edge) (order : List ℕ) (i : ℕ) → i + 1 < length order
-    → joins edges (get_or order i 0) (get_or order (i + 1) 0) ≡ true → IsGoodOrder nodes edges (swap order i (i + 1)) → ⊥
-swap_bad nodes edges order i lt joined good =
-    let a = get_or order i 0 in
-    let b = get_or order (i + 1) 0 in
-    let some = Any-from_list_any (λ (x : Edge). eqb x.from a && eqb x.to b) edges joined in
-    let e = some.1 in
-    let parts = and_parts (eqb e.from a) (eqb e.to b) some.4 in
-    let places = swapped_from_swap order (swap order i (i + 1)) i (i + 1) 0 (omega arith) lt refl in
-    let size = length-swap order i (i + 1) in
-    All-contains (λ (x : Edge). InOrder x (swap order i (i + 1))) edges e good.forward (some.0, some.2, some.3) i (i + 1) 0 (omega arith) (omega (arith, size, lt))
-    (places.0 ∙ sym (eqb-true e.to b parts.1)) (places.1 ∙ sym (eqb-true e.from a parts.0))
 
 pub exchanged_good : (nodes : ℕ) (edges : List Edge) (order : List ℕ) (i : ℕ) → IsGoodOrder nodes edges order → i + 1 < length order → IsGoodOrder nodes edges (exchanged edges order i)
 exchanged_good nodes edges order i good lt = by (joins edges (get_or order i 0) (get_or order (i + 1) 0)) refl

@@ -51,9 +51,8 @@ order_good demands deps (suc (suc (suc k))) best forward good = elim (cases_lt (
   | inl few ↦ subst (λ (b : Bool). IsGoodOrder nodes edges (cond b best (exchanged edges best (k % (nodes - 1))))) (sym (lt-ltb (length demands) 2 few)) good
   | inr some ↦
       let place : k % (nodes - 1) < nodes - 1 = omega arith in
-      let size = good_length nodes edges best good in
       subst (λ (b : Bool). IsGoodOrder nodes edges (cond b best (exchanged edges best (k % (nodes - 1))))) (sym (le-ltb (length demands) 2 some))
-      (exchanged_good nodes edges best (k % (nodes - 1)) good (omega (arith, place, size, some)))
+      (exchanged_good nodes edges best (k % (nodes - 1)) good (omega (arith, place, good_length nodes edges best good, some)))
 ]
   where
     nodes : ℕ

@@ -1,21 +1,21 @@
 -- Orders in which the nodes of a program may be placed.
-use Rattle.std.specs.Prelude.{◌≡◌, ⊤, Contains, ℕ, zero, suc, ◌+◌, ◌-◌, ◌*◌, List, [], ◌∷◌, ◌++◌, Bool, not, ◌&&◌, ◌==◌, nat_lt, if◌then◌else◌, filter, map, length, slice_index, reverse}
+use Rattle.std.specs.Prelude.{ℕ, zero, suc, ◌+◌, ◌-◌, ◌*◌, List, [], ◌∷◌, ◌++◌, Bool, not, ◌&&◌, ◌==◌, nat_lt, if◌then◌else◌, filter, map, length, slice_index, reverse, ◌≡◌, ⊤, Contains}
 use Rattle.std.specs.List.{best_of, list_any, range_with_len, swap}
+use Rattle.rmt_bits.specs.Members.{is_among}
 use Rattle.rmt_ast.specs.declared.deps.Edge.{Edge}
 use Rattle.rmt_ast.specs.declared.deps.Deps.{Deps}
-use Rattle.rmt_config.specs.Resources.{is_in}
-use Rattle.rmt_deps.specs.Levels.{all_edges, levels_of}
+use Rattle.rmt_deps.specs.Levels.{levels_of, all_edges}
 use Rattle.rmt_place.specs.declared.demand.Demand.{Demand}
 
 -- ---- the heaviest first
 
 -- an edge goes to a node from one that isn't taken
 abbrev pub is_blocked : List Edge → List ℕ → ℕ → Bool
-is_blocked edges taken n = list_any (λ (e : Edge). (e.to == n) && not (is_in taken e.from)) edges
+is_blocked edges taken n = list_any (λ (e : Edge). (e.to == n) && not (is_among taken e.from)) edges
 
 -- a node may be taken next where the first nodes of all its edges are taken
 abbrev pub may_be_next : List Edge → List ℕ → ℕ → Bool
-may_be_next edges taken n = not (is_in taken n) && not (is_blocked edges taken n)
+may_be_next edges taken n = not (is_among taken n) && not (is_blocked edges taken n)
 
 -- node a is heavier than node b
 abbrev pub is_heavier : List ℕ → ℕ → ℕ → Bool

@@ -1,8 +1,8 @@
 -- What the code works with: marks of nodes, and the rank of a placement.
 use Rattle.std.specs.Prelude.{◌≡◌, ◌<◌, ℕ, List, [], ◌∷◌, Bool, false, not, ◌&&◌, ◌==◌, Option, Some, None, Result, Ok, Err, ⊤, length, slice_index_or}
 use Rattle.std.specs.List.{list_any}
+use Rattle.rmt_bits.specs.Members.{is_among}
 use Rattle.rmt_ast.specs.declared.deps.Edge.{Edge}
-use Rattle.rmt_config.specs.Resources.{is_in}
 use Rattle.rmt_pack.specs.declared.placement.Part.{Part}
 use Rattle.rmt_place.specs.Placing.{Stuck}
 use Rattle.rmt_place.specs.Starting.{stages_in}
@@ -16,7 +16,7 @@ use Rattle.rmt_improve.specs.Tries.{Try, last_start}
 
 -- the marks of the nodes that are taken are set
 abbrev pub AreTaken : List ℕ → List Bool → Type 0
-AreTaken taken marks = (n : ℕ) → n < length marks → slice_index_or marks n false ≡ is_in taken n
+AreTaken taken marks = (n : ℕ) → n < length marks → slice_index_or marks n false ≡ is_among taken n
 
 -- an edge goes to a node from one whose mark is not set
 abbrev pub is_held : List Edge → List Bool → ℕ → Bool

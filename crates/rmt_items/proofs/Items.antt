@@ -17,7 +17,7 @@ use Rattle.rmt_items.specs.declared.reading.parser.EntryHead.{EntryHead}
 use Rattle.rmt_items.specs.Readers.{kept, byte_at, is_flag, is_one, flag_at, at_most, at_least}
 use Rattle.rmt_items.specs.Reading.{word_at, lane_of_parts, lane_from_at, lane_at, has_bits, lane_of_at, header_of_parts, header_size_fits, is_covered, header_at, headers_at, offset_at, one_more, state_of_parts, state_at, states_at, entry_state_at, match_fits, match_at, need_fits, need_at, later_state_at, accepts, rejects, next_at, bits_of_parts, lies_in, bits_at, extract_at, head_of_parts, entry_head_at, entry_of_parts, entry_at, state_of, parser_of_parts, parser_at}
 use Rattle.rmt_bits.proofs.TestLaws.{split2, split3, split4, split6, split8}
-use Rattle.rmt_items.proofs.Codec.{Codec, codec_for, codec_kept, codec_behind, codec_made, codec_made_known, codec_give, choices_none, choices_when, codec_chosen, AllAlong, codec_items, codec_listed, byte_codec, two_codec, fours_codec, codec_list, alone}
+use Rattle.rmt_items.proofs.Codec.{Codec, codec_as, codec_for, codec_kept, codec_behind, codec_made, codec_made_known, codec_give, choices_none, choices_when, codec_chosen, AllAlong, codec_items, codec_listed, byte_codec, two_codec, fours_codec, codec_list, alone}
 
 -- ---- numbers
 
@@ -36,12 +36,7 @@ flag_codec = codec_made is_one (codec_kept is_flag byte_codec) (λ b. spelled_fl
 
 -- a byte that passes a test
 pub codec_byte : (test : ℕ → Bool) → Codec (kept test byte_at) (λ n. n ∷ []) (λ n. test n ≡ true) (λ n. test n ≡ true)
-codec_byte test =
-    let c = codec_kept test byte_codec in
-    record {
-      takes = λ bytes x rest fits e. let t = c.takes bytes x rest fits e in record { parts = t.parts; rest_fits = t.rest_fits; fact = t.fact.1 };
-      again = λ x rest p. c.again x rest (tt, p);
-    }
+codec_byte test = codec_as (codec_kept test byte_codec) (λ n. n ∷ []) (λ n. test n ≡ true) (λ n. test n ≡ true) (λ _. refl) (λ n p. (tt, p)) (λ n r. r.1)
 
 -- ---- lanes and headers
 

@@ -1,7 +1,6 @@
 pub mod Appending
 mod NumberLaws
 pub mod Codec
-mod ItemLoops
 pub mod Items
 mod Units
 pub mod Stages

@@ -12,6 +12,7 @@ use Rattle.rmt_ast.specs.declared.names.ActionName.{ActionName}
 use Rattle.rmt_ast.specs.declared.names.RankOf.{RankOf}
 use Rattle.rmt_config.specs.Spelling.{two_bytes, four_bytes, spelled_list8, spelled_list16}
 use Rattle.rmt_config.specs.ImageSpelling.{spelled_name, spelled_action, spelled_rank, spelled_table_kind, spelled_ranks, spelled_table}
+use Rattle.rmt_items.specs.declared.fault.ReadFault.{ReadFault}
 use Rattle.rmt_items.specs.Readers.{give, at_most}
 use Rattle.rmt_items.specs.ReadingNames.{name_at, action_of_parts, action_at, rank_of_parts, rank_at, table_kind_of, table_kind_at, ranks_at, table_of_parts, TableBody, table_body_at, table_at, names_of_parts, names_at}
 use Rattle.rmt_items.proofs.Codec.{Codec, codec_for, codec_behind, codec_made, codec_give, AllAlong, codec_items, codec_listed, codec_list, byte_codec, two_codec, four_codec, fours_codec, bytes_codec, alone}
@@ -77,7 +78,7 @@ RanksKeep kind.Ternary ranks = (length ranks < 2 ^ 32) × (list_all rank_fits ra
 abbrev no_ranks : List RankOf
 no_ranks = []
 
-no_ranks_codec : Codec (give no_ranks) (λ _. []) (λ ranks. ranks ≡ []) (λ _. Unit {0})
+no_ranks_codec : Codec {F = ReadFault} (give no_ranks) (λ _. []) (λ ranks. ranks ≡ []) (λ _. Unit {0})
 no_ranks_codec = codec_for (codec_give no_ranks (λ _. []) refl) (λ ranks. ranks ≡ []) (λ ranks none. none)
 
 ranks_codec : (k : Kind) → Codec (ranks_at k) (spelled_ranks k) (RanksKeep k) (λ _. Unit {0})

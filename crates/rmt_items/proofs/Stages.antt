@@ -166,10 +166,10 @@ code_zip (place ∷ places) (v ∷ code) small e =
 
 -- ---- rows
 
-five_codec : Codec (number_at 5) (bytes_of 5) (λ n. n < 2 ^ 40) (λ _. Unit {0})
+five_codec : Codec (number_at 5) (bytes_of 5) (λ n. n < 2 ^ 40) (λ n. n < 2 ^ 40)
 five_codec = codec_number 5
 
-fourteen_codec : Codec (number_at 14) (bytes_of 14) (λ n. n < 2 ^ 112) (λ _. Unit {0})
+fourteen_codec : Codec (number_at 14) (bytes_of 14) (λ n. n < 2 ^ 112) (λ n. n < 2 ^ 112)
 fourteen_codec = codec_number 14
 
 srow_back : (r : SramRow) → srow_fits r ≡ true → (ltb r.block 106 ≡ true) × ((r.row < 2 ^ 16) × (r.bits < 2 ^ 112))

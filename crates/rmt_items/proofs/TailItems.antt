@@ -17,7 +17,7 @@ use Rattle.rmt_config.specs.Spelling.{two_bytes, spelled_list16}
 use Rattle.rmt_config.specs.ImageSpelling.{spelled_tail}
 use Rattle.rmt_items.specs.Readers.{at_least, below}
 use Rattle.rmt_items.specs.ReadingTails.{may_have_tail, need_of, tail_entry_at, field_fits, field_at, lengths_fit, lengths_at, tail_of_parts, tail_at, next_entry, tails_at}
-use Rattle.rmt_items.proofs.Codec.{Codec, codec_for, codec_kept, codec_behind, codec_made, AllAlong, codec_items, codec_listed, byte_codec, two_codec}
+use Rattle.rmt_items.proofs.Codec.{Codec, codec_as, codec_for, codec_kept, codec_behind, codec_made, AllAlong, codec_items, codec_listed, byte_codec, two_codec}
 use Rattle.rmt_items.proofs.Items.{codec_byte}
 
 -- ---- a tail
@@ -65,11 +65,8 @@ TailsKeep entries headers ts = ((length ts < 2 ^ 16) × (at_least 1 (length ts) 
 pub tails_codec : (entries : List ParserEntry) (headers : ℕ) → Codec (tails_at entries headers) (spelled_list16 spelled_tail) (TailsKeep entries headers) (λ ts. at_least 1 (length ts) ≡ true)
 unfolding tails_at
 tails_codec entries headers =
-    let c = codec_listed (codec_kept (at_least 1) two_codec) (codec_items next_entry 0 (tail_codec entries headers)) in
-    record {
-      takes = λ bytes ts rest fits e. let t = c.takes bytes ts rest fits e in record { parts = t.parts; rest_fits = t.rest_fits; fact = t.fact.1 };
-      again = c.again;
-    }
+    codec_as (codec_listed (codec_kept (at_least 1) two_codec) (codec_items next_entry 0 (tail_codec entries headers))) (spelled_list16 spelled_tail)
+    (TailsKeep entries headers) (λ ts. at_least 1 (length ts) ≡ true) (λ _. refl) (λ ts keep. keep) (λ ts r. r.0.1)
 
 -- ---- tails of a configuration that keeps the rules of form
 

@@ -20,7 +20,7 @@ use Rattle.rmt_items.specs.declared.reading.memory.ExactFormat.{ExactFormat}
 use Rattle.rmt_items.specs.Readers.{list_at, at_most, at_least, below}
 use Rattle.rmt_items.specs.Reading.{no_guard, guard_of_parts, mask_is_even, guard_at, test_of_parts, test_fits, test_at, gate_of_parts, gate_at, SlotHead, marks_of_parts, marks_at, slot_of_head, slot_keys_at, slot_head_at, block_at, blocks_of_parts, blocks_at, quanta_fit, cells_fit, format_of_parts, exact_format_at, format_at, format_block_counts, exact_at, ternary_at, without, exact_of_parts, ternary_of_parts, memory_at, may_have_numbers, number_of_parts, cell_number_at, numbers_at, slot_of_parts, slot_at, unit_at}
 use Rattle.rmt_bits.proofs.TestLaws.{split2, split3, split5, split8, split11}
-use Rattle.rmt_items.proofs.Codec.{Codec, codec_for, codec_kept, codec_where, codec_behind, codec_made, codec_give, choices_none, choices_when, codec_chosen, codec_listed, byte_codec, two_codec, four_codec, fours_codec, codec_respelled, codec_list, alone}
+use Rattle.rmt_items.proofs.Codec.{Codec, codec_for, codec_kept, codec_where, codec_behind, codec_made, codec_give, choices_none, choices_when, codec_chosen, codec_listed, byte_codec, two_codec, four_codec, fours_codec, codec_as, codec_list, alone}
 use Rattle.rmt_items.proofs.Items.{codec_byte, flag_codec, lane_tests, lane_codec}
 
 -- ---- guards
@@ -124,7 +124,7 @@ slot_head_codec =
 block_list_codec : (most n : ℕ) → Codec (list_at (block_at most) n) (λ bs. bs) (λ bs. (length bs ≡ n) × (list_all (λ b. ltb b most) bs ≡ true)) (λ _. Unit {0})
 unfolding block_at
 block_list_codec most n =
-    codec_for (codec_respelled (codec_list (λ b. ltb b most) (codec_byte (below most)) n) (λ bs. bs) alone) (λ bs. (length bs ≡ n) × (list_all (λ b. ltb b most) bs ≡ true)) (λ bs q. q)
+    codec_as (codec_list (λ b. ltb b most) (codec_byte (below most)) n) (λ bs. bs) (λ bs. (length bs ≡ n) × (list_all (λ b. ltb b most) bs ≡ true)) (λ _. Unit {0}) alone (λ bs q. q) (λ _ _. tt)
 
 -- lists of blocks of these counts
 abbrev BlocksKeep : ℕ → BlockCounts → Blocks → Type 0

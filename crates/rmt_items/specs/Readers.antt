@@ -1,55 +1,28 @@
--- Ways to read items from the front of bytes: an item and the bytes behind it, or the first fault that is met.
-use Rattle.std.specs.Prelude.{◌≡◌, ℕ, zero, suc, List, [], ◌∷◌, length, take, drop, Bool, ◌==◌, nat_lt, nat_le, if◌then◌else◌, Result, Ok, Err}
-use Rattle.rmt_bits.specs.Bits.{number_of}
+-- Ways to read the items of an image from the front of bytes: an item and the bytes behind it, or the first fault that is met.
+use Rattle.std.specs.Prelude.{ℕ, [], ◌∷◌, Bool, ◌==◌, nat_lt, nat_le, if◌then◌else◌, Option, Some, None, Result, Err}
+use Rattle.rmt_bits.specs.Readers as bits
+pub use Rattle.rmt_bits.specs.Readers.{give, behind, ◌⊗◌, made, list_at, listed}
+unfoldable pub use Rattle.rmt_bits.specs.Readers.{items_at, each}
 use Rattle.rmt_items.specs.declared.fault.ReadFault.{ReadFault}
 use Rattle.rmt_items.specs.declared.fault.ReadFault.TheVariants.{Short, Form}
 use Rattle.rmt_items.specs.declared.fault.ReadError.{ReadError}
 use Rattle.rmt_items.specs.declared.fault.ReadError.TheVariants as errors
 
-infixl 10 ◌>>=◌
-abbrev pub ◌>>=◌ : {A B : Type 0} → Result A ReadFault → (A → Result B ReadFault) → Result B ReadFault
-(Ok x) >>= f = f x
-(Err e) >>= f = Err e
+-- the fault of the bytes, unless memory ran out
+abbrev pub fault_of : ReadError → Option ReadFault
+fault_of errors.Memory = None
+fault_of (errors.Fault f) = Some f
 
 -- what a function returned, seen by view, is what reading gives, unless memory ran out
-abbrev pub Fails : {Y : Type 0} → ReadError → Result Y ReadFault → Type 0
-Fails errors.Memory read = Unit {0}
-Fails (errors.Fault f) read = read ≡ Err f
-
 abbrev pub Gives : {X Y : Type 0} → (X → Y) → Result X ReadError → Result Y ReadFault → Type 0
-Gives view (Ok x) read = read ≡ Ok (view x)
-Gives view (Err e) read = Fails e read
-
--- ---- items
+Gives view result read = bits.Gives fault_of view result read
 
 abbrev pub Reader : Type 0 → Type 0
-Reader A = List ℕ → Result (A × List ℕ) ReadFault
-
--- an item that takes no byte
-abbrev pub give : {A : Type 0} → A → Reader A
-give x bytes = Ok (x, bytes)
-
--- one item, and another that may depend on it behind it
-abbrev pub behind : {A B : Type 0} → Reader A → (A → Reader B) → Reader (A × B)
-behind first second bytes = do
-  x ← first bytes
-  y ← second x.0 x.1
-  Ok ((x.0, y.0), y.1)
-
-infixr 35 ◌⊗◌
-abbrev pub ◌⊗◌ : {A B : Type 0} → Reader A → Reader B → Reader (A × B)
-first ⊗ second = behind first (λ _. second)
-
-abbrev pub made : {A B : Type 0} → (A → B) → Reader A → Reader B
-made f read bytes = do
-  x ← read bytes
-  Ok (f x.0, x.1)
+Reader A = bits.Reader ReadFault A
 
 -- an item that passes a test; else the form is broken
 abbrev pub kept : {A : Type 0} → (A → Bool) → Reader A → Reader A
-kept test read bytes = do
-  x ← read bytes
-  if test x.0 then Ok x else Err Form
+kept test read = bits.kept Form test read
 
 -- an item where a test of what stands before it is passed; else the form is broken
 abbrev pub where_ : {A : Type 0} → Bool → Reader A → Reader A
@@ -70,34 +43,6 @@ abbrev pub chosen : {A : Type 0} → (ℕ → Reader A) → Reader A
 chosen choices [] = Err Short
 chosen choices (choice ∷ rest) = choices choice rest
 
--- ---- lists
-
--- n items, each read under the least number that the one before it leaves
-unfoldable pub items_at : {A : Type 0} → (ℕ → Reader A) → (A → ℕ) → ℕ → ℕ → Reader (List A)
-items_at read after least zero bytes = Ok ([], bytes)
-items_at read after least (suc n) bytes = do
-  x ← read least bytes
-  xs ← items_at read after (after x.0) n x.1
-  Ok (x.0 ∷ xs.0, xs.1)
-
--- n items, of which none depends on another
-abbrev pub list_at : {A : Type 0} → Reader A → ℕ → Reader (List A)
-list_at read n = items_at (λ _. read) (λ _. 0) 0 n
-
--- a count, and a list of that many items
-abbrev pub listed : {A : Type 0} → Reader ℕ → (ℕ → Reader (List A)) → Reader (List A)
-listed count items bytes = do
-  n ← count bytes
-  items n.0 n.1
-
--- an item for each of a list
-unfoldable pub each : {P A : Type 0} → (P → Reader A) → List P → Reader (List A)
-each read [] bytes = Ok ([], bytes)
-each read (place ∷ places) bytes = do
-  x ← read place bytes
-  xs ← each read places x.1
-  Ok (x.0 ∷ xs.0, xs.1)
-
 -- ---- numbers
 
 abbrev pub at_most : ℕ → ℕ → Bool
@@ -110,12 +55,11 @@ abbrev pub below : ℕ → ℕ → Bool
 below bound n = nat_lt n bound
 
 unfoldable pub byte_at : Reader ℕ
-byte_at [] = Err Short
-byte_at (byte ∷ rest) = Ok (byte, rest)
+byte_at bytes = bits.byte_at Short bytes
 
 -- a number of n bytes, the highest first
 unfoldable pub number_at : ℕ → Reader ℕ
-number_at n bytes = if nat_lt (length bytes) n then Err Short else Ok (number_of (take n bytes), drop n bytes)
+number_at n bytes = bits.number_at Short n bytes
 
 -- two numbers of four bytes
 unfoldable pub fours_at : Reader (ℕ × ℕ)

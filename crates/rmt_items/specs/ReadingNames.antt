@@ -1,5 +1,5 @@
 -- Reading the names of an image from their front: their grammar alone, as the rules on names are rules of the whole.
-use Rattle.std.specs.Prelude.{ℕ, ◌==◌, nat_lt, if◌then◌else◌, List, [], length, take, drop, Ok, Err}
+use Rattle.std.specs.Prelude.{ℕ, ◌==◌, if◌then◌else◌, List, []}
 use Rattle.rmt_ast.specs.declared.program.Kind.{Kind}
 use Rattle.rmt_ast.specs.declared.program.Kind.TheVariants as kind
 use Rattle.rmt_ast.specs.declared.names.Names.{Names}
@@ -7,11 +7,12 @@ use Rattle.rmt_ast.specs.declared.names.TableName.{TableName}
 use Rattle.rmt_ast.specs.declared.names.ActionName.{ActionName}
 use Rattle.rmt_ast.specs.declared.names.RankOf.{RankOf}
 use Rattle.rmt_items.specs.declared.fault.ReadFault.TheVariants.{Short}
+use Rattle.rmt_bits.specs.Readers as bits
 use Rattle.rmt_items.specs.Readers.{Reader, give, behind, ◌⊗◌, made, kept, list_at, listed, at_most, byte_at, number_at, fours_at}
 
 -- that many bytes, as they stand
 unfoldable pub bytes_at : ℕ → Reader (List ℕ)
-bytes_at n bytes = if nat_lt (length bytes) n then Err Short else Ok (take n bytes, drop n bytes)
+bytes_at n bytes = bits.bytes_at Short n bytes
 
 -- a name behind its length
 unfoldable pub name_at : Reader (List ℕ)

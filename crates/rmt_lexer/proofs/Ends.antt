@@ -3,7 +3,8 @@ use Rattle.std.proofs.Common.{◌≡◌, ◌≤◌, refl, arith, ℕ, zero, suc,
 use Rattle.std.specs.Prelude.{◌==◌, nat_lt, slice_index, length, drop, if◌then◌else◌}
 use Rattle.std.specs.List.{take_while}
 use Rattle.rmt_bits.specs.Digits.{is_digit, is_hex, is_hex_number}
-use Rattle.rmt_lexer.specs.Text.{EndsOnce, item_of, hex_item, number_item, is_space, is_comment, is_letter, is_equal, is_sign, read_item, reading, behind, token_at, with_front}
+use Rattle.rmt_ast.specs.NameForm.{is_letter}
+use Rattle.rmt_lexer.specs.Text.{EndsOnce, item_of, hex_item, number_item, is_space, is_comment, is_equal, is_sign, read_item, reading, behind, token_at, with_front}
 use Rattle.rmt_lexer.specs.declared.token.Token.{Token}
 use Rattle.rmt_lexer.specs.declared.token.TokenKind.TheVariants.{End}
 use Rattle.rmt_lexer.specs.declared.item.Item.{Item}

@@ -6,7 +6,8 @@ use Rattle.std.proofs.lemmas.Bool.{and_parts, eqb-true, or_left}
 use Rattle.std.proofs.lemmas.List.Sums.{prefix_len-le-length}
 use Rattle.std.proofs.lemmas.List.Folds.{length-prefix_len}
 use Rattle.rmt_bits.specs.Digits.{is_digit, is_hex, is_hex_number}
-use Rattle.rmt_lexer.specs.Text.{item_of, number_item, hex_item, is_space, is_letter, is_name_byte, is_sign, is_comment, is_equal}
+use Rattle.rmt_ast.specs.NameForm.{is_letter, is_name_byte}
+use Rattle.rmt_lexer.specs.Text.{item_of, number_item, hex_item, is_space, is_sign, is_comment, is_equal}
 use Rattle.rmt_lexer.specs.declared.item.Item.{Item}
 use Rattle.rmt_lexer.specs.declared.item.Item.TheVariants as item
 

@@ -1,7 +1,8 @@
 -- The tokens of a program's text.
-use Rattle.std.specs.Prelude.{◌≡◌, ℕ, zero, suc, ◌+◌, ◌-◌, ◌^◌, List, [], ◌∷◌, Bool, ◌==◌, ◌&&◌, ◌||◌, nat_le, nat_lt, if◌then◌else◌, not, length, drop, slice_index, Result, Ok, Err}
+use Rattle.std.specs.Prelude.{◌≡◌, ℕ, zero, suc, ◌+◌, ◌-◌, ◌^◌, List, [], ◌∷◌, Bool, ◌==◌, ◌&&◌, ◌||◌, nat_lt, if◌then◌else◌, not, length, drop, slice_index, Result, Ok, Err}
 use Rattle.std.specs.List.{take_while, list_any}
 use Rattle.rmt_bits.specs.Digits.{is_digit, is_hex, is_hex_number, number_of_digits}
+use Rattle.rmt_ast.specs.NameForm.{is_letter, is_name_byte}
 use Rattle.rmt_lexer.specs.declared.token.Token.{Token}
 use Rattle.rmt_lexer.specs.declared.token.TokenKind.{TokenKind}
 use Rattle.rmt_lexer.specs.declared.token.TokenKind.TheVariants.{Word, Number, Sign, Equal, End}
@@ -14,14 +15,6 @@ use Rattle.rmt_lexer.specs.declared.fault.ProgramFault.TheVariants.{NoMemory, At
 -- white space: space, tab, line feed, carriage return
 abbrev pub is_space : ℕ → Bool
 is_space b = (b == 32) || (b == 9) || (b == 10) || (b == 13)
-
--- a letter or _
-abbrev pub is_letter : ℕ → Bool
-is_letter b = (nat_le 97 b && nat_le b 122) || (nat_le 65 b && nat_le b 90) || (b == 95)
-
--- what a name may go on with
-abbrev pub is_name_byte : ℕ → Bool
-is_name_byte b = is_letter b || is_digit b
 
 -- { } ( ) : ; , . = + - * & | ^
 abbrev pub is_sign : ℕ → Bool

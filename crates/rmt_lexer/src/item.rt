@@ -2,8 +2,9 @@
 
 ghost use Rattle.std.specs.Prelude.{◌≡◌, ◌-◌, ◌<◌, ◌≤◌, ◌^◌, length, drop, not, ◌==◌, ◌||◌, ℕ, IfOk, SomeIff};
 ghost use Rattle.std.specs.List.{take_while};
+ghost use Rattle.rmt_ast.specs.NameForm.{is_letter, is_name_byte};
 ghost use Rattle.rmt_bits.specs.Digits.{is_digit, is_hex, number_of_digits};
-ghost use Rattle.rmt_lexer.specs.Text.{is_space, is_letter, is_name_byte, is_sign, number_item, hex_item, item_of};
+ghost use Rattle.rmt_lexer.specs.Text.{is_space, is_sign, number_item, hex_item, item_of};
 ghost use Rattle.rmt_lexer.specs.declared.item.Item.TheVariants as item;
 ghost use Rattle.rmt_lexer.specs.declared.token.TokenKind.TheVariants.{Word};
 

@@ -5,10 +5,11 @@ use Rattle.std.specs.List.{flat_map}
 use Rattle.std.proofs.lemmas.Bool.{cases_Bool, eq-eqb, eqb-true, false≢true}
 use Rattle.std.proofs.lemmas.List.{append-nil, map-append}
 use Rattle.std.proofs.lemmas.List.Elements.{All-append, All-cons, All-filter, All-head, All-map, All-nil, All-tail, All-weaker}
+use Rattle.rmt_bits.specs.Members.{is_among}
 use Rattle.rmt_ast.specs.declared.entry.Entry.{Entry}
 use Rattle.rmt_ast.specs.Answers.{entry_numbers}
 use Rattle.rmt_ast.specs.Changes.{list_of}
-use Rattle.rmt_lists.specs.Running.{AreChanges, is_among}
+use Rattle.rmt_lists.specs.Running.{AreChanges}
 use Rattle.rmt_lists.specs.Stands.{AreLeft, AreSlots, IsLast, numbers_in, somes}
 use Rattle.rmt_lists.proofs.FilterLaws.{Rise, among_append, among_filter, filter_swap, not_among, not_number, numbers_of, other_table}
 use Rattle.rmt_lists.proofs.LeftLaws.{left_rises, slots_from, slots_rise}

@@ -11,11 +11,11 @@ use Rattle.std.proofs.lemmas.List.Elements.{All-cons, All-filter, All-head, All-
 use Rattle.rmt_bits.proofs.AlikeLaws.{filter_alike, filter_all}
 use Rattle.rmt_bits.proofs.AllLaws.{All-left, All-right, All-unmap}
 use Rattle.rmt_bits.proofs.PairLaws.{AllPairs-head, AllPairs-tail}
+use Rattle.rmt_bits.specs.Members.{is_among}
 use Rattle.rmt_ast.specs.declared.entry.Entry.{Entry}
 use Rattle.rmt_ast.specs.Answers.{entry_numbers}
 use Rattle.rmt_ast.specs.Changes.{EntryKey, is_keyed_by, list_of, without}
 use Rattle.rmt_lists.specs.Holding.{keyed_numbers}
-use Rattle.rmt_lists.specs.Running.{is_among}
 
 -- ---- lists at nodes
 

@@ -9,10 +9,9 @@ use Rattle.std.proofs.lemmas.List.Elements.{filter-append}
 use Rattle.std.proofs.lemmas.Slice.Eq.{bytes_eq-Decides}
 use Rattle.rmt_ast.specs.declared.program.Test.{Test}
 use Rattle.rmt_ast.specs.declared.entry.Entry.{Entry}
-use Rattle.rmt_ast.specs.Changes.{EntryKey, are_same, is_keyed_by, without}
+use Rattle.rmt_ast.specs.Changes.{EntryKey, are_same, is_keyed_by, without, key_of_entry, is_held}
 use Rattle.rmt_lists.specs.Holding.{Knows, keyed_numbers, spelled, spelled_tests}
 use Rattle.rmt_lists.specs.KeyNumbers.{KeyNumbers, numbers_at}
-use Rattle.rmt_lists.specs.Running.{holds, key_of_entry}
 
 head_same : (a b : ℕ) (xs ys : List ℕ) → (a ∷ xs) ≡ (b ∷ ys) → a ≡ b
 head_same a b xs ys e = ap first e
@@ -102,19 +101,19 @@ knows_push old new es e key number h own n put q k qe =
     put q ∙ rw (h q k qe, alike k k e key.items q.items own qe, ← n) (sym (keyed_push k es e))
 
 -- an entry's key is held where the numbers at it begin with one
-pub first_keyed : (key : EntryKey) (es : List Entry) → slice_get (keyed_numbers key es) 0 ≡ None → holds key es ≡ false
+pub first_keyed : (key : EntryKey) (es : List Entry) → slice_get (keyed_numbers key es) 0 ≡ None → is_held key es ≡ false
 first_keyed key [] e = refl
 first_keyed key (x ∷ xs) e = by (is_keyed_by key x) refl (first_keyed key xs) e
   where
-    by : (b : Bool) → is_keyed_by key x ≡ b → (slice_get (keyed_numbers key xs) 0 ≡ None → holds key xs ≡ false) → slice_get (map (λ (y : Entry). y.number) (cond b (x ∷ filter (is_keyed_by key) xs) (filter (is_keyed_by key) xs))) 0 ≡ None → holds key (x ∷ xs) ≡ false
+    by : (b : Bool) → is_keyed_by key x ≡ b → (slice_get (keyed_numbers key xs) 0 ≡ None → is_held key xs ≡ false) → slice_get (map (λ (y : Entry). y.number) (cond b (x ∷ filter (is_keyed_by key) xs) (filter (is_keyed_by key) xs))) 0 ≡ None → is_held key (x ∷ xs) ≡ false
     by true s rest f = cc
     by false s rest f = rw s (rest f)
 
-pub some_keyed : (key : EntryKey) (es : List Entry) (n : ℕ) → slice_get (keyed_numbers key es) 0 ≡ Some n → holds key es ≡ true
+pub some_keyed : (key : EntryKey) (es : List Entry) (n : ℕ) → slice_get (keyed_numbers key es) 0 ≡ Some n → is_held key es ≡ true
 some_keyed key [] n e = cc
 some_keyed key (x ∷ xs) n e = by (is_keyed_by key x) refl (some_keyed key xs n) e
   where
-    by : (b : Bool) → is_keyed_by key x ≡ b → (slice_get (keyed_numbers key xs) 0 ≡ Some n → holds key xs ≡ true) → slice_get (map (λ (y : Entry). y.number) (cond b (x ∷ filter (is_keyed_by key) xs) (filter (is_keyed_by key) xs))) 0 ≡ Some n → holds key (x ∷ xs) ≡ true
+    by : (b : Bool) → is_keyed_by key x ≡ b → (slice_get (keyed_numbers key xs) 0 ≡ Some n → is_held key xs ≡ true) → slice_get (map (λ (y : Entry). y.number) (cond b (x ∷ filter (is_keyed_by key) xs) (filter (is_keyed_by key) xs))) 0 ≡ Some n → is_held key (x ∷ xs) ≡ true
     by true s rest f = rw s refl
     by false s rest f = rw s (rest f)
 
@@ -152,14 +151,14 @@ knows_pop old new es key k h own taken q other qe = taken q ∙ by (bytes_eq k.i
         h q other qe ∙ sym (keyed_others key other es apart)
 
 -- one entry less, where the key is held
-pub length-without : (key : EntryKey) (es : List Entry) → holds key es ≡ true → length (without key es) + 1 ≡ length es
+pub length-without : (key : EntryKey) (es : List Entry) → is_held key es ≡ true → length (without key es) + 1 ≡ length es
 length-without key [] h = cc
 length-without key (x ∷ xs) h = by (is_keyed_by key x) refl (length-without key xs) h
   where
-    by : (b : Bool) → is_keyed_by key x ≡ b → (holds key xs ≡ true → length (without key xs) + 1 ≡ length xs) → (b || holds key xs) ≡ true → length (cond b xs (x ∷ without key xs)) + 1 ≡ length (x ∷ xs)
+    by : (b : Bool) → is_keyed_by key x ≡ b → (is_held key xs ≡ true → length (without key xs) + 1 ≡ length xs) → (b || is_held key xs) ≡ true → length (cond b xs (x ∷ without key xs)) + 1 ≡ length (x ∷ xs)
     by true s rest t = omega arith
     by false s rest t = let one = rest t in omega (arith, one)
 
-pub keyed_some : (key : EntryKey) (es : List Entry) (o : Option ℕ) → o ≡ slice_get (keyed_numbers key es) 0 → is_some o ≡ holds key es
+pub keyed_some : (key : EntryKey) (es : List Entry) (o : Option ℕ) → o ≡ slice_get (keyed_numbers key es) 0 → is_some o ≡ is_held key es
 keyed_some key es None e = sym (first_keyed key es (sym e))
 keyed_some key es (Some n) e = sym (some_keyed key es n (sym e))

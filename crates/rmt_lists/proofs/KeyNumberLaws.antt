@@ -1,13 +1,13 @@
 -- What a change at one key does to numbers by keys.
-use Rattle.std.proofs.Common.{◌≡◌, ◌≢◌, ◌<◌, ◌≤◌, ℕ, ◌+◌, ◌-◌, ◌==◌, Bool, true, false, not, cond, List, [], ◌∷◌, ◌++◌, Option, Some, None, Vec, length, slice_get, slice_set, get_or, drop, refl, sym, ap, ◌∙◌, inl, inr, arith}
+use Rattle.std.proofs.Common.{◌≡◌, ◌≢◌, ◌<◌, ◌≤◌, ℕ, ◌+◌, ◌-◌, ◌==◌, Bool, true, false, not, cond, List, [], ◌∷◌, ◌++◌, Option, Some, None, Vec, length, slice_set, get_or, drop, refl, sym, ap, ◌∙◌, inl, inr, arith}
 use Rattle.std.specs.Global.{Global}
 use Rattle.std.specs.Str.{bytes_eq}
 use Rattle.std.proofs.lemmas.Bool.{and_parts, cases_Bool, cases_eq, false≢true}
 use Rattle.std.proofs.lemmas.Bool.Decides.{nat_tests}
-use Rattle.std.proofs.lemmas.List.{append-nil, append_assoc, get_or_append_left, get_or-set_same, get_or-set_other, get_or_default, length-append, length-set}
+use Rattle.std.proofs.lemmas.List.{append-nil, get_or_append_left, get_or-set_same, get_or-set_other, get_or_default, length-append, length-set}
 use Rattle.std.proofs.lemmas.Slice.Eq.{bytes_eq-Decides}
 use Rattle.std.proofs.Math.Seq.{get_or-append_seam}
-use Rattle.rmt_bits.proofs.FunctionLaws.{bytes_eq-sym}
+use Rattle.rmt_bits.proofs.FunctionLaws.{bytes_eq-sym, bytes_eq-true}
 use Rattle.rmt_entries.specs.KeySets.{is_at, list_at, place_of}
 use Rattle.rmt_entries.proofs.KeySetLaws.{is_at_kept, list_at_end}
 use Rattle.rmt_lists.specs.KeyNumbers.{Stand, all_at, first_at, listed, paired, placed, slot_of}
@@ -18,9 +18,6 @@ with_number key number q = cond (bytes_eq key q) (number ∷ []) []
 
 abbrev pub without_first : List ℕ → List ℕ → List ℕ → List ℕ
 without_first key q numbers = cond (bytes_eq key q) (drop 1 numbers) numbers
-
-alike : (key q : List ℕ) → bytes_eq key q ≡ true → key ≡ q
-alike key q = (bytes_eq-Decides key q).0
 
 -- a key's place that was looked up, and its slot
 pub record Looked (slots key : List ℕ) (place slot : ℕ) : Type 0 where
@@ -42,7 +39,7 @@ looked slots key numbers count place slot all same own within at =
 one_key : (keys : List ℕ) (slot : ℕ) (a b : List ℕ) → is_at keys slot a ≡ true → is_at keys slot b ≡ true → a ≡ b
 one_key keys slot a b s t =
     let l = list_at keys (slot - 1) in
-    alike a l ((and_parts (not (slot == 0)) (bytes_eq a l) s).1) ∙ sym (alike b l ((and_parts (not (slot == 0)) (bytes_eq b l) t).1))
+    bytes_eq-true a l ((and_parts (not (slot == 0)) (bytes_eq a l) s).1) ∙ sym (bytes_eq-true b l ((and_parts (not (slot == 0)) (bytes_eq b l) t).1))
 
 -- a key that was found at its place is there
 pub there_seen : (slots keys key ks : List ℕ) (slot : ℕ) → ks ≡ keys → slot ≡ slot_of slots key → is_at ks slot key ≡ true → is_at keys (slot_of slots key) key ≡ true
@@ -120,7 +117,7 @@ module _ (slots : List ℕ) (firsts : List (Option ℕ)) (keys : List ℕ) (crow
       where
         by : place_of (length slots) q.items ≢ own → bytes_eq key q.items ≡ false
         by other = elim (cases_Bool (bytes_eq key q.items)) [
-          | inl t ↦ absurd (other (ap (place_of (length slots)) (sym (alike key q.items t))))
+          | inl t ↦ absurd (other (ap (place_of (length slots)) (sym (bytes_eq-true key q.items t))))
           | inr f ↦ f
         ]
 
@@ -172,16 +169,13 @@ module _ (slots : List ℕ) (firsts : List (Option ℕ)) (keys : List ℕ) (crow
 
   -- ---- a number behind the others in the ordered map
   module _ (key : List ℕ) (number : ℕ) (next : List (List ℕ × List ℕ)) (put : (q : Vec ℕ Global) → paired next q.items ≡ paired crowded q.items ++ with_number key number q.items) where
-    pub crowd_all : (q : Vec ℕ Global) → all_at slots firsts keys next q.items ≡ all_at slots firsts keys crowded q.items ++ with_number key number q.items
-    crowd_all q = ap (λ (ns : List ℕ). placed slots firsts keys q.items ++ ns) (put q) ∙ sym (append_assoc (placed slots firsts keys q.items) (paired crowded q.items) (with_number key number q.items))
-
     pub crowd_stands : slot_of slots key ≢ 0 → Stand slots firsts keys next
     crowd_stands some = record {
       some = s.some;
       count = s.count;
       whole = s.whole;
       taken = λ q free. elim (cases_Bool (bytes_eq key q.items)) [
-        | inl t ↦ absurd (some (ap (slot_of slots) (alike key q.items t) ∙ free))
+        | inl t ↦ absurd (some (ap (slot_of slots) (bytes_eq-true key q.items t) ∙ free))
         | inr f ↦ put q ∙ rw (s.taken q free, f) refl
       ];
     }
@@ -219,7 +213,7 @@ module _ (slots : List ℕ) (firsts : List (Option ℕ)) (keys : List ℕ) (crow
     placed_next : (q : List ℕ) → bytes_eq key q ≡ true → placed slots replaced keys q ≡ listed next
     placed_next q same =
         let inside : key_place < length firsts = rw s.count within in
-        ap (placed slots replaced keys) (sym (alike key q same)) ∙ ap (λ (b : Bool). cond b (listed (first_at replaced key_place)) []) there ∙ ap listed (get_or-set_same firsts key_place next None inside)
+        ap (placed slots replaced keys) (sym (bytes_eq-true key q same)) ∙ ap (λ (b : Bool). cond b (listed (first_at replaced key_place)) []) there ∙ ap listed (get_or-set_same firsts key_place next None inside)
 
   -- the number at a key's place goes
   pub pop_seen : (key : List ℕ) (number place : ℕ) → listed (Some number) ≡ placed slots firsts keys key → place ≡ place_of (length slots) key → place < length slots
@@ -229,7 +223,7 @@ module _ (slots : List ℕ) (firsts : List (Option ℕ)) (keys : List ℕ) (crow
       rw at (elim (cases_Bool (bytes_eq key q.items)) [
         | inl t ↦
             let now : placed slots (slice_set firsts (place_of (length slots) key) None) keys q.items ≡ [] = placed_next key None is_there within q.items t in
-            let was : placed slots firsts keys q.items ≡ number ∷ [] = ap (placed slots firsts keys) (sym (alike key q.items t)) ∙ sym own_number in
+            let was : placed slots firsts keys q.items ≡ number ∷ [] = ap (placed slots firsts keys) (sym (bytes_eq-true key q.items t)) ∙ sym own_number in
             rw (t, now, was) refl
         | inr f ↦ rw f (ap (λ (ns : List ℕ). ns ++ paired crowded q.items) (placed_others key None is_there within q.items f))
       ])
@@ -248,7 +242,7 @@ module _ (slots : List ℕ) (firsts : List (Option ℕ)) (keys : List ℕ) (crow
       let within : place_of (length slots) key < length slots = rw (← at) inside in
       rw at (elim (cases_Bool (bytes_eq key q.items)) [
         | inl t ↦
-            let same : q.items ≡ key = sym (alike key q.items t) in
+            let same : q.items ≡ key = sym (bytes_eq-true key q.items t) in
             let now : placed slots (slice_set firsts (place_of (length slots) key) (Some number)) keys q.items ≡ number ∷ [] = placed_next key (Some number) there within q.items t in
             let was : placed slots firsts keys q.items ≡ [] =
             ap (placed slots firsts keys) same ∙ ap (λ (b : Bool). cond b (listed (first_at firsts (place_of (length slots) key))) []) there ∙ ap (λ (p : ℕ). listed (first_at firsts p)) (sym at) ∙ ap listed empty in
@@ -258,15 +252,7 @@ module _ (slots : List ℕ) (firsts : List (Option ℕ)) (keys : List ℕ) (crow
       ])
 
   -- ---- the first number in the ordered map goes
-  module _ (key : List ℕ) (next : List (List ℕ × List ℕ)) (none : listed None ≡ placed slots firsts keys key) (pop : (q : Vec ℕ Global) → paired next q.items ≡ without_first key q.items (paired crowded q.items)) where
-    pub pop_crowded_all : (q : Vec ℕ Global) → all_at slots firsts keys next q.items ≡ without_first key q.items (all_at slots firsts keys crowded q.items)
-    pop_crowded_all q = ap (λ (ns : List ℕ). placed slots firsts keys q.items ++ ns) (pop q) ∙ elim (cases_Bool (bytes_eq key q.items)) [
-      | inl t ↦
-          let was : placed slots firsts keys q.items ≡ [] = ap (placed slots firsts keys) (sym (alike key q.items t)) ∙ sym none in
-          rw (t, was) refl
-      | inr f ↦ rw f refl
-    ]
-
+  module _ (key : List ℕ) (next : List (List ℕ × List ℕ)) (pop : (q : Vec ℕ Global) → paired next q.items ≡ without_first key q.items (paired crowded q.items)) where
     pub pop_crowded_stands : Stand slots firsts keys next
     pop_crowded_stands = record { some = s.some; count = s.count; whole = s.whole; taken = λ q free. pop q ∙ dropped (bytes_eq key q.items) (paired crowded q.items) (s.taken q free) }
       where

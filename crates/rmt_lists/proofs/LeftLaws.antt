@@ -10,11 +10,11 @@ use Rattle.std.proofs.lemmas.List.Elements.{All-cons, All-filter, All-nil, All-w
 use Rattle.std.proofs.lemmas.List.Kept.{AllPairs-cons, AllPairs-filter}
 use Rattle.rmt_bits.proofs.AlikeLaws.{filter_alike}
 use Rattle.rmt_bits.proofs.PairLaws.{AllPairs-append, AllPairs-none}
+use Rattle.rmt_bits.specs.Members.{is_among}
 use Rattle.rmt_ast.specs.declared.entry.Entry.{Entry}
 use Rattle.rmt_ast.specs.Answers.{entry_numbers}
 use Rattle.rmt_ast.specs.Changes.{EntryKey, added, list_of, removed, without}
 use Rattle.rmt_lists.specs.Holding.{keyed_numbers}
-use Rattle.rmt_lists.specs.Running.{is_among}
 use Rattle.rmt_lists.specs.Stands.{AreLeft, AreSlots, left_at, numbers_in, somes}
 use Rattle.rmt_lists.proofs.FilterLaws.{All-insert, Rise, above_stay, among_append, among_insert, among_lists, filter_swap, filter_twice, first_among, list_of-other, list_of-set, all_apart, among_filter, eqb_turned, not_among, not_among_above, not_number, numbers_of, other_number, other_table, others_stay, without_number}
 
@@ -110,9 +110,6 @@ module _ (last : List (List Entry)) (gone : List ℕ) (come : List (Option Entry
 
   kept_at : ℕ → List Entry
   kept_at m = filter (λ (e : Entry). not (is_among gone e.number)) (list_of last m)
-
-  come_at : ℕ → List Entry
-  come_at m = filter (λ (e : Entry). m == e.table) (somes come)
 
   kept_below : (m : ℕ) → All (λ (e : Entry). e.number < first) (filter (λ (e : Entry). not (is_among gone e.number)) (list_of last m))
   kept_below m = All-filter (λ (e : Entry). not (is_among gone e.number)) (λ (e : Entry). e.number < first) (list_of last m) (numbers_of (λ n. n < first) last m h.committed.old)

@@ -17,7 +17,6 @@ use Rattle.rmt_ast.specs.Changes.{list_of, next_number}
 use Rattle.rmt_ast.specs.EntryLists.{AreEntriesAt, Terms}
 use Rattle.rmt_ast.specs.NameRules.{AreEntriesOf, names_are_formed, nodes_rise, table_is_formed, table_names_differ, terms_named, terms_of_name}
 use Rattle.rmt_ast.specs.WellFormed.{AreDistinct}
-use Rattle.rmt_lists.specs.Running.{is_among}
 use Rattle.rmt_lists.specs.declared.held.Held.{Held}
 use Rattle.rmt_lists.specs.Holding.{Holds}
 use Rattle.rmt_lists.specs.Stands.{AreHeld, AreLeft, AreSlots, numbers_in, somes}
@@ -25,6 +24,7 @@ use Rattle.rmt_lists.proofs.CommitLaws.{among_numbers}
 use Rattle.rmt_lists.proofs.FilterLaws.{Rise, among_lists}
 use Rattle.rmt_lists.proofs.SettleLaws.{none_gone}
 use Rattle.rmt_bits.proofs.MostLaws.{fold_max}
+use Rattle.rmt_bits.specs.Members.{is_among}
 
 -- what the rules say of a table's size and widths
 pub size-few : (t : TableName) → table_is_formed t ≡ true → t.size ≤ 1048576

@@ -11,12 +11,12 @@ use Rattle.rmt_bits.proofs.AlikeLaws.{filter_alike, filter_all, filter_none}
 use Rattle.rmt_ast.specs.declared.entry.Entry.{Entry}
 use Rattle.rmt_ast.specs.Answers.{entry_numbers}
 use Rattle.rmt_ast.specs.Changes.{list_of}
-use Rattle.rmt_lists.specs.Running.{is_among}
 use Rattle.rmt_lists.specs.Settled.{Extends, ExtendsInPart, keeps}
 use Rattle.rmt_lists.specs.Stands.{AreSlots, left_at, somes}
 use Rattle.rmt_lists.proofs.FilterLaws.{list_of-other, list_of-set, numbers_of}
 use Rattle.rmt_lists.proofs.LeftLaws.{slots_from}
 use Rattle.rmt_bits.proofs.ListLaws.{filter-short}
+use Rattle.rmt_bits.specs.Members.{is_among}
 
 pub lists_same : (xs ys : List (List Entry)) → length xs ≡ length ys → ((m : ℕ) → list_of xs m ≡ list_of ys m) → xs ≡ ys
 lists_same [] [] e h = refl
@@ -28,9 +28,6 @@ pub list_at : (lists : List (List Entry)) (m : ℕ) (es : List Entry) → m < le
 list_at lists m es lt at = at ∙ sym (ap (λ (o : Option (List Entry)). unwrap_or o []) (slice_get-get_or lists m es lt))
 
 -- ---- entries that are put to the ends
-
-pub extends_none : (old : List (List Entry)) → Extends old [] old
-extends_none old = record { count = refl; at = λ m. sym (append-nil (list_of old m)) }
 
 pub extends_push : (old lists : List (List Entry)) (part : List Entry) (e : Entry) (new : List Entry) → Extends old part lists → e.table < length lists → new ≡ list_of lists e.table ++ e ∷ []
     → Extends old (part ++ e ∷ []) (slice_set lists e.table new)
@@ -48,17 +45,6 @@ extends_push old lists part e new h lt is = record {
         | inr f ↦
             let apart : m ≢ e.table = λ same. false≢true (sym f ∙ eq-eqb m e.table same) in
             list_of-other lists e.table m new apart ∙ sym (append-nil (list_of lists m)) ∙ ap (λ b. list_of lists m ++ cond b (e ∷ []) []) (sym f) ∙ joined
-      ];
-}
-
--- a list is put where it was
-pub extends_same : (old lists : List (List Entry)) (part : List Entry) (m : ℕ) (es : List Entry) → Extends old part lists → m < length lists → es ≡ list_of lists m → Extends old part (slice_set lists m es)
-extends_same old lists part m es h lt is = record {
-  count = length-set lists m es ∙ h.count;
-  at = λ n.
-      elim (cases_Bool (n == m)) [
-        | inl t ↦ let same : n ≡ m = eqb-true n m t in rw same (list_of-set lists m es lt ∙ is ∙ h.at m)
-        | inr f ↦ list_of-other lists m n es (λ same. false≢true (sym f ∙ eq-eqb n m same)) ∙ h.at n
       ];
 }
 

@@ -12,13 +12,13 @@ use Rattle.rmt_ast.specs.declared.names.Names.{Names}
 use Rattle.rmt_ast.specs.declared.names.TableName.{TableName}
 use Rattle.rmt_ast.specs.EntryLists.{IsEntry, Terms}
 use Rattle.rmt_ast.specs.NameRules.{terms_of_name}
-use Rattle.rmt_ast.specs.Changes.{EntryKey, list_of}
+use Rattle.rmt_ast.specs.Changes.{EntryKey, list_of, key_of_entry, is_held}
 use Rattle.rmt_entries.specs.declared.named.EntryName.{EntryName}
 use Rattle.rmt_entries.specs.Entries.{has_keys_once}
 use Rattle.rmt_entries.specs.NamedLines.{IsNamedEntry}
 use Rattle.rmt_lists.specs.declared.held.Held.{Held}
 use Rattle.rmt_lists.specs.Holding.{Holds, keyed_numbers}
-use Rattle.rmt_lists.specs.Running.{Running, added_to, holds, key_of_entry, key_of_name, kind_and_size, refusal_of, removed_from, with_entry, with_one, without_key, without_one}
+use Rattle.rmt_lists.specs.Running.{Running, added_to, key_of_name, kind_and_size, refusal_of, removed_from, with_entry, with_one, without_one}
 use Rattle.rmt_lists.specs.declared.lists.Lists.{Lists}
 use Rattle.rmt_lists.specs.Stands.{AreHeld, Stands, StandsFor}
 use Rattle.rmt_lists.proofs.FilterLaws.{list_of-past}
@@ -53,17 +53,17 @@ held_at tables lists node h all lt at = all.each node h (slice_get-get_or tables
 
 -- ---- refusals
 
-pub refused_6 : (kind : Kind) (size most taken : ℕ) (k : EntryKey) (es : List Entry) → (has_keys_once kind && holds k es) ≡ true → Some 6 ≡ refusal_of kind size most taken k es
+pub refused_6 : (kind : Kind) (size most taken : ℕ) (k : EntryKey) (es : List Entry) → (has_keys_once kind && is_held k es) ≡ true → Some 6 ≡ refusal_of kind size most taken k es
 refused_6 kind size most taken k es h = rw h refl
 
-pub refused_7 : (kind : Kind) (size most taken : ℕ) (k : EntryKey) (es : List Entry) → (has_keys_once kind && holds k es) ≡ false → size ≤ length es → Some 7 ≡ refusal_of kind size most taken k es
+pub refused_7 : (kind : Kind) (size most taken : ℕ) (k : EntryKey) (es : List Entry) → (has_keys_once kind && is_held k es) ≡ false → size ≤ length es → Some 7 ≡ refusal_of kind size most taken k es
 refused_7 kind size most taken k es h full = let t : nat_le size (length es) ≡ true = grind (arith, nat_tests) in rw (h, t) refl
 
-pub refused_9 : (kind : Kind) (size most taken : ℕ) (k : EntryKey) (es : List Entry) → (has_keys_once kind && holds k es) ≡ false → length es < size → most ≤ taken → Some 9 ≡ refusal_of kind size most taken k es
+pub refused_9 : (kind : Kind) (size most taken : ℕ) (k : EntryKey) (es : List Entry) → (has_keys_once kind && is_held k es) ≡ false → length es < size → most ≤ taken → Some 9 ≡ refusal_of kind size most taken k es
 refused_9 kind size most taken k es h room many =
     let f : nat_le size (length es) ≡ false = grind (arith, nat_tests) in let t : nat_le most taken ≡ true = grind (arith, nat_tests) in rw (h, f, t) refl
 
-pub refused_not : (kind : Kind) (size most taken : ℕ) (k : EntryKey) (es : List Entry) → (has_keys_once kind && holds k es) ≡ false → length es < size → taken < most → None ≡ refusal_of kind size most taken k es
+pub refused_not : (kind : Kind) (size most taken : ℕ) (k : EntryKey) (es : List Entry) → (has_keys_once kind && is_held k es) ≡ false → length es < size → taken < most → None ≡ refusal_of kind size most taken k es
 refused_not kind size most taken k es h room few =
     let f : nat_le size (length es) ≡ false = grind (arith, nat_tests) in let g : nat_le most taken ≡ false = grind (arith, nat_tests) in rw (h, f, g) refl
 
@@ -114,7 +114,3 @@ no_table r k past = rw (list_of-past r.now.lists k.table past) refl
 pub no_entry : (r : Running) (o : Result Entry ℕ) → IsErr o → with_entry r o ≡ Err 5
 no_entry r (Err code) h = refl
 no_entry r (Ok e) h = cc
-
-pub no_key : (r : Running) (o : Result EntryName ℕ) → IsErr o → without_key r o ≡ Err 5
-no_key r (Err code) h = refl
-no_key r (Ok e) h = cc

@@ -1,8 +1,9 @@
 -- The entries of a run as the lines that change them leave them.
 use Rattle.std.specs.Prelude.{◌≡◌, ◌<◌, ℕ, ◌+◌, List, [], ◌∷◌, ◌++◌, Bool, false, not, ◌==◌, ◌&&◌, ◌||◌, nat_le, if◌then◌else◌, Option, Some, None, Result, Ok, Err, All, AllPairs, IsTrue, drop, filter, length}
-use Rattle.std.specs.List.{list_any, flat_map}
+use Rattle.std.specs.List.{flat_map}
+use Rattle.rmt_bits.specs.Members.{is_among}
 use Rattle.rmt_ast.specs.Answers.{entry_numbers}
-use Rattle.rmt_ast.specs.Changes.{Adds, Removes, EntryKey, Installed, at_first, changed, is_keyed_by, list_of}
+use Rattle.rmt_ast.specs.Changes.{Adds, Removes, EntryKey, Installed, at_first, changed, list_of, key_of_entry, is_held}
 use Rattle.rmt_ast.specs.EntryLists.{Terms}
 use Rattle.rmt_ast.specs.NameRules.{terms_named}
 use Rattle.rmt_ast.specs.declared.program.Kind.{Kind}
@@ -26,23 +27,15 @@ pub record Running : Type 0 where
 abbrev pub fresh : Names → List (List Entry) → ℕ → Running
 fresh names lists most = record { names = names; last = lists; now = at_first lists; taken = 0; most = most }
 
--- the key of an entry
-abbrev pub key_of_entry : Entry → EntryKey
-key_of_entry e = record { tests = e.tests; rank = e.rank }
-
 -- the key that a line names
 abbrev pub key_of_name : EntryName → EntryKey
 key_of_name k = record { tests = k.tests; rank = k.rank }
-
--- entries have one with a key
-abbrev pub holds : EntryKey → List Entry → Bool
-holds key es = list_any (is_keyed_by key) es
 
 -- Why no entry with a key is added to these of a table of this kind and size: 6 where they have the key and may have it once alone, 7
 -- where they are as many as the size, 9 where there were as many additions as there may be.
 abbrev pub refusal_of : Kind → ℕ → ℕ → ℕ → EntryKey → List Entry → Option ℕ
 refusal_of kind size most taken key es =
-    if has_keys_once kind && holds key es then Some 6
+    if has_keys_once kind && is_held key es then Some 6
     else (if nat_le size (length es) then Some 7 else (if nat_le most taken then Some 9 else None))
 
 -- a run, where no code stands against it
@@ -66,7 +59,7 @@ added_to r e (Some t) = unless (refusal_of t.kind t.size r.most r.taken (key_of_
 -- a run behind a removal; 8 where the table doesn't hold the key
 abbrev pub removed_from : Running → EntryName → Result Running ℕ
 removed_from r k =
-    if holds (key_of_name k) (list_of r.now.lists k.table) then Ok (without_one r k.table (key_of_name k)) else Err 8
+    if is_held (key_of_name k) (list_of r.now.lists k.table) then Ok (without_one r k.table (key_of_name k)) else Err 8
 
 -- a run behind the addition of what an entry line says; 5 where it says no entry
 abbrev pub with_entry : Running → Result Entry ℕ → Result Running ℕ
@@ -101,10 +94,6 @@ commit_of r = record r { last = r.now.lists }
 -- the kind and the size of a table
 abbrev pub kind_and_size : Terms → Kind × ℕ
 kind_and_size t = (t.kind, t.size)
-
--- a number is among others
-abbrev pub is_among : List ℕ → ℕ → Bool
-is_among ns n = list_any (λ m. m == n) ns
 
 -- What goes and what comes between lists of entries, by rising numbers: of each table what doesn't go is left, and behind it stands
 -- what comes. The numbers that go stood there, and those that come are greater than all that stood.

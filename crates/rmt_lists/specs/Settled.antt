@@ -1,8 +1,8 @@
 -- Lists to whose ends entries are put, and of which entries are kept.
 use Rattle.std.specs.Prelude.{◌≡◌, ℕ, List, ◌++◌, Bool, not, ◌==◌, ◌&&◌, nat_lt, Option, filter, length, take}
+use Rattle.rmt_bits.specs.Members.{is_among}
 use Rattle.rmt_ast.specs.Changes.{list_of}
 use Rattle.rmt_ast.specs.declared.entry.Entry.{Entry}
-use Rattle.rmt_lists.specs.Running.{is_among}
 use Rattle.rmt_lists.specs.Stands.{somes}
 
 -- each of these entries stands behind those of its table

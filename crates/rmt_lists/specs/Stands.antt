@@ -1,6 +1,7 @@
 -- What the lists of a run stand for.
 use Rattle.std.specs.Prelude.{◌≡◌, ◌<◌, ◌≤◌, ℕ, ◌+◌, List, [], ◌∷◌, ◌++◌, not, ◌==◌, Option, Some, None, Result, Ok, Err, All, AllPairs, IsTrue, ⊤, filter, length, slice_get}
 use Rattle.std.specs.List.{flat_map}
+use Rattle.rmt_bits.specs.Members.{is_among}
 use Rattle.rmt_ast.specs.Answers.{entry_numbers}
 use Rattle.rmt_ast.specs.Changes.{list_of}
 use Rattle.rmt_ast.specs.NameRules.{names_are_formed}
@@ -11,7 +12,7 @@ use Rattle.rmt_lists.specs.declared.fault.ChangeFault.TheVariants.{NoMemory, Ref
 use Rattle.rmt_lists.specs.declared.held.Held.{Held}
 use Rattle.rmt_lists.specs.declared.lists.Lists.{Lists}
 use Rattle.rmt_lists.specs.Holding.{Holds}
-use Rattle.rmt_lists.specs.Running.{Running, is_among}
+use Rattle.rmt_lists.specs.Running.{Running}
 
 -- the entries in some places
 abbrev pub somes : List (Option Entry) → List Entry

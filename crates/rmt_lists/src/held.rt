@@ -1,9 +1,10 @@
 //! What a table holds, found by keys.
 
 ghost use Rattle.std.specs.Prelude.{◌≡◌, ◌<◌, ◌&&◌, ◌++◌, ◌∷◌, [], IsTrue, IfNone, IfOk, OnOk, OnErr, List, slice_get};
+ghost use Rattle.rmt_ast.specs.Changes.{key_of_entry, is_held};
 ghost use Rattle.rmt_lists.specs.Entries.{Entry, EntryKey, has_keys_once, without};
 ghost use Rattle.rmt_lists.specs.Holding.{Holds, keyed_numbers, spelled};
-ghost use Rattle.rmt_lists.specs.Running.{holds, key_of_entry, refusal_of};
+ghost use Rattle.rmt_lists.specs.Running.{refusal_of};
 
 use crate::key_numbers::KeyNumbers;
 use rmt_ast::program::{Kind, Test};
@@ -53,7 +54,7 @@ impl Held {
     /// Takes away the entry of the least number with a key, which there is.
     pub fn pop(&mut self, key: &Vec<u128>)
         requires some { 0 < self.old.count }
-        ensures { (es : List Entry) (k : EntryKey) → Holds self.old es → key.now.items ≡ spelled k → IsTrue (holds k es) →
+        ensures { (es : List Entry) (k : EntryKey) → Holds self.old es → key.now.items ≡ spelled k → IsTrue (is_held k es) →
             Holds self.new (without k es) }
     {
         self.numbers.pop(key);
@@ -91,7 +92,7 @@ pub fn refusal_of(
 /// Whether a table of this kind has a key that it may have once alone.
 fn is_repeated(held: &Held, kind: Kind, key: &Vec<u128>) -> bool
     ensures { (es : List Entry) (k : EntryKey) → Holds held.now es → key.now.items ≡ spelled k →
-        result ≡ (has_keys_once kind && holds k es) }
+        result ≡ (has_keys_once kind && is_held k es) }
 {
     if has_keys_once(kind) {
         held.first(key).is_some()

@@ -3,10 +3,11 @@
 ghost use Rattle.std.specs.Prelude.{◌≡◌, ◌<◌, ◌≤◌, ◌+◌, ◌-◌, All, Err, None, Some, IfErr, IfOk, IsTrue, OnErr, OnOk, length, slice_get, slice_set};
 ghost use Rattle.std.specs.BTreeSet.{insert_key};
 ghost use Rattle.std.specs.Ordering.{nat_cmp};
+ghost use Rattle.rmt_ast.specs.Changes.{key_of_entry};
 ghost use Rattle.rmt_lists.specs.Entries.{AreEntriesOf, IsNamedEntry, entry_numbers, flat_map, names_are_formed, terms_named};
 ghost use Rattle.rmt_lists.specs.declared.held.Held.{Held as HeldOf};
 ghost use Rattle.rmt_lists.specs.Holding.{spelled};
-ghost use Rattle.rmt_lists.specs.Running.{AreChanges, Running, added_to, commit_of, fresh, is_change, key_of_entry, line_change, removed_from, with_one};
+ghost use Rattle.rmt_lists.specs.Running.{AreChanges, Running, added_to, commit_of, fresh, is_change, line_change, removed_from, with_one};
 ghost use Rattle.rmt_lists.specs.Stands.{IsRefusal, Stands, StandsFor};
 
 use crate::fault::{ChangeFault, UpdateFault};

@@ -1,9 +1,9 @@
 //! The tables as a commit leaves them.
 
 ghost use Rattle.std.specs.Prelude.{◌≡◌, ◌<◌, ◌≤◌, ◌+◌, ℕ, [], All, AllPairs, IfOk, IfSome, IsTrue, OnErr, OnOk, Some, filter, length, not, slice_get, vec_capacity};
+ghost use Rattle.rmt_bits.specs.Members.{is_among};
 ghost use Rattle.rmt_lists.specs.Entries.{Entry as EntryOf, entry_numbers, flat_map, list_of};
 ghost use Rattle.rmt_lists.specs.declared.held.Held.{Held as HeldOf};
-ghost use Rattle.rmt_lists.specs.Running.{is_among};
 ghost use Rattle.rmt_lists.specs.Settled.{Extends, ExtendsInPart, keeps};
 ghost use Rattle.rmt_lists.specs.Stands.{AreSlots, left_at, somes};
 

@@ -64,3 +64,7 @@ module _ (slot : SlotUnit) (k p d : ℕ) (ks rs : List ℕ) (fits : ExactFits sl
     exact-cells numbers eq =
         let count : 4 * d * (1024 * p) ≡ 4096 * d * p = omega arith in
         cells-below slot.numbers numbers (l.ways * l.quanta * l.way) (4096 * d * p) eq (ap (λ (m : CellLayout). m.ways * m.quanta * m.way) is ∙ count)
+
+-- keys of so few bits
+pub few-bits : (bits b : ℕ) → bits ≡ b → b ≤ 640 → bits ≤ 640
+few-bits bits b same few = subst (λ n. n ≤ 640) (sym same) few

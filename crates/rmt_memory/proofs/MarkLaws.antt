@@ -1,6 +1,6 @@
 -- Marks of the keys of cells.
 use Rattle.std.proofs.Common.{◌≡◌, ℕ, ◌+◌, ◌*◌, ◌/◌, ◌%◌, ◌^◌, ◌<◌, ◌≤◌, ◌∷◌, ◌++◌, List, eqb, length, take, drop, get_or, true, None, sym, ap, ◌∙◌, subst, arith, inl, inr}
-use Rattle.std.proofs.lemmas.Bool.{and_parts, cases_eq, false≢true}
+use Rattle.std.proofs.lemmas.Bool.{and_parts, cases_eq}
 use Rattle.std.proofs.lemmas.Nat.{mod_below, mul-le}
 use Rattle.std.proofs.Math.Seq.{take-append_seam}
 use Rattle.rmt_bits.specs.Hash.{fnv, hash_row}
@@ -8,7 +8,7 @@ use Rattle.rmt_config.specs.Cells.{is_occupied}
 use Rattle.rmt_memory.specs.declared.runs.Runs.{Runs}
 use Rattle.rmt_config.specs.declared.part_ways.PartWays.{PartWays}
 use Rattle.rmt_memory.specs.Marking.{IsMarked, AreMarked}
-use Rattle.rmt_memory.specs.RunWrites.{HeadCleared, RunSet}
+use Rattle.rmt_memory.specs.RunWrites.{RunSet}
 use Rattle.rmt_memory.specs.Searching.{FirstByWays, run_of}
 
 -- the cells of a row are among those of all ways
@@ -45,18 +45,4 @@ marked-set old new at stored head key held words words' put marked size own othe
           let run : run_of new n ≡ run_of old n = put.stay.others n inside other in
           subst (λ (bs : List ℕ). IsMarked words' (take stored (drop 1 bs))) (sym run)
           (others (take stored (drop 1 (run_of old n))) (marked n inside (subst (λ (bs : List ℕ). is_occupied (get_or bs 0 0) ≡ true) run occupied)))
-    ]
-
--- a cell is emptied
-pub marked-cleared : (old new : Runs) (at stored : ℕ) (words : List ℕ) → HeadCleared at old new → AreMarked old stored old.count words → AreMarked new stored new.count words
-marked-cleared old new at stored words cleared marked = λ n lt occupied.
-    let inside : n < old.count = (let e = cleared.stay.count in omega (arith, e, lt)) in
-    elim (cases_eq n at) as (λ _. IsMarked words (take stored (drop 1 (run_of new n)))) [
-      | inl same ↦
-          let zero : get_or (run_of new n) 0 0 ≡ 0 = ap (λ k. get_or (run_of new k) 0 0) same ∙ cleared.head in
-          absurd (false≢true (sym (ap is_occupied zero) ∙ occupied))
-      | inr other ↦
-          let run : run_of new n ≡ run_of old n = cleared.stay.others n inside other in
-          subst (λ (bs : List ℕ). IsMarked words (take stored (drop 1 bs))) (sym run)
-          (marked n inside (subst (λ (bs : List ℕ). is_occupied (get_or bs 0 0) ≡ true) run occupied))
     ]

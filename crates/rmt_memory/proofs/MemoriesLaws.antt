@@ -1,5 +1,5 @@
 -- What memories hold at first, after a changed cell, and under a new version.
-use Rattle.std.proofs.Common.{◌≡◌, ◌≢◌, ℕ, ◌<◌, List, length, get_or, set, Vec, Bool, true, false, cond, eqb, ◌&&◌, Option, Some, None, sym, refl, ap, ◌∙◌, subst, arith, inl, inr}
+use Rattle.std.proofs.Common.{◌≡◌, ◌≢◌, ℕ, ◌<◌, List, length, get_or, set, Vec, Bool, true, false, cond, eqb, ◌&&◌, Option, Some, None, sym, refl, ap, ◌∙◌, subst, inl, inr}
 use Rattle.std.specs.Prelude.{option_and_then, option_map, slice_get, unwrap_or}
 use Rattle.std.specs.Vec.{with_item}
 use Rattle.std.proofs.lemmas.Bool.{cases_eq, eq-eqb, ne_eqb}
@@ -7,13 +7,10 @@ use Rattle.std.proofs.lemmas.List.{get_or-set_same, get_or-set_other}
 use Rattle.std.proofs.lemmas.Option.{get_or_from_slice_get, same_Some}
 use Rattle.rmt_bits.proofs.ListLaws.{slice_get-set_same, slice_get-set_other}
 use Rattle.std.specs.declared.alloc.Global.{Global}
-use Rattle.rmt_memory.specs.Types.{Config, Stage, Unit, SlotUnit, Memory}
+use Rattle.rmt_memory.specs.Types.{Config, Stage, Unit, SlotUnit}
 use Rattle.rmt_config.specs.declared.config.Unit.TheVariants.{Gate, Slot}
 use Rattle.rmt_config.specs.Cells.{Content, content_of, number_of_cell}
-use Rattle.rmt_config.specs.Cells.{cells_in}
-use Rattle.rmt_config.specs.Life.{has_memory}
 use Rattle.rmt_config.specs.declared.cell_write.CellWrite.{CellWrite}
-use Rattle.rmt_config.specs.declared.config.Memory.TheVariants.{Without, Exact, Ternary}
 use Rattle.rmt_config.specs.RunCells.{RunCells, as_slot, no_content, own_cells, slot_at, with_version, with_write, written_content}
 use Rattle.rmt_memory.specs.declared.memory.SlotMemory.{SlotMemory}
 use Rattle.rmt_memory.specs.Memories.{HoldsSlot}
@@ -72,12 +69,6 @@ slot_place stages k place slot is = by (slice_get stages k) refl is
     by : (o : Option Stage) → slice_get stages k ≡ o → option_and_then (λ (stage : Stage). option_and_then as_slot (slice_get stage.units place)) o ≡ Some slot → SlotPlace stages k place slot
     by None at e = absurd (none_some slot e)
     by (Some stage) at e = record { stage = stage; at = at; there = unit_is (slice_get stage.units place) e }
-
--- a slot with a cell has memory
-pub has_cells : (mem : Memory) (n : ℕ) → n < cells_in mem → has_memory mem ≡ true
-has_cells Without n lt = absurd (omega (arith, lt))
-has_cells (Exact k p d w ks rs cs) n lt = refl
-has_cells (Ternary d ks rs cs) n lt = refl
 
 -- what holds of each unit and its memory, and of another memory at one place
 pub changed_each : (P Q : ℕ → ℕ → Unit → SlotMemory → Type 0) (stages : List Stage) (memories : List (Vec SlotMemory Global)) (k place : ℕ) (stage : Stage) (unit : Unit) (v : Vec SlotMemory Global) (new : SlotMemory)

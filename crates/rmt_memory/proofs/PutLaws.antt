@@ -17,10 +17,6 @@ use Rattle.rmt_memory.specs.RunWrites.{RunSet}
 use Rattle.rmt_memory.specs.Searching.{run_of}
 use Rattle.rmt_memory.specs.Slicing.{RowSet, StandsFor}
 
--- a place among the listed cells is among the first ones, or is the next
-up-to : (P : ℕ → Type 0) (at : ℕ) → ((i : ℕ) → i < at → P i) → P at → (i : ℕ) → i < at + 1 → P i
-up-to P at before here = below_more P at before here
-
 -- ---- runs
 
 pub one-run : (tail : ℕ) (numbers : List CellNumber) (heads keys held : Runs) (at : ℕ) (old mid new : Runs) → at < length numbers → All (λ (n : CellNumber). n.cell < old.count) numbers
@@ -29,7 +25,7 @@ one-run tail numbers heads keys held at old mid new lt below before put = record
   size = put.stay.size ∙ before.size;
   same = put.stay.count ∙ before.same;
   listed = λ bytes are.
-      up-to (λ i. run_of new (cell_at numbers i) ≡ bytes (cell_at numbers i)) at
+      below_more (λ i. run_of new (cell_at numbers i) ≡ bytes (cell_at numbers i)) at
       (λ i less.
       elim (cases_eq (cell_at numbers i) (cell_at numbers at)) as (λ _. run_of new (cell_at numbers i) ≡ bytes (cell_at numbers i)) [
         | inl same ↦ ap (run_of new) same ∙ put.run ∙ are at lt ∙ ap bytes (sym same)
@@ -76,7 +72,7 @@ module _ (numbers : List CellNumber) (shown : ℕ → Option Compared) (sight co
         size = length-set rows cell (one sight) ∙ before.size;
         stands = put.stands sight rows few before.stands there;
         listed =
-            up-to (λ i. get_or (set rows cell (one sight)) (cell_at numbers i) None ≡ shown (cell_at numbers i)) at
+            below_more (λ i. get_or (set rows cell (one sight)) (cell_at numbers i) None ≡ shown (cell_at numbers i)) at
             (λ i less.
             elim (cases_eq (cell_at numbers i) cell) as (λ _. get_or (set rows cell (one sight)) (cell_at numbers i) None ≡ shown (cell_at numbers i)) [
               | inl same ↦ ap (λ n. get_or (set rows cell (one sight)) n None) same ∙ get_or-set_same rows cell (one sight) None there ∙ is ∙ ap shown (sym same)

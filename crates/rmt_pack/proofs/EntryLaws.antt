@@ -1,23 +1,27 @@
 -- Entries by their numbers and keys.
-use Rattle.std.proofs.Common.{◌≡◌, ◌≢◌, ℕ, ◌<◌, ◌==◌, true, List, [], ◌∷◌, ◌++◌, Option, Some, None, Contains, filter_map, length, map, get_or, refl, sym, ap, subst, ◌∙◌, inl, inr, arith, ◌+◌, ◌-◌, ◌^◌, ◌≤◌, Bool, false, cond}
+use Rattle.std.proofs.Common.{◌≡◌, ◌≢◌, ℕ, ◌<◌, ◌==◌, true, List, [], ◌∷◌, ◌++◌, Option, Some, None, Contains, length, map, get_or, refl, sym, ap, subst, ◌∙◌, inl, inr, arith, ◌+◌, ◌-◌, ◌^◌, ◌≤◌, Bool, false, cond, ◌&&◌, All}
 use Rattle.std.specs.Prelude.{AllPairs}
-use Rattle.std.specs.List.{AllZip, cons_option, flat_map}
-use Rattle.std.proofs.lemmas.Bool.{eq-eqb, cases_eq, cases_lt}
-use Rattle.std.proofs.lemmas.List.{get_or-map, length-map, map-append}
+use Rattle.std.specs.List.{AllZip, flat_map}
+use Rattle.std.proofs.lemmas.Bool.{eq-eqb, cases_eq, cases_lt, and_from, false≢true}
+use Rattle.std.proofs.lemmas.List.{get_or-map, length-map, map-append, length-append}
 use Rattle.std.proofs.lemmas.List.Kept.{AllPairs-cons}
 use Rattle.rmt_bits.proofs.PairLaws.{AllPairs-head, AllPairs-none, AllPairs-tail, AllPairs-map, AllPairs-weaker}
-use Rattle.rmt_bits.proofs.MemberLaws.{Contains-split, Contains-first, Contains-later, list_any-Contains}
+use Rattle.rmt_bits.proofs.MemberLaws.{list_any-Contains}
 use Rattle.rmt_ast.specs.declared.entry.Entry.{Entry}
 use Rattle.rmt_ast.specs.Answers.{entry_numbers}
-use Rattle.rmt_ast.specs.EntryLists.{AreEntriesAt, IsEntry, HasKeysOnce, HasRank, IsPrefix, Terms}
+use Rattle.rmt_ast.specs.EntryLists.{AreEntriesAt, IsEntry, HasKeysOnce, HasRank, IsPrefix, Terms, AreTableEntries}
 use Rattle.rmt_ast.specs.WellFormed.{AreDistinct}
 use Rattle.rmt_config.specs.Commits.{all_entries, is_numbered_in}
 use Rattle.std.proofs.Math.Pow.{pow-lt}
-use Rattle.rmt_ast.specs.declared.program.Kind.TheVariants as kind
-use Rattle.rmt_ast.specs.Changes.{EntryKey, is_keyed_by, without}
+use Rattle.std.specs.Str.{bytes_eq}
+use Rattle.std.proofs.lemmas.List.Elements.{All-append, All-cons, All-contains, All-contains_itself, All-nil, All-weaker}
+use Rattle.std.proofs.lemmas.List.Quantifiers.{all_pairs_push}
+use Rattle.std.proofs.lemmas.Slice.Eq.{bytes_eq-Decides}
+use Rattle.rmt_ast.specs.Changes.{EntryKey, is_keyed_by, without, are_same, is_held, key_of_entry}
 use Rattle.rmt_ast.specs.declared.program.Kind.{Kind}
 use Rattle.rmt_ast.specs.declared.program.Test.{Test}
 use Rattle.rmt_ast.proofs.EntryLaws.{all_without}
+use Rattle.rmt_ast.specs.declared.program.Kind.TheVariants as kind
 
 -- pairs of what a map gives
 pub AllPairs-unmap : {X Y : Type 0} (R : Y → Y → Type 0) (f : X → Y) (xs : List X) → AllPairs R (map f xs) → AllPairs (λ a b. R (f a) (f b)) xs
@@ -25,17 +29,6 @@ AllPairs-unmap R f xs h i j d lt within =
     let long = length-map xs f in
     subst (λ y. R y (f (get_or xs j d))) (get_or-map f xs i d (f d) (omega (arith, lt, within)))
     (subst (R (get_or (map f xs) i (f d))) (get_or-map f xs j d (f d) within) (h i j (f d) lt (omega (arith, long, within))))
-
-pub Contains-filter_map : {X Y : Type 0} (f : X → Option Y) (xs : List X) (x : X) (y : Y) → Contains xs x → f x ≡ Some y → Contains (filter_map f xs) y
-Contains-filter_map f [] x y there e = absurd (let lt = there.1 in omega (arith, lt))
-Contains-filter_map {X} {Y} f (z ∷ zs) x y there e = elim (Contains-split z zs x there) [
-  | inl same ↦ subst (λ o. Contains (cons_option o (filter_map f zs)) y) (sym (ap f same ∙ e)) (Contains-first y (filter_map f zs))
-  | inr later ↦ behind (f z) (Contains-filter_map f zs x y later e)
-]
-  where
-    behind : (o : Option Y) → Contains (filter_map f zs) y → Contains (cons_option o (filter_map f zs)) y
-    behind None h = h
-    behind (Some w) h = Contains-later w (filter_map f zs) y h
 
 pub all_numbers : (lists : List (List Entry)) → flat_map entry_numbers lists ≡ map (λ (e : Entry). e.number) (all_entries lists)
 all_numbers [] = refl
@@ -113,3 +106,50 @@ entries_without n key es (Some t) are = record {
   keys_once = keys_without t.kind key es are.keys_once;
   within_size = let le = fewer key es in let size = are.within_size in omega (arith, le, size);
 }
+
+-- ---- an entry is added
+
+-- entries with the same tests and the same rank have the same key
+keyed : (e o : Entry) → e.tests ≡ o.tests → e.rank ≡ o.rank → is_keyed_by (key_of_entry e) o ≡ true
+keyed e o tests ranks =
+    and_from (are_same e.tests o.tests) (e.rank == o.rank)
+    (and_from (bytes_eq (map (λ (t : Test). t.value) e.tests) (map (λ (t : Test). t.value) o.tests)) (bytes_eq (map (λ (t : Test). t.mask) e.tests) (map (λ (t : Test). t.mask) o.tests))
+    ((bytes_eq-Decides (map (λ (t : Test). t.value) e.tests) (map (λ (t : Test). t.value) o.tests)).1 (ap (map (λ (t : Test). t.value)) tests))
+    ((bytes_eq-Decides (map (λ (t : Test). t.mask) e.tests) (map (λ (t : Test). t.mask) o.tests)).1 (ap (map (λ (t : Test). t.mask)) tests)))
+    (eq-eqb e.rank o.rank ranks)
+
+-- no entry has the tests of one whose key none has
+other_tests : (es : List Entry) (e : Entry) → ((o : Entry) → Contains es o → o.tests ≡ e.tests → e.rank ≡ o.rank) → is_held (key_of_entry e) es ≡ false → All (λ (o : Entry). o.tests ≢ e.tests) es
+other_tests es e ranks new =
+    All-weaker (Contains es) (λ (o : Entry). o.tests ≢ e.tests)
+    (λ o there same. false≢true (sym new ∙ list_any-Contains (is_keyed_by (key_of_entry e)) es o there (keyed e o (sym same) (ranks o there same))))
+    es (All-contains_itself es)
+
+-- whether tables of a kind have a key once, as exact ones and those of prefixes do
+module _ (once : Kind → Bool) (exact : once kind.Exact ≡ true) (prefix : once kind.Prefix ≡ true) where
+  not_held : (k : Kind) (held : Bool) → once k ≡ true → (once k && held) ≡ false → held ≡ false
+  not_held k held is new = ap (λ b. b && held) (sym is) ∙ new
+
+  keys_added : (k : Kind) (ws : List ℕ) (es : List Entry) (e : Entry) (next : ℕ) → (k ≡ kind.Prefix → 1 ≤ length ws) → All (HasRank k ws) es → HasRank k ws e → (once k && is_held (key_of_entry e) es) ≡ false
+      → HasKeysOnce k es → HasKeysOnce k (es ++ numbered e next ∷ [])
+  keys_added kind.Keyless ws es e next some ranks own new keys = tt
+  keys_added kind.Exact ws es e next some ranks own new keys =
+      all_pairs_push (λ (a b : Entry). a.tests ≢ b.tests) es (numbered e next) keys
+      (other_tests es e (λ o there same. own.1 ∙ sym (All-contains (HasRank kind.Exact ws) es o ranks there).1) (not_held kind.Exact (is_held (key_of_entry e) es) exact new))
+  keys_added kind.Prefix ws es e next some ranks own new keys =
+      all_pairs_push (λ (a b : Entry). a.tests ≢ b.tests) es (numbered e next) keys
+      (other_tests es e
+      (λ o there same. one_rank ws e.tests e.rank o.rank (some refl) own (subst (AllZip (IsPrefix o.rank) ws) same (All-contains (HasRank kind.Prefix ws) es o ranks there)))
+      (not_held kind.Prefix (is_held (key_of_entry e) es) prefix new))
+  keys_added kind.Ternary ws es e next some ranks own new keys = tt
+
+  -- an entry of a table that isn't full, with a new number, and a new key where keys stand once
+  pub table_added : (n : ℕ) (t : Terms) (es : List Entry) (e : Entry) (next : ℕ) → (t.kind ≡ kind.Prefix → 1 ≤ length t.widths) → AreTableEntries n es t → IsEntry n t e
+      → (once t.kind && is_held (key_of_entry e) es) ≡ false → length es < t.size → All (λ (o : Entry). o.number < next) es → AreTableEntries n (es ++ numbered e next ∷ []) t
+  table_added n t es e next some are is new room below = record {
+    each = All-append (IsEntry n t) es (numbered e next ∷ []) are.each
+        (All-cons (IsEntry n t) (numbered e next) [] (record { table = is.table; tests = is.tests; rank = same_rank t.kind t.widths e next is.rank; action = is.action }) (All-nil (IsEntry n t)));
+    rising = all_pairs_push (λ (a b : Entry). a.number < b.number) es (numbered e next) are.rising below;
+    keys_once = keys_added t.kind t.widths es e next some (All-weaker (IsEntry n t) (HasRank t.kind t.widths) (λ o own. own.rank) es are.each) is.rank new are.keys_once;
+    within_size = let long = length-append es (numbered e next ∷ []) in omega (arith, room, long);
+  }

@@ -12,13 +12,15 @@ use Rattle.rmt_ast.specs.declared.program.Action.{Action}
 use Rattle.rmt_ast.specs.declared.program.Table.{Table}
 use Rattle.rmt_ast.specs.declared.program.Kind.{Kind}
 use Rattle.rmt_ast.specs.declared.program.Kind.TheVariants.{Keyless, Exact, Prefix, Ternary}
-use Rattle.rmt_ast.specs.declared.program.What.TheVariants.{Apply}
+use Rattle.rmt_ast.specs.declared.program.What.TheVariants.{Apply, Gate}
 use Rattle.rmt_ast.specs.State.{width_of}
 use Rattle.rmt_ast.specs.WellFormed.{IsProgram, IsTable, IsKeyed, HasKey, IsAction, IsWidth, bits_of}
+use Rattle.rmt_ast.specs.declared.program.What.{What}
 use Rattle.rmt_pack.specs.declared.format.Need.{Need}
-use Rattle.rmt_pack.specs.Formats.{IsFormat, IsNeed, HasNeed, memory_format, no_memory}
-use Rattle.rmt_pack.specs.Placements.{IsNodeFormat, key_bits, data_bits, param_bits, table_need}
+use Rattle.rmt_pack.specs.Formats.{IsFormat, IsNeed, HasNeed, memory_format, no_memory, IsExactFormat}
+use Rattle.rmt_pack.specs.Placements.{IsNodeFormat, key_bits, data_bits, param_bits, table_need, what_format}
 use Rattle.rmt_pack.proofs.FormatLaws.{exact_format-taken}
+use Rattle.rmt_pack.specs.declared.format.Format.{Format}
 
 -- the parameters of an action have at most 2,048 bits
 params-few : (params : List ℕ) → All IsWidth params → length params ≤ 16 → sum params ≤ 2048
@@ -95,18 +97,27 @@ table_has_need p is t table = has_need_of_kind p is t t.kind table.key
 
 -- ---- the format of a node
 
-format_is : (kind : Kind) (n : Need) → HasNeed kind n → IsFormat kind n (memory_format kind n)
-format_is Keyless n need = refl
-format_is Exact n need = (exact_format-taken n need).format
-format_is Prefix n need = refl
-format_is Ternary n need = refl
+pub memory_format-is : (kind : Kind) (n : Need) → HasNeed kind n → IsFormat kind n (memory_format kind n)
+memory_format-is Keyless n need = refl
+memory_format-is Exact n need = (exact_format-taken n need).format
+memory_format-is Prefix n need = refl
+memory_format-is Ternary n need = refl
 
 -- the format that the rule gives a table is one of its formats
-pub own_format : (p : Program) → IsProgram p → (t : ℕ)
+table_format : (p : Program) → IsProgram p → (t : ℕ)
     → IsNodeFormat p (Apply t) (unwrap_or (option_map (λ (x : Table). memory_format x.kind (table_need p x)) (slice_get p.tables t)) no_memory)
-own_format p is t = at (slice_get p.tables t) refl
+table_format p is t = at (slice_get p.tables t) refl
   where
     at : (o : Option Table) → slice_get p.tables t ≡ o
         → IfSome o (λ (x : Table). IsFormat x.kind (table_need p x) (unwrap_or (option_map (λ (y : Table). memory_format y.kind (table_need p y)) o) no_memory))
     at None found = tt
-    at (Some x) found = format_is x.kind (table_need p x) (has_need p is t x found)
+    at (Some x) found = memory_format-is x.kind (table_need p x) (has_need p is t x found)
+
+-- a quantum of an exact format has a block at least
+pub exact_blocks : (n : Need) (f : Format) → IsExactFormat n f → 1 ≤ f.sram
+exact_blocks n f is = omega (arith, ap (λ (g : Format). g.sram) is.layout, is.has_width)
+
+-- and that of a node is one of its own
+pub own_format : (p : Program) → IsProgram p → (what : What) → IsNodeFormat p what (what_format p what)
+own_format p is (Gate field test) = refl
+own_format p is (Apply t) = table_format p is t

@@ -9,10 +9,11 @@ use Rattle.rmt_config.specs.declared.config.Stage.{Stage}
 use Rattle.rmt_config.specs.declared.config.Unit.{Unit}
 use Rattle.rmt_config.specs.declared.config.SlotUnit.{SlotUnit}
 use Rattle.rmt_config.specs.declared.config.Unit.TheVariants.{Gate, Slot}
-use Rattle.rmt_pack.specs.Slots.{as_slot, slot_at, slot_of}
+use Rattle.rmt_pack.specs.Slots.{slot_of}
 use Rattle.rmt_bits.proofs.MemberLaws.{Contains-map}
 use Rattle.rmt_config.specs.TableForm.{Placed, placed_from}
 use Rattle.rmt_config.specs.Instructions.{unit_instructions}
+use Rattle.rmt_config.specs.RunCells.{as_slot, slot_at}
 
 pub and_at : {X : Type 0} (o : Option X) (P : X → Type 0) (x : X) → o ≡ Some x → IsSomeAnd o P → P x
 and_at o P x e h = subst (λ q. IsSomeAnd q P) e h

@@ -8,13 +8,12 @@ use Rattle.std.proofs.lemmas.List.Elements.{All-append, All-cons, All-contains_i
 use Rattle.std.proofs.lemmas.Option.{none-some, same_Some}
 use Rattle.rmt_bits.proofs.ListLaws.{find-passes}
 use Rattle.rmt_bits.proofs.AllLaws.{All-find}
-use Rattle.rmt_bits.proofs.MemberLaws.{Contains-filter, Contains-split}
+use Rattle.rmt_bits.proofs.MemberLaws.{Contains-filter, Contains-split, Contains-filter_map}
 use Rattle.rmt_ast.specs.declared.entry.Entry.{Entry}
 use Rattle.rmt_ast.specs.declared.names.Names.{Names}
 use Rattle.rmt_ast.specs.EntryLists.{Terms}
 use Rattle.rmt_ast.specs.NameRules.{terms_named}
 use Rattle.rmt_config.specs.declared.config.Config.{Config}
-use Rattle.rmt_pack.proofs.EntryLaws.{Contains-filter_map}
 use Rattle.rmt_config.specs.RunCells.{RunCells, has_bit, sees}
 use Rattle.rmt_config.specs.Rooms.{Room, content_in, is_same, number_in}
 use Rattle.rmt_config.specs.Commits.{Placed, all_entries, come, is_free, is_numbered_in, keeps_order, placed_after, placed_now, rooms_of, stay, with_coming}

@@ -64,3 +64,7 @@ precedes_chain Keyless a b c h g = h
 precedes_chain Exact a b c h g = h
 precedes_chain Prefix a b c h g = lt_chain c.rank b.rank a.rank g h
 precedes_chain Ternary a b c h g = from_earlier a c (earlier_chain a b c (earlier a b h) (earlier b c g))
+
+-- the kinds whose cells are rows, in each of which any key may stand
+abbrev pub IsRowKind : Kind → Type 0
+IsRowKind k = (k ≡ Prefix) ⊎ (k ≡ Ternary)

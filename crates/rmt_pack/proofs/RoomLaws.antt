@@ -18,7 +18,7 @@ use Rattle.rmt_config.specs.declared.config.Unit.TheVariants.{Gate, Slot}
 use Rattle.rmt_config.specs.LaneForm.{bits_of_lanes}
 use Rattle.rmt_config.specs.Cells.{candidates}
 use Rattle.rmt_config.specs.Rooms.{PartAt, Room, parts_among, parts_of, rooms_for, is_at}
-use Rattle.rmt_pack.specs.Slots.{as_slot}
+use Rattle.rmt_config.specs.RunCells.{as_slot}
 use Rattle.rmt_pack.proofs.PartLaws.{IsPart, slot_is_unit, then_some}
 
 -- a part of a node, as the rooms tell it

@@ -1,8 +1,8 @@
 -- The order of rooms.
-use Rattle.std.proofs.Common.{◌≡◌, ◌⊎◌, ℕ, ◌+◌, ◌<◌, ◌==◌, true, false, List, [], get_or, Some, Contains, refl, sym, ap, subst, ◌∙◌, inl, inr, arith, ◌≤◌, Bool, ◌&&◌, cond, ◌∷◌, ◌++◌, All}
+use Rattle.std.proofs.Common.{◌≡◌, ◌⊎◌, ℕ, ◌+◌, ◌<◌, ◌==◌, true, false, List, [], get_or, Some, Contains, refl, ap, subst, ◌∙◌, inl, inr, arith, ◌≤◌, Bool, ◌&&◌, cond, ◌∷◌, ◌++◌, All}
 use Rattle.std.specs.Prelude.{AllPairs, count_by, slice_get, nat_lt}
 use Rattle.std.proofs.lemmas.Bool.{and_from, eq-eqb, and_parts, eqb-true, false_from_ne_true, lt-ltb, ltb-true, or_cases, or_left, or_right}
-use Rattle.std.proofs.lemmas.List.Elements.{All-append, All-cons, All-head, All-nil, All-tail, All-weaker}
+use Rattle.std.proofs.lemmas.List.Elements.{All-append, All-head, All-nil, All-tail}
 use Rattle.std.proofs.lemmas.Option.{get_or_from_slice_get, slice_get_within}
 use Rattle.rmt_bits.proofs.MemberLaws.{Contains-item, Contains-split}
 use Rattle.rmt_ast.specs.declared.entry.Entry.{Entry}
@@ -11,14 +11,11 @@ use Rattle.rmt_ast.specs.EntryLists.{Terms}
 use Rattle.rmt_ast.specs.RowOrder.{goes_first}
 use Rattle.rmt_config.specs.declared.config.Config.{Config}
 use Rattle.rmt_ast.specs.declared.program.Kind.{Kind}
-use Rattle.rmt_config.specs.Rooms.{Room, key_number, rooms_for, PartAt, parts_among}
+use Rattle.rmt_config.specs.Rooms.{Room, key_number, rooms_for}
 use Rattle.rmt_config.specs.Commits.{IsFilled}
 use Rattle.std.specs.List.{flat_map}
-use Rattle.std.proofs.lemmas.List.Kept.{AllPairs-cons}
 use Rattle.std.proofs.lemmas.List.Sums.{sum_by-cons}
 use Rattle.rmt_bits.proofs.PairLaws.{AllPairs-append, AllPairs-head, AllPairs-none, AllPairs-tail}
-use Rattle.rmt_config.specs.declared.config.Unit.{Unit}
-use Rattle.rmt_config.specs.declared.config.Unit.TheVariants.{Gate, Slot}
 use Rattle.rmt_pack.proofs.RankLaws.{goes_never, precedes_chain}
 
 pub room_there : (c : Config) (seed : ℕ) (t : Terms) (k : Kind) (es : List Entry) (e : Entry) (room : Room) → IsFilled c seed t k es e room → Contains (rooms_for c seed e.table (key_number t e)) room
@@ -48,48 +45,6 @@ pub pair_at : {X : Type 0} (R : X → X → Type 0) (xs : List X) (i j : ℕ) (x
 pair_at R xs i j x y pairs lt at_x at_y =
     subst (λ z. R z y) (get_or_from_slice_get xs i x x at_x)
     (subst (R (get_or xs i x)) (get_or_from_slice_get xs j y x at_y) (pairs i j x lt (slice_get_within xs j y at_y)))
-
--- a part comes before another: in an earlier stage, or before it in the same one
-abbrev pub Rises : PartAt → PartAt → Type 0
-Rises a b = (a.stage < b.stage) ⊎ ((a.stage ≡ b.stage) × (a.place < b.place))
-
--- a part of a stage, from a place on
-abbrev pub IsFrom : ℕ → ℕ → PartAt → Type 0
-IsFrom k place a = (a.stage ≡ k) × (place ≤ a.place)
-
-pub among_from : (node k : ℕ) (units : List Unit) (place first : ℕ) → All (IsFrom k place) (parts_among node k place first units)
-among_from node k [] place first = All-nil (IsFrom k place)
-among_from node k (Gate g ∷ units) place first =
-    All-weaker (IsFrom k (place + 1)) (IsFrom k place) (λ a h. let le = h.1 in (h.0, omega (arith, le))) (parts_among node k (place + 1) first units) (among_from node k units (place + 1) first)
-among_from node k (Slot s ∷ units) place first =
-    by (s.node == node)
-    (All-weaker (IsFrom k (place + 1)) (IsFrom k place) (λ a h. let le = h.1 in (h.0, omega (arith, le))) (parts_among node k (place + 1) (first + s.actions + 1) units)
-    (among_from node k units (place + 1) (first + s.actions + 1)))
-  where
-    rest : List PartAt
-    rest = parts_among node k (place + 1) (first + s.actions + 1) units
-
-    by : (b : Bool) → All (IsFrom k place) rest → All (IsFrom k place) (cond b (record { stage = k; place = place; first = first; slot = s } ∷ []) [] ++ rest)
-    by true h = All-cons (IsFrom k place) (record { stage = k; place = place; first = first; slot = s }) rest (refl, omega arith) h
-    by false h = h
-
--- the parts of a node in a stage rise
-pub among_rise : (node k : ℕ) (units : List Unit) (place first : ℕ) → AllPairs Rises (parts_among node k place first units)
-among_rise node k [] place first = AllPairs-none Rises
-among_rise node k (Gate g ∷ units) place first = among_rise node k units (place + 1) first
-among_rise node k (Slot s ∷ units) place first = by (s.node == node) (among_rise node k units (place + 1) (first + s.actions + 1))
-  where
-    rest : List PartAt
-    rest = parts_among node k (place + 1) (first + s.actions + 1) units
-
-    here : PartAt
-    here = record { stage = k; place = place; first = first; slot = s }
-
-    by : (b : Bool) → AllPairs Rises rest → AllPairs Rises (cond b (here ∷ []) [] ++ rest)
-    by true h =
-        AllPairs-cons Rises here rest
-        (All-weaker (IsFrom k (place + 1)) (Rises here) (λ a own. let le = own.1 in inr (sym own.0, omega (arith, le))) rest (among_from node k units (place + 1) (first + s.actions + 1))) h
-    by false h = h
 
 abbrev one_if : Bool → ℕ
 one_if b = cond b 1 0

@@ -8,7 +8,7 @@ use Rattle.std.proofs.lemmas.Nat.{shr-shr, shr_split, shr_below, mod_low}
 use Rattle.std.proofs.lemmas.Nat.Bits.{same_from_bits_below}
 use Rattle.std.proofs.Math.Nat.{mod-eq_of_lt}
 use Rattle.rmt_bits.specs.Bits.{slice, deposit}
-use Rattle.rmt_bits.proofs.BitLaws.{slice-lt, mod-from_low, deposit-add, slice-slice, deposit-multiple}
+use Rattle.rmt_bits.proofs.BitLaws.{slice-lt, mod-from_low, deposit-add, slice-slice, deposit-multiple, turned}
 use Rattle.rmt_bits.proofs.ByteLaws.{deposit-raised}
 use Rattle.rmt_config.specs.Cells.{Blocks, unit_row}
 use Rattle.rmt_config.proofs.UnitBits.{Within, unit_bit, slice-bit}
@@ -43,9 +43,6 @@ unit_row-same size new old row [] same = refl
 unit_row-same size new old row (b ∷ blocks) same =
     ap (λ n. n + 2 ^ size * unit_row size new row blocks) (same 0 (omega arith))
     ∙ ap (λ n. old b row + 2 ^ size * n) (unit_row-same size new old row blocks (λ i lt. same (suc i) (omega (arith, lt))))
-
-turned : (a b m : ℕ) → a + m * b ≡ b * m + a
-turned a b m = omega arith
 
 -- bits that are put into one of the blocks are put into the row
 pub unit_row-put : (size : ℕ) (new old : Blocks) (row : ℕ) (blocks : List ℕ) (o t l x : ℕ) → Within size old → o < length blocks → t + l ≤ size

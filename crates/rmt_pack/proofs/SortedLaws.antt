@@ -10,10 +10,10 @@ use Rattle.rmt_ast.specs.declared.entry.Entry.{Entry}
 use Rattle.rmt_config.specs.NamesForm.{by_number, with_entry}
 use Rattle.rmt_pack.proofs.SameRiseLaws.{same_rising}
 
-abbrev IsBelow : Entry → Entry → Type 0
+abbrev pub IsBelow : Entry → Entry → Type 0
 IsBelow a b = a.number < b.number
 
-abbrev Differ : Entry → Entry → Type 0
+abbrev pub Differ : Entry → Entry → Type 0
 Differ a b = a.number ≢ b.number
 
 none_there : {A : Type 0} (x : Entry) → Contains [] x → A

@@ -15,7 +15,7 @@ use Rattle.rmt_pack.specs.declared.format.Format.{Format}
 use Rattle.rmt_pack.specs.declared.format.Need.{Need}
 use Rattle.rmt_pack.specs.declared.placement.Part.{Part}
 use Rattle.rmt_pack.specs.declared.placement.Placement.{Placement}
-use Rattle.rmt_pack.specs.Formats.{no_memory, need_of, IsFormat}
+use Rattle.rmt_pack.specs.Formats.{no_memory, need_of, IsFormat, memory_format}
 
 -- ---- what a program's tables need
 
@@ -101,3 +101,8 @@ IsLegal p edges placement = (formats : ℕ → Format) × IsLegalWith p edges fo
 -- how many stages a placement has: the greatest of its stages and 1 more, or none
 abbrev pub stage_count : Placement → ℕ
 stage_count placement = fold max 0 (map (λ (x : Part). x.stage + 1) placement.parts)
+
+-- the memory format of a node, by the rule; a gate has no memory
+abbrev pub what_format : Program → What → Format
+what_format p (Apply t) = unwrap_or (option_map (λ (table : Table). memory_format table.kind (table_need p table)) (slice_get p.tables t)) no_memory
+what_format p (Gate field test) = no_memory

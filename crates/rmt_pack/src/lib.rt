@@ -2,6 +2,7 @@
 #![tactic(auto)]
 
 pub mod cell;
+pub mod encoding;
 pub mod fault;
 pub mod format;
 pub mod head;

@@ -39,10 +39,6 @@ free_bit_more taken f lane v = sum_by_push (λ (x : Piece). cond (eqb x.lane.wor
 holds_more : (test : ℕ → Bool) (taken : List Piece) (f : ℕ) (lane : Lane) (v : ℕ) → holds test (more taken f lane) v ≡ (holds test taken v || ((eqb lane.word v && test f) || false))
 holds_more test taken f lane v = list_any-append (λ (x : Piece). eqb x.lane.word v && test x.field) taken (pieces_at f (lane ∷ []))
 
-or_none : (b : Bool) → (b || false) ≡ b
-or_none true = refl
-or_none false = refl
-
 -- the sets of a word and of a field meet where some action assigns the field and one with a piece in the word
 pub clash_is : (p : Program) (f : ℕ) (taken : List Piece) (own : List Lane) (writers : List ℕ) (words : List Word) (w : ℕ) (d : Word) (m : Bool)
     → Packs p f taken own writers words → w < 224 → (IsTrue m ↔ Meet (get_or words w d).writers writers)

@@ -71,6 +71,4 @@ parts_apart demands edges nodes final distinct is =
 
 pub order_distinct : (levels : List ℕ) → AllPairs (λ m n. m ≡ n → ⊥) (order_of levels)
 order_distinct levels i j d lt below same =
-    let goes = order_goes levels i j d lt below in
-    let less = goes.number (ap (λ (m : ℕ). get_or levels m 0) same) in
-    omega (arith, less, same)
+    omega (arith, (order_goes levels i j d lt below).number (ap (λ (m : ℕ). get_or levels m 0) same), same)

@@ -3,6 +3,7 @@ use Rattle.std.proofs.Common.{◌≡◌, ℕ, ◌<◌, ◌≤◌, List, length, 
 use Rattle.std.specs.List.{All, AllPairs}
 use Rattle.std.proofs.lemmas.List.Elements.{Contains-get_or}
 use Rattle.rmt_bits.specs.declared.lane.Lane.{Lane}
+use Rattle.rmt_bits.proofs.MemberLaws.{Contains-from_any, among-Contains}
 use Rattle.rmt_ast.specs.declared.deps.Deps.{Deps}
 use Rattle.rmt_ast.specs.declared.program.Program.{Program}
 use Rattle.rmt_ast.specs.WellFormed.{IsProgram}
@@ -15,7 +16,6 @@ use Rattle.rmt_place.specs.Needs.{demand_at, demands_of, keeps_limits}
 use Rattle.rmt_place.specs.Placing.{AreTwo, IsGoodOrder, IsPart, placement_in, rule_order, standing_in}
 use Rattle.rmt_place.proofs.ApartLaws.{order_distinct, parts_apart}
 use Rattle.rmt_place.proofs.KeepLaws.{forward_keeps, in_order, parts_placed}
-use Rattle.rmt_place.proofs.LeastLaws.{contains_in, in_contains}
 use Rattle.rmt_place.proofs.LegalLaws.{format_at}
 use Rattle.rmt_place.proofs.LegalPlacement.{kept_legal, placed_whole, rule_has_all}
 use Rattle.rmt_place.proofs.LimitLaws.{limits_kept}
@@ -25,7 +25,7 @@ use Rattle.rmt_place.proofs.QuantaLaws.{quanta_few}
 pub rule_good : (deps : Deps) (nodes : ℕ) → GoForward nodes deps → IsGoodOrder nodes (all_edges deps) (rule_order deps nodes)
 rule_good deps nodes forward = record {
   numbers = subst (λ (m : ℕ). All (λ n. n < m) (rule_order deps nodes)) (length-levels_of deps nodes) (order_nodes (levels_of deps nodes));
-  all_there = λ n lt. in_contains (rule_order deps nodes) n (rule_has_all deps nodes n forward lt);
+  all_there = λ n lt. Contains-from_any (rule_order deps nodes) n (rule_has_all deps nodes n forward lt);
   once = order_distinct (levels_of deps nodes);
   forward = λ i d lt. in_order deps nodes (get_or (all_edges deps) i d) forward (Contains-get_or (all_edges deps) i d lt);
 }
@@ -47,7 +47,7 @@ good_keeps p places deps order parts program forward good is =
     let limits = limits_kept demands (all_edges deps) order parts is in
     let each = parts_placed demands (all_edges deps) (length p.nodes) order parts good.numbers is in
     let whole : (n : ℕ) → n < length p.nodes → (demand_at demands n).quanta ≤ quanta_of parts n =
-    λ n lt. placed_whole demands (all_edges deps) order parts n (contains_in order n (good.all_there n lt)) is in
+    λ n lt. placed_whole demands (all_edges deps) order parts n (among-Contains order n (good.all_there n lt)) is in
     record {
       edges = edges;
       limits = limits;
@@ -55,7 +55,5 @@ good_keeps p places deps order parts program forward good is =
       parts = each;
       apart = parts_apart demands (all_edges deps) order parts good.once is;
       quanta = λ n lt.
-          let least = whole n lt in
-          let most = quanta_few demands (all_edges deps) order parts n good.once is in
-          omega (arith, least, most);
+          omega (arith, whole n lt, quanta_few demands (all_edges deps) order parts n good.once is);
     }

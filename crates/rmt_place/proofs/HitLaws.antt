@@ -86,9 +86,7 @@ list_is o k rest ks hit stages passed =
 left-le : (demands : List Demand) (parts : List Part) (n a m left : ℕ) → (spread demands parts n (range_with_len a m) left).left ≤ left
 left-le demands parts n a zero left = omega arith
 left-le demands parts n a (suc m) left =
-    let taken = fitting (standing_in demands parts a) (demand_at demands n) left in
-    let rest = left-le demands parts n (a + 1) m (left - taken) in
-    omega (arith, rest)
+    omega (arith, left-le demands parts n (a + 1) m (left - (fitting (standing_in demands parts a) (demand_at demands n) left)))
 
 hits_tell : (demands : List Demand) (parts : List Part) (n a m left : ℕ) → 1 ≤ (spread demands parts n (range_with_len a m) left).left
     → (map (λ (h : LimitHit). h.stage) (hits_in demands parts n (range_with_len a m) left) ≡ range_with_len a m) × All Passes (hits_in demands parts n (range_with_len a m) left)
@@ -98,8 +96,7 @@ hits_tell demands parts n a (suc m) left some =
     let d = demand_at demands n in
     let taken = fitting xs d left in
     let rest = hits_tell demands parts n (a + 1) m (left - taken) some in
-    let le = left-le demands parts n (a + 1) m (left - taken) in
-    let fewer : taken < left = omega (arith, le, some) in
+    let fewer : taken < left = omega (arith, left-le demands parts n (a + 1) m (left - taken), some) in
     list_is (hit_beside a xs d taken) a (hits_in demands parts n (range_with_len (a + 1) m) (left - taken)) (range_with_len (a + 1) m) (hit_there a xs d left fewer) rest.0 rest.1
 
 -- there are only 32 stages

@@ -1,5 +1,5 @@
 -- What placements keep: each edge, and where parts stand.
-use Rattle.std.proofs.Common.{◌≡◌, ℕ, zero, suc, ◌+◌, ◌-◌, ◌<◌, ◌≤◌, List, [], ◌∷◌, ◌++◌, length, get_or, filter, Bool, true, false, cond, eqb, Ok, Err, Result, inl, inr, sym, refl, subst, ap, ◌∙◌, arith}
+use Rattle.std.proofs.Common.{◌≡◌, ℕ, zero, suc, ◌+◌, ◌-◌, ◌<◌, ◌≤◌, List, [], ◌∷◌, ◌++◌, get_or, filter, Bool, true, false, cond, eqb, Ok, Err, Result, inl, inr, sym, refl, subst, ap, ◌∙◌, arith}
 use Rattle.std.specs.List.{All, Contains, range_with_len}
 use Rattle.std.specs.Prelude.{MatchBool}
 use Rattle.std.proofs.lemmas.Bool.{eqb-false, cases_lt, eq-eqb}
@@ -185,8 +185,7 @@ level-le : (deps : Deps) (nodes : ℕ) (e : Edge) → GoForward nodes deps → C
     → get_or (levels_of deps nodes) e.from 0 ≤ get_or (levels_of deps nodes) e.to 0
 level-le deps nodes e forward there within =
     let path = path_there deps nodes forward nodes e.from within within in
-    let longer = path-le deps nodes forward e.to (e ∷ path.0) (there, refl, path.1) in
-    omega (arith, longer, path.2, longer-strict e path.0)
+    omega (arith, path-le deps nodes forward e.to (e ∷ path.0) (there, refl, path.1), path.2, longer-strict e path.0)
 
 -- the first node of an edge doesn't come behind the second in the rule's order
 pub in_order : (deps : Deps) (nodes : ℕ) (e : Edge) → GoForward nodes deps → Contains (all_edges deps) e → InOrder e (order_of (levels_of deps nodes))
@@ -201,21 +200,13 @@ in_order deps nodes e forward there i j d lt below to from =
     let level_x : get_or levels x 0 ≡ get_or levels e.to 0 = ap (λ (n : ℕ). get_or levels n 0) to in
     let level_y : get_or levels y 0 ≡ get_or levels e.from 0 = ap (λ (n : ℕ). get_or levels n 0) from in
     let same : get_or levels x 0 ≡ get_or levels y 0 = omega (arith, goes.level, le, level_x, level_y) in
-    let before = goes.number same in
-    omega (arith, before, to, from, e_forward.later)
+    omega (arith, goes.number same, to, from, e_forward.later)
 
 -- every edge is kept that the order has forward
 pub forward_keeps : (demands : List Demand) (deps : Deps) (nodes : ℕ) (order : List ℕ) (final : List Part) → GoForward nodes deps → All (λ e. InOrder e order) (all_edges deps)
     → placement_in demands deps order ≡ Ok final → All (λ e. KeepsEdge e final) (all_edges deps)
 forward_keeps demands deps nodes order final forward good is = λ i d lt.
     placed_keeps demands (all_edges deps) (get_or (all_edges deps) i d) order final (Contains-get_or (all_edges deps) i d lt) (edges_forward deps nodes forward i d lt).later (good i d lt) is
-
--- so the rule's placement keeps every edge
-pub placement_keeps : (demands : List Demand) (deps : Deps) (final : List Part) → GoForward (length demands) deps
-    → placed_all demands (all_edges deps) (order_of (levels_of deps (length demands))) [] ≡ Ok final → All (λ e. KeepsEdge e final) (all_edges deps)
-placement_keeps demands deps final forward is =
-    forward_keeps demands deps (length demands) (order_of (levels_of deps (length demands))) final forward
-    (λ i d lt. in_order deps (length demands) (get_or (all_edges deps) i d) forward (Contains-get_or (all_edges deps) i d lt)) is
 
 -- ---- parts
 

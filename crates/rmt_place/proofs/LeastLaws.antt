@@ -1,16 +1,18 @@
 -- The starts of a placement keep all distances, and no others that do are smaller anywhere.
-use Rattle.std.proofs.Common.{◌≡◌, ℕ, zero, suc, ◌+◌, ◌<◌, ◌≤◌, List, [], ◌∷◌, ◌++◌, length, get_or, filter, max, Bool, true, false, cond, eqb, ◌||◌, length-append, inl, inr, sym, refl, subst, ap, ◌∙◌, arith}
+use Rattle.std.proofs.Common.{◌≡◌, ℕ, zero, suc, ◌+◌, ◌<◌, ◌≤◌, List, [], ◌∷◌, ◌++◌, length, get_or, filter, max, Bool, true, false, cond, eqb, length-append, inl, inr, sym, refl, subst, ap, ◌∙◌, arith}
 use Rattle.std.specs.List.{All, Contains, flat_map, fold, range_with_len}
 use Rattle.std.specs.Prelude.{slice_index}
 use Rattle.std.proofs.Math.ListN.{get_or-append}
 use Rattle.std.proofs.Math.Seq.{get_or-append_seam}
-use Rattle.std.proofs.lemmas.Bool.{cases_lt, eqb-true, eq-eqb, or_cases, false≢true, or_right}
-use Rattle.std.proofs.lemmas.List.Elements.{All-nil, All-map, All-contains, All-from_get_or, Contains-get_or, Contains-append_right}
+use Rattle.std.proofs.lemmas.Bool.{cases_lt}
+use Rattle.std.proofs.lemmas.List.Elements.{All-nil, All-map, All-contains, All-from_get_or, Contains-get_or}
 use Rattle.rmt_bits.proofs.AllLaws.{All-flat_map, All-parts, All-unfilter, All-unmap, All-between}
 use Rattle.rmt_bits.proofs.ListLaws.{flat_map-none}
+use Rattle.rmt_bits.specs.Members.{is_among}
+use Rattle.rmt_bits.proofs.MemberLaws.{Contains-from_any, among-Contains}
 pub use Rattle.rmt_bits.proofs.MostLaws.{greatest-le, items-le, start-le}
 use Rattle.rmt_ast.specs.declared.deps.Edge.{Edge}
-use Rattle.rmt_config.specs.Resources.{greatest_by, is_in}
+use Rattle.rmt_config.specs.Resources.{greatest_by}
 use Rattle.rmt_pack.specs.declared.placement.Part.{Part}
 use Rattle.rmt_pack.specs.Starts.{distance, stages_of, KeepDistances}
 use Rattle.rmt_pack.proofs.FormatLaws.{filtered, of_range}
@@ -18,21 +20,6 @@ use Rattle.rmt_place.specs.Starting.{asked_by, next_start, stages_in, starts_beh
 use Rattle.rmt_place.proofs.StartLaws.{starts_until, starts_more}
 
 -- ---- numbers in lists
-
-pub in_contains : (ns : List ℕ) (n : ℕ) → is_in ns n ≡ true → Contains ns n
-in_contains [] n is = absurd (false≢true is)
-in_contains (m ∷ ns) n is = elim (or_cases (eqb m n) (is_in ns n) is) [
-  | inl here ↦ (0, omega arith, eqb-true m n here)
-  | inr later ↦ Contains-append_right (m ∷ []) ns n (in_contains ns n later)
-]
-
-pub contains_in : (ns : List ℕ) (n : ℕ) → Contains ns n → is_in ns n ≡ true
-contains_in ns n c = in_at ns n c.0 c.1 c.2
-  where
-    in_at : (ms : List ℕ) (m k : ℕ) → k < length ms → get_or ms k m ≡ m → is_in ms m ≡ true
-    in_at [] m k lt is = absurd (omega arith)
-    in_at (x ∷ ms) m zero lt is = ap (λ b. b || is_in ms m) (eq-eqb x m is)
-    in_at (x ∷ ms) m (suc k) lt is = or_right (eqb x m) (is_in ms m) (in_at ms m k (omega arith) is)
 
 -- ---- starts of the first stages
 
@@ -72,10 +59,9 @@ start_stays edges parts m k j lt le = start_is edges parts k j lt ∙ sym (start
 -- the next start is behind all before it, and keeps what each edge asks
 next-behind : (edges : List Edge) (parts : List Part) (starts : List ℕ) (j : ℕ) → j < length starts → get_or starts j 0 + 1 ≤ next_start edges parts starts
 next-behind edges parts starts j lt =
-    let asked = flat_map (asked_by starts parts (length starts)) edges in
     let rising = greatest_by (λ start. start + 1) starts in
     let one : get_or starts j 0 + 1 ≤ rising = items-le (λ start. start + 1) 0 starts j 0 lt in
-    omega (arith, one, start-le (λ s. s) (max 0 rising) asked)
+    omega (arith, one, start-le (λ s. s) (max 0 rising) (flat_map (asked_by starts parts (length starts)) edges))
 
 next-asked : (edges : List Edge) (parts : List Part) (starts : List ℕ) (e : Edge) (j : ℕ) → Contains edges e → Contains (stages_of parts e.from) j
     → Contains (stages_of parts e.to) (length starts) → j < length starts → get_or starts j 0 + distance e.kind ≤ next_start edges parts starts
@@ -87,12 +73,12 @@ next-asked edges parts starts e j there from to lt =
     let all : All (λ s. s ≤ next) (flat_map asked edges) = items-le (λ s. s) (max 0 rising) (flat_map asked edges) in
     let own : All (λ s. s ≤ next) (asked e) = All-contains (λ x. All (λ s. s ≤ next) (asked x)) edges e (All-parts (λ s. s ≤ next) asked edges all) there in
     let behind : All (λ s. s ≤ next) (starts_behind starts parts k e.from (distance e.kind)) =
-    subst (λ (b : Bool). All (λ s. s ≤ next) (cond b (starts_behind starts parts k e.from (distance e.kind)) [])) (contains_in (stages_of parts e.to) k to) own in
-    let kept : All (λ i. get_or starts i 0 + distance e.kind ≤ next) (filter (is_in (stages_of parts e.from)) (range_with_len 0 k)) =
-    All-unmap (λ s. s ≤ next) (λ i. slice_index starts i + distance e.kind) (filter (is_in (stages_of parts e.from)) (range_with_len 0 k)) behind in
-    of_range (λ i. is_in (stages_of parts e.from) i ≡ true → get_or starts i 0 + distance e.kind ≤ next) 0 k j (omega arith) (omega arith)
-    (All-unfilter (λ i. get_or starts i 0 + distance e.kind ≤ next) (is_in (stages_of parts e.from)) (range_with_len 0 k) kept)
-    (contains_in (stages_of parts e.from) j from)
+    subst (λ (b : Bool). All (λ s. s ≤ next) (cond b (starts_behind starts parts k e.from (distance e.kind)) [])) (among-Contains (stages_of parts e.to) k to) own in
+    let kept : All (λ i. get_or starts i 0 + distance e.kind ≤ next) (filter (is_among (stages_of parts e.from)) (range_with_len 0 k)) =
+    All-unmap (λ s. s ≤ next) (λ i. slice_index starts i + distance e.kind) (filter (is_among (stages_of parts e.from)) (range_with_len 0 k)) behind in
+    of_range (λ i. is_among (stages_of parts e.from) i ≡ true → get_or starts i 0 + distance e.kind ≤ next) 0 k j (omega arith) (omega arith)
+    (All-unfilter (λ i. get_or starts i 0 + distance e.kind ≤ next) (is_among (stages_of parts e.from)) (range_with_len 0 k) kept)
+    (among-Contains (stages_of parts e.from) j from)
 
 -- ---- all stages
 
@@ -105,7 +91,7 @@ stage-lt parts n k there =
     All-contains (λ j. j < stages_in parts) (stages_of parts n) k (All-map (λ j. j < stages_in parts) (λ (x : Part). x.stage) (filter (λ (x : Part). eqb x.node n) parts) own) there
 
 asked_nothing : (parts : List Part) (e : Edge) → asked_by [] parts 0 e ≡ []
-asked_nothing parts e = by_cases (is_in (stages_of parts e.to) 0)
+asked_nothing parts e = by_cases (is_among (stages_of parts e.to) 0)
   where
     by_cases : (b : Bool) → cond b (starts_behind [] parts 0 e.from (distance e.kind)) [] ≡ []
     by_cases true = refl
@@ -123,8 +109,7 @@ starts_kept edges parts =
     record {
       first = λ some. start_is edges parts m 0 (omega (arith, size)) ∙ first_start edges parts;
       rise = λ j k lt below.
-          let sized = length-until edges parts k in
-          let next = next-behind edges parts (starts_until edges parts k) j (omega (arith, sized)) in
+          let next = next-behind edges parts (starts_until edges parts k) j (omega (arith, length-until edges parts k)) in
           omega (arith, next, start_is edges parts m k (omega (arith, size)), start_stays edges parts m k j lt (omega (arith, size)));
       apart = λ e j k there from to lt.
           let sized = length-until edges parts k in
@@ -149,18 +134,18 @@ next-le edges parts starts others k keep size below earlier =
     greatest-le (λ s. s) (max 0 (greatest_by (λ start. start + 1) starts)) most (flat_map (asked_by starts parts (length starts)) edges) (omega arith) asked
   where
     asked_one : (e : Edge) → Contains edges e → All (λ s. s ≤ get_or others k 0) (asked_by starts parts (length starts) e)
-    asked_one e there = by_stage (is_in (stages_of parts e.to) (length starts)) refl
+    asked_one e there = by_stage (is_among (stages_of parts e.to) (length starts)) refl
       where
-        by_stage : (b : Bool) → is_in (stages_of parts e.to) (length starts) ≡ b → All (λ s. s ≤ get_or others k 0) (cond b (starts_behind starts parts (length starts) e.from (distance e.kind)) [])
+        by_stage : (b : Bool) → is_among (stages_of parts e.to) (length starts) ≡ b → All (λ s. s ≤ get_or others k 0) (cond b (starts_behind starts parts (length starts) e.from (distance e.kind)) [])
         by_stage false _ = All-nil (λ s. s ≤ get_or others k 0)
         by_stage true is =
-            All-map (λ s. s ≤ get_or others k 0) (λ i. slice_index starts i + distance e.kind) (filter (is_in (stages_of parts e.from)) (range_with_len 0 (length starts)))
-            (filtered (λ i. get_or starts i 0 + distance e.kind ≤ get_or others k 0) (is_in (stages_of parts e.from)) (range_with_len 0 (length starts))
-            (All-between (λ i. is_in (stages_of parts e.from) i ≡ true → get_or starts i 0 + distance e.kind ≤ get_or others k 0) 0 (length starts)
+            All-map (λ s. s ≤ get_or others k 0) (λ i. slice_index starts i + distance e.kind) (filter (is_among (stages_of parts e.from)) (range_with_len 0 (length starts)))
+            (filtered (λ i. get_or starts i 0 + distance e.kind ≤ get_or others k 0) (is_among (stages_of parts e.from)) (range_with_len 0 (length starts))
+            (All-between (λ i. is_among (stages_of parts e.from) i ≡ true → get_or starts i 0 + distance e.kind ≤ get_or others k 0) 0 (length starts)
             (λ i low high from.
             (let at : length starts ≡ k = size in
-            let to : Contains (stages_of parts e.to) k = subst (λ (j : ℕ). Contains (stages_of parts e.to) j) at (in_contains (stages_of parts e.to) (length starts) is) in
-            let far = keep.apart e i k there (in_contains (stages_of parts e.from) i from) to (omega arith) in
+            let to : Contains (stages_of parts e.to) k = subst (λ (j : ℕ). Contains (stages_of parts e.to) j) at (Contains-from_any (stages_of parts e.to) (length starts) is) in
+            let far = keep.apart e i k there (Contains-from_any (stages_of parts e.from) i from) to (omega arith) in
             omega (arith, far, earlier i (omega arith))))))
 
 -- No start of starts that keep the distances is smaller.

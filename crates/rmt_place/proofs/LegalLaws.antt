@@ -5,6 +5,7 @@ use Rattle.std.specs.Prelude.{nat_lt, slice_get}
 use Rattle.std.proofs.lemmas.Bool.{cases_eq, eq-eqb, ne_eqb}
 use Rattle.std.proofs.lemmas.List.Elements.{All-head, All-tail, All-map}
 use Rattle.std.proofs.lemmas.List.Sums.{sum_by-append, sum_by-cons}
+use Rattle.std.proofs.lemmas.Bool.Decides.{nat_tests}
 use Rattle.rmt_bits.specs.declared.lane.Lane.{Lane}
 use Rattle.rmt_ast.specs.declared.program.Program.{Program}
 use Rattle.rmt_ast.specs.declared.program.Table.{Table}
@@ -14,7 +15,7 @@ use Rattle.rmt_ast.specs.declared.program.What.TheVariants.{Apply, Gate}
 use Rattle.rmt_pack.specs.declared.format.Format.{Format}
 use Rattle.rmt_pack.specs.declared.placement.Part.{Part}
 use Rattle.rmt_pack.specs.Formats.{memory_format, no_memory}
-use Rattle.rmt_pack.specs.Placements.{quanta_in, quanta_of, table_need}
+use Rattle.rmt_pack.specs.Placements.{quanta_in, quanta_of, table_need, what_format}
 use Rattle.rmt_place.specs.declared.demand.Demand.{Demand}
 use Rattle.rmt_place.specs.Needs.{Standing, demand_at, demands_of, keeps_limits, nothing, table_demand, what_demands}
 use Rattle.rmt_place.specs.Placing.{beside, fitting, spread, standing_in, taken_part}
@@ -60,11 +61,9 @@ by_parts : (u : List Part → ℕ → ℕ) (w : Part → ℕ) (count : ℕ) → 
     → (parts : List Part) → sum_by (u parts) (range_with_len 0 count) ≤ sum_by w parts
 by_parts u w count none more [] = omega (arith, sum-le (u []) (λ n. 0) (range_with_len 0 count) none, zeros (range_with_len 0 count))
 by_parts u w count none more (x ∷ parts) =
-    let rest = by_parts u w count none more parts in
     let le = sum-le (u (x ∷ parts)) (λ n. u parts n + only x.node (w x) n) (range_with_len 0 count) (more x parts) in
     let add = sum-add (u parts) (only x.node (w x)) (range_with_len 0 count) in
-    let one = only-le x.node (w x) 0 count in
-    omega (arith, rest, le, add, one, sum_by-cons w x parts)
+    omega (arith, by_parts u w count none more parts, le, add, only-le x.node (w x) 0 count, sum_by-cons w x parts)
 
 -- ---- what stands in a stage
 
@@ -115,26 +114,15 @@ taken-le demands parts f g count k is =
           sum_by-cons (λ (y : Part). cond (eqb y.node n && eqb y.stage k) y.quanta 0) x ps ∙ ap (λ b. cond (b && eqb x.stage k) x.quanta 0 + quanta_in ps n k) test in
           let own : only x.node (cond (eqb x.stage k) (x.quanta * g (demand_at demands x.node)) 0) n ≡ cond (eqb x.stage k) (x.quanta * g (demand_at demands x.node)) 0 =
           ap (λ b. cond b (cond (eqb x.stage k) (x.quanta * g (demand_at demands x.node)) 0) 0) test in
-          let weigh = times_cond (eqb x.stage k) x.quanta (g (demand_at demands x.node)) in
           let left : quanta_in (x ∷ ps) n k * f n ≡ (cond (eqb x.stage k) x.quanta 0 + quanta_in ps n k) * f n = ap (λ m. m * f n) first in
           let spread : (cond (eqb x.stage k) x.quanta 0 + quanta_in ps n k) * f n ≡ cond (eqb x.stage k) x.quanta 0 * f n + quanta_in ps n k * f n = omega arith in
           let at : cond (eqb x.stage k) x.quanta 0 * f n ≡ cond (eqb x.stage k) x.quanta 0 * g (demand_at demands x.node) = ap (λ m. cond (eqb x.stage k) x.quanta 0 * m) blocks in
-          omega (arith, left, spread, at, weigh, own)
+          omega (arith, left, spread, at, times_cond (eqb x.stage k) x.quanta (g (demand_at demands x.node)), own)
       | inr other ↦
-          let first : quanta_in (x ∷ ps) n k ≡ 0 + quanta_in ps n k =
-          sum_by-cons (λ (y : Part). cond (eqb y.node n && eqb y.stage k) y.quanta 0) x ps ∙ ap (λ b. cond (b && eqb x.stage k) x.quanta 0 + quanta_in ps n k) (ne_eqb x.node n other) in
-          let same : quanta_in (x ∷ ps) n k ≡ quanta_in ps n k = omega (arith, first) in
-          let left : quanta_in (x ∷ ps) n k * f n ≡ quanta_in ps n k * f n = ap (λ m. m * f n) same in
-          omega (arith, left)
+          let first = sum_by-cons (λ (y : Part). cond (eqb y.node n && eqb y.stage k) y.quanta 0) x ps in
+          let same : quanta_in (x ∷ ps) n k ≡ quanta_in ps n k = grind (arith, nat_tests, first, other) in
+          omega (arith, ap (λ m. m * f n) same)
     ]
-
-and_false : (b : Bool) → (b && false) ≡ false
-and_false true = refl
-and_false false = refl
-
-at_most_one : (b : Bool) → cond b 1 0 ≤ 1
-at_most_one true = omega arith
-at_most_one false = omega arith
 
 no_table : (b : Bool) → cond (b && false) 1 0 ≤ 0
 no_table true = omega arith
@@ -153,41 +141,11 @@ tables-le demands parts is_table count k slots =
 
     one_more : (x : Part) (ps : List Part) (n : ℕ) (b : Bool) → is_table n ≡ b
         → cond (is_table n && nat_lt 0 (quanta_in (x ∷ ps) n k)) 1 0 ≤ cond (is_table n && nat_lt 0 (quanta_in ps n k)) 1 0 + only x.node (cond (eqb x.stage k) (demand_at demands x.node).slots 0) n
-    one_more x ps n false e =
-        let none : ◌≡◌ {A = ℕ} (cond (is_table n && nat_lt 0 (quanta_in (x ∷ ps) n k)) 1 0) 0 = ap (λ b. cond (b && nat_lt 0 (quanta_in (x ∷ ps) n k)) 1 0) e in
-        omega (arith, none)
-    one_more x ps n true e = elim (cases_eq x.node n) [
-      | inl same ↦ elim (cases_eq x.stage k) [
-        | inl here ↦
-            let own : only x.node (cond (eqb x.stage k) (demand_at demands x.node).slots 0) n ≡ (demand_at demands x.node).slots =
-            ap (λ b. cond b (cond (eqb x.stage k) (demand_at demands x.node).slots 0) 0) (eq-eqb x.node n same)
-            ∙ ap (λ b. cond b (demand_at demands x.node).slots 0) (eq-eqb x.stage k here) in
-            let one : (demand_at demands x.node).slots ≡ 1 = ap (λ (m : ℕ). (demand_at demands m).slots) same ∙ slots n e in
-            omega (arith, at_most_one (is_table n && nat_lt 0 (quanta_in (x ∷ ps) n k)), own, one)
-        | inr elsewhere ↦
-            let first : quanta_in (x ∷ ps) n k ≡ 0 + quanta_in ps n k =
-            sum_by-cons (λ (y : Part). cond (eqb y.node n && eqb y.stage k) y.quanta 0) x ps ∙ (ap (λ b. cond (eqb x.node n && b) x.quanta 0 + quanta_in ps n k) (ne_eqb x.stage k elsewhere)
-            ∙ ap (λ b. cond b x.quanta 0 + quanta_in ps n k) (and_false (eqb x.node n))) in
-            let same_quanta : quanta_in (x ∷ ps) n k ≡ quanta_in ps n k = omega (arith, first) in
-            let alike : ◌≡◌ {A = ℕ} (cond (is_table n && nat_lt 0 (quanta_in (x ∷ ps) n k)) 1 0) (cond (is_table n && nat_lt 0 (quanta_in ps n k)) 1 0) =
-            ap (λ m. cond (is_table n && nat_lt 0 m) 1 0) same_quanta in
-            omega (arith, alike)
-      ]
-      | inr other ↦
-          let first : quanta_in (x ∷ ps) n k ≡ 0 + quanta_in ps n k =
-          sum_by-cons (λ (y : Part). cond (eqb y.node n && eqb y.stage k) y.quanta 0) x ps ∙ ap (λ b. cond (b && eqb x.stage k) x.quanta 0 + quanta_in ps n k) (ne_eqb x.node n other) in
-          let same_quanta : quanta_in (x ∷ ps) n k ≡ quanta_in ps n k = omega (arith, first) in
-          let alike : ◌≡◌ {A = ℕ} (cond (is_table n && nat_lt 0 (quanta_in (x ∷ ps) n k)) 1 0) (cond (is_table n && nat_lt 0 (quanta_in ps n k)) 1 0) =
-          ap (λ m. cond (is_table n && nat_lt 0 m) 1 0) same_quanta in
-          omega (arith, alike)
-    ]
+    one_more x ps n b e =
+        let one : x.node ≡ n → is_table n ≡ true → (demand_at demands x.node).slots ≡ 1 = λ same table. ap (λ (m : ℕ). (demand_at demands m).slots) same ∙ slots n table in
+        grind (arith, nat_tests, sum_by-cons (λ (y : Part). cond (eqb y.node n && eqb y.stage k) y.quanta 0) x ps, one)
 
 -- ---- formats
-
--- the format of what a node does
-abbrev pub what_format : Program → What → Format
-what_format p (Apply t) = unwrap_or (option_map (λ (table : Table). memory_format table.kind (table_need p table)) (slice_get p.tables t)) no_memory
-what_format p (Gate field test) = no_memory
 
 -- the format of the node of a number
 abbrev pub format_at : Program → ℕ → Format

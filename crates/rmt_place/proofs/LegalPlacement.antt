@@ -9,6 +9,8 @@ use Rattle.std.proofs.lemmas.List.Sums.{sum_by-append}
 use Rattle.rmt_bits.specs.declared.lane.Lane.{Lane}
 use Rattle.rmt_bits.proofs.AllLaws.{All-left, All-parts, All-unfilter}
 use Rattle.rmt_bits.proofs.ListLaws.{slice_get-item}
+use Rattle.rmt_bits.specs.Members.{is_among}
+use Rattle.rmt_bits.proofs.MemberLaws.{among-Contains}
 use Rattle.rmt_ast.specs.declared.deps.Edge.{Edge}
 use Rattle.rmt_ast.specs.declared.deps.Deps.{Deps}
 use Rattle.rmt_ast.specs.declared.program.Program.{Program}
@@ -17,7 +19,6 @@ use Rattle.rmt_ast.specs.declared.program.Node.{Node}
 use Rattle.rmt_ast.specs.declared.program.What.{What}
 use Rattle.rmt_ast.specs.declared.program.What.TheVariants.{Apply, Gate}
 use Rattle.rmt_ast.specs.WellFormed.{IsProgram, IsWhat}
-use Rattle.rmt_config.specs.Resources.{is_in}
 use Rattle.rmt_config.specs.declared.limits.LimitHit.{LimitHit}
 use Rattle.rmt_deps.specs.Edges.{GoForward}
 use Rattle.rmt_deps.specs.Levels.{all_edges, levels_of}
@@ -25,7 +26,7 @@ use Rattle.rmt_deps.proofs.LevelLaws.{IsSmall-levels_of, length-levels_of}
 use Rattle.rmt_pack.specs.declared.format.Format.{Format}
 use Rattle.rmt_pack.specs.declared.placement.Part.{Part}
 use Rattle.rmt_pack.specs.Formats.{memory_format, no_memory}
-use Rattle.rmt_pack.specs.Placements.{is_table, is_table_at, IsLegalWith, IsNodeFormat, Keeps, quanta_of, table_need}
+use Rattle.rmt_pack.specs.Placements.{is_table, is_table_at, IsLegalWith, IsNodeFormat, Keeps, quanta_of, table_need, what_format}
 use Rattle.rmt_pack.proofs.FormatLaws.{of_range}
 use Rattle.rmt_pack.proofs.NeedLaws.{own_format}
 use Rattle.rmt_place.specs.declared.demand.Demand.{Demand}
@@ -34,19 +35,18 @@ use Rattle.rmt_place.specs.Needs.{Standing, demand_at, demands_of, keeps_limits,
 use Rattle.rmt_place.specs.Placing.{earliest_stage, hits_from, IsPart, order_of, placed_all, placed_node, settled, Spread, spread, stages_from, standing_in, Stuck}
 use Rattle.rmt_place.specs.Steps.{numbers_of}
 use Rattle.rmt_place.proofs.KeepLaws.{placed_induction, placed_is}
-use Rattle.rmt_place.proofs.LeastLaws.{contains_in}
-use Rattle.rmt_place.proofs.LegalLaws.{format_at, same_blocks, spread_quanta, tables-le, taken-le, what_format}
+use Rattle.rmt_place.proofs.LegalLaws.{format_at, same_blocks, spread_quanta, tables-le, taken-le}
 use Rattle.rmt_place.proofs.StageLaws.{kept_at}
 
 -- ---- every node is placed
 
-not_in : (ns : List ℕ) (n : ℕ) → is_in ns n ≡ false → All (λ m. m ≡ n → ⊥) ns
-not_in ns n none i d lt same = false≢true (sym none ∙ contains_in ns n (i, lt, get_or_default ns i n d lt ∙ same))
+not_in : (ns : List ℕ) (n : ℕ) → is_among ns n ≡ false → All (λ m. m ≡ n → ⊥) ns
+not_in ns n none i d lt same = false≢true (sym none ∙ among-Contains ns n (i, lt, get_or_default ns i n d lt ∙ same))
 
-pub all_there : (levels : List ℕ) (n : ℕ) → n < length levels → get_or levels n 0 < length levels → is_in (order_of levels) n ≡ true
-all_there levels n lt small = by_cases (is_in (order_of levels) n) refl
+pub all_there : (levels : List ℕ) (n : ℕ) → n < length levels → get_or levels n 0 < length levels → is_among (order_of levels) n ≡ true
+all_there levels n lt small = by_cases (is_among (order_of levels) n) refl
   where
-    by_cases : (b : Bool) → is_in (order_of levels) n ≡ b → b ≡ true
+    by_cases : (b : Bool) → is_among (order_of levels) n ≡ b → b ≡ true
     by_cases true e = refl
     by_cases false e =
         let level = get_or levels n 0 in
@@ -63,18 +63,17 @@ settled_left n parts more hits s is = by_cases (eqb s.left 0) refl is
     by_cases false e done = absurd (cc)
 
 -- a node that was placed has all its quanta
-pub placed_whole : (demands : List Demand) (edges : List Edge) (nodes : List ℕ) (final : List Part) (n : ℕ) → is_in nodes n ≡ true
+pub placed_whole : (demands : List Demand) (edges : List Edge) (nodes : List ℕ) (final : List Part) (n : ℕ) → is_among nodes n ≡ true
     → placed_all demands edges nodes [] ≡ Ok final → (demand_at demands n).quanta ≤ quanta_of final n
 placed_whole demands edges nodes final n there is =
-    placed_induction demands edges (λ rest parts. is_in rest n ≡ false → (demand_at demands n).quanta ≤ quanta_of parts n) step nodes [] final (λ none. absurd (false≢true (sym none ∙ there))) is refl
+    placed_induction demands edges (λ rest parts. is_among rest n ≡ false → (demand_at demands n).quanta ≤ quanta_of parts n) step nodes [] final (λ none. absurd (false≢true (sym none ∙ there))) is refl
   where
-    step : (m : ℕ) (rest : List ℕ) (parts more : List Part) → (is_in (m ∷ rest) n ≡ false → (demand_at demands n).quanta ≤ quanta_of parts n)
-        → placed_node demands edges parts m ≡ Ok more → is_in rest n ≡ false → (demand_at demands n).quanta ≤ quanta_of more n
+    step : (m : ℕ) (rest : List ℕ) (parts more : List Part) → (is_among (m ∷ rest) n ≡ false → (demand_at demands n).quanta ≤ quanta_of parts n)
+        → placed_node demands edges parts m ≡ Ok more → is_among rest n ≡ false → (demand_at demands n).quanta ≤ quanta_of more n
     step m rest parts more before placed none =
         let earliest = earliest_stage edges parts m in
         let s = spread demands parts m (stages_from earliest) (demand_at demands m).quanta in
         let behind = (placed_is demands edges parts more m placed).behind in
-        let left = settled_left m parts more (hits_from demands parts m earliest) s placed in
         let split : quanta_of more n ≡ quanta_of parts n + quanta_of s.parts n =
         ap (λ (l : List Part). quanta_of l n) behind ∙ sum_by-append (λ (x : Part). cond (eqb x.node n) x.quanta 0) parts s.parts in
         elim (cases_eq m n) [
@@ -82,10 +81,9 @@ placed_whole demands edges nodes final n there is =
               let all = spread_quanta demands parts m (stages_from earliest) (demand_at demands m).quanta in
               let own : quanta_of s.parts m ≡ quanta_of s.parts n = ap (quanta_of s.parts) same in
               let needs : (demand_at demands m).quanta ≡ (demand_at demands n).quanta = ap (λ (j : ℕ). (demand_at demands j).quanta) same in
-              omega (arith, split, all, own, needs, left)
+              omega (arith, split, all, own, needs, settled_left m parts more (hits_from demands parts m earliest) s placed)
           | inr other ↦
-              let still = before (ap (λ b. b || is_in rest n) (ne_eqb m n other) ∙ none) in
-              omega (arith, split, still)
+              omega (arith, split, before (ap (λ b. b || is_among rest n) (ne_eqb m n other) ∙ none))
         ]
 
 -- ---- what nodes have
@@ -128,10 +126,6 @@ node_quanta p places program n lt =
     ∙ (what_quanta p places item.0.what (program.nodes n item.0 item.1).what
     ∙ sym (ap (λ (d : Demand). d.quanta) (mapped (λ (x : Node). what_demands p places x.what) p.nodes n item.0 nothing item.1)))
 
-what_formats : (p : Program) → IsProgram p → (w : What) → IsNodeFormat p w (what_format p w)
-what_formats p program (Apply t) = own_format p program t
-what_formats p program (Gate field test) = refl
-
 -- ---- stages past the last
 
 none_past : (demands : List Demand) (count : ℕ) (parts : List Part) (k : ℕ) → All (IsPart count) parts → 32 ≤ k → standing_in demands parts k ≡ []
@@ -163,10 +157,9 @@ kept_legal p places deps parts program edges whole all kept =
     let demands = demands_of p places in
     let everywhere = kept_everywhere demands (length p.nodes) parts all kept in
     record {
-      node_formats = λ n x is. subst (IsNodeFormat p x.what) (sym (mapped (λ (y : Node). what_format p y.what) p.nodes n x no_memory is)) (what_formats p program x.what);
+      node_formats = λ n x is. subst (IsNodeFormat p x.what) (sym (mapped (λ (y : Node). what_format p y.what) p.nodes n x no_memory is)) (own_format p program x.what);
       whole = λ n lt.
-          let quanta = whole n lt in
-          omega (arith, quanta, node_quanta p places program n lt);
+          omega (arith, whole n lt, node_quanta p places program n lt);
       order = All-left (λ e. All (λ a. All (Keeps e a) parts) parts) deps.field deps.word edges;
       sram = λ stage.
           let le = taken-le demands parts (λ n. (format_at p n).sram) (λ (d : Demand). d.sram) (length p.nodes) stage (λ n. (same_blocks p places n).sram) in
@@ -177,13 +170,12 @@ kept_legal p places deps parts program edges whole all kept =
           let most = kept_at MOST (numbers_of (standing_in demands parts stage)) 1 (everywhere stage) (omega arith) (omega arith) in
           omega (arith, le, most);
       slots = λ stage.
-          let le = tables-le demands parts (is_table_at p) (length p.nodes) stage (table_slots p places program) in
           let most = kept_at MOST (numbers_of (standing_in demands parts stage)) 4 (everywhere stage) (omega arith) (omega arith) in
-          omega (arith, le, most);
+          omega (arith, tables-le demands parts (is_table_at p) (length p.nodes) stage (table_slots p places program), most);
     }
 
 -- the rule's order has every node
-pub rule_has_all : (deps : Deps) (nodes n : ℕ) → GoForward nodes deps → n < nodes → is_in (order_of (levels_of deps nodes)) n ≡ true
+pub rule_has_all : (deps : Deps) (nodes n : ℕ) → GoForward nodes deps → n < nodes → is_among (order_of (levels_of deps nodes)) n ≡ true
 rule_has_all deps nodes n forward lt =
     let levels = levels_of deps nodes in
     let size : length levels ≡ nodes = length-levels_of deps nodes in

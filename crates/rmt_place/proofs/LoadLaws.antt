@@ -8,6 +8,7 @@ use Rattle.std.proofs.lemmas.List.{take_more, append-nil}
 use Rattle.std.proofs.lemmas.Grind.{flat_map-append}
 use Rattle.std.proofs.lemmas.List.Sums.{sum_by-append}
 use Rattle.rmt_bits.specs.Words.{word_size}
+use Rattle.rmt_bits.proofs.WordLaws.{word_size-le}
 use Rattle.rmt_config.specs.LimitSteps.{Marks, marked_sum}
 use Rattle.rmt_config.proofs.LimitLemmas.{one_marked}
 use Rattle.rmt_place.specs.declared.demand.Demand.{Demand}
@@ -266,15 +267,6 @@ hit_is stage xs d taken have more have_is more_is kept near =
     ap (λ (l : List ℕ). passed_of stage 6 MOST l more) have_is
     ∙ (ap (λ (l : List ℕ). passed_of stage 6 MOST (numbers_of (beside xs d taken)) l) more_is
     ∙ passed_told stage 6 MOST (numbers_of (beside xs d taken)) (numbers_of (beside xs d (taken + 1))) refl kept near)
-
--- words have few bits together
-word_size-le : (n : ℕ) → word_size n ≤ 32
-word_size-le n = by_cases (nat_lt n 64) (nat_lt n 160)
-  where
-    by_cases : (a b : Bool) → cond a 8 (cond b 16 32) ≤ 32
-    by_cases true b = omega arith
-    by_cases false true = omega arith
-    by_cases false false = omega arith
 
 marked_sum-le : (n : ℕ) (marks : List Bool) → marked_sum word_size n marks ≤ 32 * length marks
 marked_sum-le n [] = omega arith

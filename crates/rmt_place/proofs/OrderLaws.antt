@@ -32,9 +32,8 @@ level_goes levels level i j d lt below =
     let x = get_or (of_level levels level) i d in
     let y = get_or (of_level levels level) j d in
     let rises = AllPairs-filter (λ x y. x < y) (λ n. eqb (get_or levels n 0) level) (range_with_len 0 (length levels)) (range_rises 0 (length levels)) i j d lt below in
-    let of_x = level_is levels level i d (omega arith) in
     let of_y = level_is levels level j d below in
-    record { level = omega (arith, of_x, of_y); number = λ _. rises }
+    record { level = omega (arith, level_is levels level i d (omega arith), of_y); number = λ _. rises }
 
 abbrev first_levels : List ℕ → ℕ → List ℕ
 first_levels levels k = flat_map (of_level levels) (range_with_len 0 k)

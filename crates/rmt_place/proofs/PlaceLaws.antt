@@ -5,6 +5,7 @@ use Rattle.std.proofs.lemmas.List.Elements.{filter-append}
 use Rattle.std.proofs.lemmas.List.Sums.{fold-append}
 use Rattle.rmt_bits.proofs.AllLaws.{All-flat_map, All-between}
 use Rattle.rmt_ast.specs.declared.deps.Edge.{Edge}
+use Rattle.rmt_deps.proofs.Ends.{ending}
 use Rattle.rmt_pack.specs.declared.placement.Part.{Part}
 use Rattle.rmt_pack.proofs.FormatLaws.{filtered}
 use Rattle.rmt_place.specs.Placing.{allowed_by, earliest_stage, order_of}
@@ -15,15 +16,12 @@ use Rattle.rmt_place.specs.Placing.{allowed_by, earliest_stage, order_of}
 abbrev pub behind : List Part → ℕ → List Edge → ℕ
 behind parts stage edges = fold (λ most (e : Edge). max most (allowed_by parts e)) stage edges
 
-abbrev pub to_node : ℕ → List Edge → List Edge
-to_node n edges = filter (λ (e : Edge). eqb e.to n) edges
-
 -- edges behind others
 pub behind_both : (parts : List Part) (n : ℕ) (field word : List Edge)
-    → behind parts (behind parts 0 (to_node n field)) (to_node n word) ≡ earliest_stage (field ++ word) parts n
+    → behind parts (behind parts 0 (ending n field)) (ending n word) ≡ earliest_stage (field ++ word) parts n
 behind_both parts n field word =
     sym (ap (behind parts 0) (filter-append (λ (e : Edge). eqb e.to n) field word)
-    ∙ fold-append (λ most (e : Edge). max most (allowed_by parts e)) 0 (to_node n field) (to_node n word))
+    ∙ fold-append (λ most (e : Edge). max most (allowed_by parts e)) 0 (ending n field) (ending n word))
 
 -- ---- the order of nodes
 

@@ -19,8 +19,7 @@ others_none : (xs : List Part) (n : ℕ) → All (λ (x : Part). x.node ≢ n) x
 others_none [] n other = refl
 others_none (x ∷ xs) n other =
     let first = sum_by-cons (λ (y : Part). cond (eqb y.node n) y.quanta 0) x xs ∙ ap (λ b. cond b x.quanta 0 + quanta_of xs n) (ne_eqb x.node n (All-head (λ (y : Part). y.node ≢ n) x xs other)) in
-    let rest = others_none xs n (All-tail (λ (y : Part). y.node ≢ n) x xs other) in
-    omega (arith, first, rest)
+    omega (arith, first, others_none xs n (All-tail (λ (y : Part). y.node ≢ n) x xs other))
 
 -- a node has no more quanta than it needs, and none before its turn
 record HasFew (demands : List Demand) (n : ℕ) (rest : List ℕ) (parts : List Part) : Type 0 where
@@ -48,11 +47,10 @@ few_next demands edges n m rest parts more h placed =
           }
       | inr other ↦
           let own : quanta_of s.parts n ≡ 0 = others_none s.parts n (λ i d lt e. other (sym (is.own_parts i d lt).node ∙ e)) in
-          let few = h.few in
           record {
             apart = AllPairs-tail (λ a b. a ≡ b → ⊥) m rest h.apart;
             none = λ there. (let none = h.none (Contains-later m rest n there) in omega (arith, split, own, none));
-            few = omega (arith, split, own, few);
+            few = omega (arith, split, own, h.few);
           }
     ]
 

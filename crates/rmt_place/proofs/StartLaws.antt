@@ -8,8 +8,8 @@ use Rattle.std.proofs.lemmas.Bool.{cases_lt}
 use Rattle.std.proofs.lemmas.Grind.{flat_map-append}
 use Rattle.std.proofs.lemmas.List.Sums.{fold-append}
 use Rattle.rmt_bits.proofs.ListLaws.{range_more}
+use Rattle.rmt_bits.specs.Members.{is_among}
 use Rattle.rmt_ast.specs.declared.deps.Edge.{Edge}
-use Rattle.rmt_config.specs.Resources.{is_in}
 use Rattle.rmt_pack.specs.declared.placement.Part.{Part}
 use Rattle.rmt_pack.specs.Starts.{stages_of}
 use Rattle.rmt_place.specs.Starting.{next_start}
@@ -17,7 +17,7 @@ use Rattle.rmt_place.specs.Steps.{AreEarly}
 
 -- the starts behind the stages from one on in which a node has a part
 abbrev pub starts_from : List ℕ → List Part → ℕ → ℕ → ℕ → ℕ → List ℕ
-starts_from starts parts j many node cycles = map (λ k. slice_index starts k + cycles) (filter (is_in (stages_of parts node)) (range_with_len j many))
+starts_from starts parts j many node cycles = map (λ k. slice_index starts k + cycles) (filter (is_among (stages_of parts node)) (range_with_len j many))
 
 -- the starts of the first stages
 abbrev pub starts_until : List Edge → List Part → ℕ → List ℕ
@@ -30,15 +30,15 @@ passed true f latest j rest = refl
 passed false f latest j rest = refl
 
 pub stage_passed : (starts : List ℕ) (parts : List Part) (j n node cycles latest : ℕ) → j < n
-    → fold max (cond (is_in (stages_of parts node) j) (max latest (slice_index starts j + cycles)) latest) (starts_from starts parts (j + 1) (n - (j + 1)) node cycles)
+    → fold max (cond (is_among (stages_of parts node) j) (max latest (slice_index starts j + cycles)) latest) (starts_from starts parts (j + 1) (n - (j + 1)) node cycles)
     ≡ fold max latest (starts_from starts parts j (n - j) node cycles)
 stage_passed starts parts j n node cycles latest lt =
     let more : n - j ≡ suc (n - (j + 1)) = omega arith in
-    passed (is_in (stages_of parts node) j) (λ k. slice_index starts k + cycles) latest j (filter (is_in (stages_of parts node)) (range_with_len (j + 1) (n - (j + 1))))
+    passed (is_among (stages_of parts node) j) (λ k. slice_index starts k + cycles) latest j (filter (is_among (stages_of parts node)) (range_with_len (j + 1) (n - (j + 1))))
     ∙ sym (ap (λ m. fold max latest (starts_from starts parts j m node cycles)) more)
 
 -- the same where code tells by a test whether the node has a part there
-pub stage_passed_by : (starts : List ℕ) (parts : List Part) (j n node cycles latest now : ℕ) (here : Bool) → j < n → here ≡ is_in (stages_of parts node) j
+pub stage_passed_by : (starts : List ℕ) (parts : List Part) (j n node cycles latest now : ℕ) (here : Bool) → j < n → here ≡ is_among (stages_of parts node) j
     → now ≡ cond here (max latest (slice_index starts j + cycles)) latest
     → fold max now (starts_from starts parts (j + 1) (n - (j + 1)) node cycles) ≡ fold max latest (starts_from starts parts j (n - j) node cycles)
 stage_passed_by starts parts j n node cycles latest now here lt is now_is =
@@ -71,11 +71,10 @@ starts_more edges parts k start starts is start_is =
 -- a start that is early behind others that are
 pub early_more : (starts : List ℕ) (start : ℕ) → AreEarly starts → start ≤ 12 * length starts → AreEarly (starts ++ start ∷ [])
 early_more starts start early last k below =
-    let size = length-append starts (start ∷ []) in
     elim (cases_lt k (length starts)) [
       | inl front ↦ omega (arith, get_or-append starts (start ∷ []) 0 k front, early k front)
       | inr behind ↦
-          let at : k ≡ length starts = omega (arith, size) in
+          let at : k ≡ length starts = omega (arith, length-append starts (start ∷ [])) in
           let is : get_or (starts ++ start ∷ []) k 0 ≡ start = ap (λ j. get_or (starts ++ start ∷ []) j 0) at ∙ get_or-append_seam starts start [] 0 in
           omega (arith, is)
     ]

@@ -10,18 +10,14 @@ use Rattle.rmt_ast.specs.declared.program.Node.{Node}
 use Rattle.rmt_ast.specs.declared.program.What.{What}
 use Rattle.rmt_ast.specs.declared.program.What.TheVariants.{Apply, Gate}
 use Rattle.rmt_ast.specs.declared.program.Kind.TheVariants.{Keyless, Exact, Prefix, Ternary}
-use Rattle.rmt_ast.specs.Places.{lanes_of}
 use Rattle.rmt_config.specs.Limits.{most_of}
 use Rattle.rmt_config.specs.Resources.{distinct}
+use Rattle.rmt_deps.specs.Edges.{words_of_fields}
 use Rattle.rmt_pack.specs.Formats.{memory_format}
 use Rattle.rmt_pack.specs.Placements.{data_bits, table_need}
 use Rattle.rmt_place.specs.declared.demand.Demand.{Demand}
 
 -- ---- what a node demands
-
--- the words in which some fields have pieces
-abbrev pub words_of_fields : List (List Lane) → List ℕ → List ℕ
-words_of_fields places fields = flat_map (λ f. map (λ (l : Lane). l.word) (lanes_of places f)) fields
 
 -- the words that an exact key reads
 abbrev pub if_exact : Kind → List ℕ → List ℕ

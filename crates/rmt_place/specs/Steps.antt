@@ -1,10 +1,10 @@
 -- What the code works with: marks of where nodes stand, how late stages start at most, and what the parts of a stage take.
 use Rattle.std.specs.Prelude.{◌≡◌, ℕ, ◌+◌, ◌*◌, ◌-◌, ◌^◌, ◌<◌, ◌≤◌, List, [], ◌∷◌, Bool, true, false, ◌&&◌, nat_le, nat_lt, if◌then◌else◌, Option, Some, None, map, slice_index, slice_index_or, length, sum_by}
 use Rattle.std.specs.List.{flat_map}
+use Rattle.rmt_bits.specs.Members.{is_among}
 use Rattle.rmt_config.specs.declared.limits.LimitHit.{LimitHit}
 use Rattle.rmt_config.specs.LimitSteps.{Marks}
 use Rattle.rmt_config.specs.Limits.{told}
-use Rattle.rmt_config.specs.Resources.{is_in}
 use Rattle.rmt_pack.specs.declared.placement.Part.{Part}
 use Rattle.rmt_pack.specs.Starts.{stages_of}
 use Rattle.rmt_place.specs.declared.demand.Demand.{Demand}
@@ -14,7 +14,7 @@ use Rattle.rmt_place.specs.Placing.{last_stage, standing_in}
 
 -- each node has 32 marks, by its number: those of the stages in which it has a part are set
 abbrev pub Marked : List Part → List Bool → Type 0
-Marked parts marks = (n k : ℕ) → k < 32 → slice_index_or marks (n * 32 + k) false ≡ is_in (stages_of parts n) k
+Marked parts marks = (n k : ℕ) → k < 32 → slice_index_or marks (n * 32 + k) false ≡ is_among (stages_of parts n) k
 
 -- stages start at most 12 cycles apart
 abbrev pub AreEarly : List ℕ → Type 0

@@ -1,10 +1,11 @@
 //! What the nodes of a program need of a stage.
 
 ghost use Rattle.std.specs.Prelude.{◌≡◌, ◌++◌, IfOk, OnOk, map};
+ghost use Rattle.rmt_deps.specs.Edges.{words_of_fields};
 ghost use Rattle.rmt_bits.specs.declared.lane.Lane.{Lane};
 ghost use Rattle.rmt_ast.specs.Places.{lanes_of};
 ghost use Rattle.rmt_ast.specs.WellFormed.{IsProgram, IsTable};
-ghost use Rattle.rmt_place.specs.Needs.{words_of_fields, if_exact, if_ternary, table_demand as demand_of_table, gate_demand as demand_of_gate, what_demands, demands_of, nothing as no_demand};
+ghost use Rattle.rmt_place.specs.Needs.{if_exact, if_ternary, table_demand as demand_of_table, gate_demand as demand_of_gate, what_demands, demands_of, nothing as no_demand};
 
 use rmt_ast::program::{Kind, Node, Program, Table, What};
 use rmt_bits::answer::Bytes;

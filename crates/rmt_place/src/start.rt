@@ -2,7 +2,8 @@
 
 ghost use Rattle.std.specs.Prelude.{◌≡◌, ◌<◌, ◌≤◌, ◌*◌, ◌+◌, ◌++◌, [], ◌∷◌, ℕ, List, All, IfOk, fold, max, length, slice_index, vec_len};
 ghost use Rattle.std.specs.List.{flat_map};
-ghost use Rattle.rmt_config.specs.Resources.{greatest_by, is_in};
+ghost use Rattle.rmt_bits.specs.Members.{is_among};
+ghost use Rattle.rmt_config.specs.Resources.{greatest_by};
 ghost use Rattle.rmt_deps.specs.Levels.{all_edges};
 ghost use Rattle.rmt_pack.specs.declared.placement.Part.{Part};
 ghost use Rattle.rmt_pack.specs.Starts.{KeepDistances, distance as distance_of, stages_of};
@@ -94,7 +95,7 @@ fn mark(marks: &mut Vec<bool>, part: &Part)
 /// Whether a node has a part in a stage.
 fn has_part(marks: &[bool], node: u32, stage: usize) -> bool
     requires { stage < 32 }
-    ensures { (parts : List Part) → Marked parts marks.now → result ≡ is_in (stages_of parts node) stage }
+    ensures { (parts : List Part) → Marked parts marks.now → result ≡ is_among (stages_of parts node) stage }
 {
     match marks.get(node as usize * 32 + stage) {
         Some(mark) => *mark,

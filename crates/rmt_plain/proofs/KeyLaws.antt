@@ -1,8 +1,8 @@
 -- An entry matches where the masked key is what it wants.
-use Rattle.std.proofs.Common.{◌≡◌, ℕ, ◌≤◌, ◌++◌, min, append-nil, true, ◌==◌, bit_and, List, [], ◌∷◌, length, get_or, drop, refl, sym, ap, ◌∙◌, tests, arith}
+use Rattle.std.proofs.Common.{◌≡◌, ℕ, ◌≤◌, ◌++◌, min, append-nil, true, bit_and, List, [], ◌∷◌, length, get_or, drop, refl, sym, ap, ◌∙◌, arith}
 use Rattle.std.specs.Prelude.{All, slice_index}
 use Rattle.std.specs.List.{AllZip}
-use Rattle.std.proofs.lemmas.Bool.{and_parts, and_from}
+use Rattle.std.proofs.lemmas.Bool.{and_parts, and_from, eq-eqb, eqb-true}
 use Rattle.std.proofs.lemmas.List.{length-drop}
 use Rattle.std.proofs.lemmas.List.Elements.{All-head, All-tail, All-cons}
 use Rattle.rmt_ast.specs.declared.program.Test.{Test}
@@ -19,18 +19,12 @@ pub record FitsKey (key : List ℕ) (ts : List Test) : Type 0 where
   pub one_each : length ts ≡ length key
   pub masked_each : All IsMasked ts
 
-same_test : (a b : ℕ) → (a == b) ≡ true → a ≡ b
-same_test a b h = grind (arith, tests)
-
-own_test : (a b : ℕ) → a ≡ b → (a == b) ≡ true
-own_test a b h = grind (arith, tests)
-
 passed : (ts : List Test) (key s : List ℕ) → length ts ≡ length key → All IsMasked ts → all_pass ts key s ≡ true → masked (masks_of ts) key s ≡ values_of ts
 passed [] key s size all h = refl
 passed (t ∷ ts) [] s size all h = absurd (omega arith)
 passed (t ∷ ts) (f ∷ fs) s size all h =
     let parts = and_parts _ (all_pass ts fs s) h in
-    let here : bit_and (slice_index s f) t.mask ≡ t.value = same_test _ _ parts.0 ∙ All-head IsMasked t ts all in
+    let here : bit_and (slice_index s f) t.mask ≡ t.value = eqb-true _ _ parts.0 ∙ All-head IsMasked t ts all in
     let rest : masked (masks_of ts) fs s ≡ values_of ts = passed ts fs s (omega arith) (All-tail IsMasked t ts all) parts.1 in
     ap (λ (v : ℕ). v ∷ masked (masks_of ts) fs s) here ∙ ap (λ (vs : List ℕ). t.value ∷ vs) rest
 
@@ -40,7 +34,7 @@ wanted (t ∷ ts) [] s size all h = absurd (omega arith)
 wanted (t ∷ ts) (f ∷ fs) s size all h =
     let here : bit_and (slice_index s f) t.mask ≡ t.value = ap (λ (vs : List ℕ). get_or vs 0 0) h in
     let rest : masked (masks_of ts) fs s ≡ values_of ts = ap (λ (vs : List ℕ). drop 1 vs) h in
-    and_from _ (all_pass ts fs s) (own_test _ _ (here ∙ sym (All-head IsMasked t ts all))) (wanted ts fs s (omega arith) (All-tail IsMasked t ts all) rest)
+    and_from _ (all_pass ts fs s) (eq-eqb _ _ (here ∙ sym (All-head IsMasked t ts all))) (wanted ts fs s (omega arith) (All-tail IsMasked t ts all) rest)
 
 pub masked-passed : (ts : List Test) (key s : List ℕ) → FitsKey key ts → all_pass ts key s ≡ true → masked (masks_of ts) key s ≡ values_of ts
 masked-passed ts key s fits h = passed ts key s fits.one_each fits.masked_each h

@@ -1,9 +1,8 @@
 -- Numbers modulo two to a width of at most 128.
-use Rattle.std.proofs.Common.{◌≡◌, ℕ, ◌+◌, ◌-◌, ◌*◌, ◌/◌, ◌%◌, ◌^◌, ◌<◌, ◌≤◌, nat_lt, false, sym, ap, ◌∙◌, arith}
+use Rattle.std.proofs.Common.{◌≡◌, ℕ, ◌+◌, ◌-◌, ◌*◌, ◌/◌, ◌%◌, ◌^◌, ◌<◌, ◌≤◌, sym, ap, ◌∙◌, arith}
 use Rattle.std.proofs.Math.Nat.{add-mod_right, add-mul, mod-eq_of_lt}
 use Rattle.std.proofs.Math.Pow.{mod-mod-pow, ones_lt}
 use Rattle.std.proofs.lemmas.Nat.{pow_pos, pow-add, mod_low, shr_high}
-use Rattle.std.proofs.lemmas.Bool.{le-ltb}
 use Rattle.rmt_bits.specs.Bits.{deposit}
 
 pub mod-128 : (n width : ℕ) → width ≤ 128 → n % 2 ^ 128 % 2 ^ width ≡ n % 2 ^ width
@@ -37,9 +36,6 @@ more-mod a b m h pos =
     let same : m - 1 - (b - a - 1) ≡ a + m - b = omega arith in
     let below : a + m - b < m = omega arith in
     same ∙ sym (mod-eq_of_lt below)
-
-pub is_not_below : (a b : ℕ) → b ≤ a → nat_lt a b ≡ false
-is_not_below a b h = le-ltb a b h
 
 -- bits put below those that are there
 pub deposit_onto : (n k low len x : ℕ) → n ≡ k * 2 ^ (len + low) → deposit n low len x ≡ n + x * 2 ^ low

@@ -14,12 +14,13 @@ use Rattle.std.proofs.lemmas.Option.{get_or_from_slice_get, slice_get-get_or, sl
 use Rattle.rmt_bits.proofs.AllLaws.{All-find}
 use Rattle.rmt_bits.proofs.FunctionLaws.{funext}
 use Rattle.rmt_bits.proofs.ListLaws.{range_more, find-passes, filter-short}
+use Rattle.rmt_bits.specs.Members.{is_among}
 use Rattle.rmt_ptcam.specs.Types.{ParserConfig, ParserState, ParserEntry, Next, TailOf}
 use Rattle.rmt_config.specs.declared.config.Next.TheVariants as next
 use Rattle.rmt_config.specs.Parser.{Parse, Reached, Short, begin, behind, follow, parse_from, past_tail, value_at}
 use Rattle.rmt_config.specs.ParserForm.{lookups_of, next_is_formed, state_is_formed}
 use Rattle.rmt_ptcam.specs.Adding.{Adds}
-use Rattle.rmt_ptcam.specs.Joining.{IsGood, KeepsForm, ParsesAlike, Row, is_among, parser_of, rows_of, tails_in}
+use Rattle.rmt_ptcam.specs.Joining.{IsGood, KeepsForm, ParsesAlike, Row, parser_of, rows_of, tails_in}
 use Rattle.rmt_ptcam.specs.Steps.{parse_within}
 use Rattle.rmt_ptcam.specs.Clustering.{compact, is_met, met_states, number_in, renamed, renamed_next, states_kept, with_next}
 use Rattle.rmt_ptcam.proofs.AddingLaws.{length_rows}

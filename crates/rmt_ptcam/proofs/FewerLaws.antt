@@ -13,7 +13,7 @@ use Rattle.std.proofs.lemmas.Option.{same_Some}
 use Rattle.rmt_bits.specs.declared.lane.Lane.{Lane}
 use Rattle.rmt_bits.proofs.ListLaws.{slice_get-end, slice_get-item, take-slice_get, filter-short}
 use Rattle.rmt_ptcam.specs.declared.joins.Join.{Join}
-use Rattle.rmt_ptcam.specs.Joining.{KeepsForm, Row, can_join, entries_in, entries_to, entry_named, is_among, join_at, join_named, join_to, joined, number_of_entry, rows_of}
+use Rattle.rmt_ptcam.specs.Joining.{KeepsForm, Row, can_join, entries_in, entries_to, entry_named, join_at, join_named, join_to, joined, number_of_entry, rows_of}
 use Rattle.rmt_ptcam.specs.Clustering.{Clustering, all_joined, arrivals, behind_join, clustered, compact, is_met, is_wanted, next_entry, one_entry, one_header, renamed, some_entries, some_headers, targets_of, unjoined, with_next}
 use Rattle.rmt_ptcam.proofs.BusyLaws.{arrived, busy, count, count-append, count_all, count_less, count_map, count_none, count_of_filter, edge, edges, filter_map, join_shapes, leads, less_one, less_only, new, old, second, shape, shapes}
 use Rattle.rmt_ptcam.proofs.CompactLaws.{among_next, state_behind}
@@ -25,6 +25,7 @@ use Rattle.rmt_ptcam.specs.Clustering.{goes_to}
 use Rattle.rmt_ptcam.specs.Plain.{entries_from, entries_of, entry_of_case, entry_to, next_of, plain}
 use Rattle.std.proofs.lemmas.Simd.{map-map}
 use Rattle.rmt_bits.proofs.AlikeLaws.{filter_all, filter_none}
+use Rattle.rmt_bits.specs.Members.{is_among}
 
 -- ---- the entries of one header, one after another
 

@@ -64,10 +64,6 @@ module _ {X : Type 0} (f : X → ℕ) where
   pub sorted-same : (xs : List X) (m : ℕ) → All (λ x. f x ≡ m) xs → IsNonDecreasingBy f xs
   sorted-same xs m same i j d le lt = let a = same i d (omega (arith, le, lt)) in let b = same j d lt in omega (arith, a, b)
 
-pub if_some : {X : Type 0} (P : X → Type 0) (o : Option X) → ((x : X) → o ≡ Some x → P x) → IfSome o P
-if_some P None h = tt
-if_some P (Some x) h = h x refl
-
 -- ---- extracts
 
 pub in_order_lie : (p : Program) (places : List (List Lane)) (fs : List ℕ) → KeepsApart p places → All LiesInWord (high_first places fs)

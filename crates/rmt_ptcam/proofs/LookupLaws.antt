@@ -4,15 +4,15 @@ use Rattle.std.specs.Prelude.{All, Contains, bit_and, slice_index}
 use Rattle.std.specs.Int.Bits.{and_zero_r}
 use Rattle.std.proofs.lemmas.Bool.{cases_Bool, eq-eqb, ne_eqb, and_parts, or_parts, leb-true, eqb-true}
 use Rattle.std.proofs.lemmas.List.Elements.{All-contains, All-map}
-use Rattle.std.proofs.lemmas.List.Folds.{Any-from_list_any, list_any-from_Any}
 use Rattle.std.proofs.lemmas.List.{length-map}
 use Rattle.std.proofs.lemmas.Nat.{and_le_l, and_le_r, and_mod}
 use Rattle.rmt_config.specs.Order.{rises_from}
 use Rattle.rmt_config.specs.Parser.{high_bytes}
-use Rattle.rmt_ptcam.specs.Joining.{is_among}
 use Rattle.rmt_ptcam.specs.Words.{byte_at, spread}
 use Rattle.rmt_ptcam.proofs.ByteRunLaws.{map_same, high_and, high_apart}
 use Rattle.rmt_bits.proofs.OptionLaws.{same_Bool}
+use Rattle.rmt_bits.specs.Members.{is_among}
+use Rattle.rmt_bits.proofs.MemberLaws.{Contains-from_any}
 
 -- ---- up to four bytes, one after another
 
@@ -54,15 +54,6 @@ byte_later : (l : ℕ) (ls : List ℕ) (w o : ℕ) → l < o → byte_at (l ∷ 
 byte_later l ls w o lt = ap (λ (b : Bool). cond b (w / 2 ^ 24 % 2 ^ 8) (byte_at ls (w % 2 ^ 24 * 256) o)) (ne_eqb l o (λ e. omega (arith, lt, e)))
 
 -- ---- an offset among lookups
-
-pub among_contains : (ls : List ℕ) (o : ℕ) → is_among ls o ≡ true → Contains ls o
-among_contains ls o is =
-    let some = Any-from_list_any (λ l. eqb l o) ls is in
-    let same : some.1 ≡ o = eqb-true some.1 o some.4 in
-    subst (Contains ls) same (some.0, some.2, some.3)
-
-pub contains_among : (ls : List ℕ) (o : ℕ) → Contains ls o → is_among ls o ≡ true
-contains_among ls o own = list_any-from_Any (λ l. eqb l o) ls (own.0, o, own.1, own.2, eq-eqb o o refl)
 
 -- ---- words over lookups
 
@@ -174,7 +165,7 @@ agrees_none read ls m v o none = ap (bit_and (read o)) (byte_none ls m o none) �
 -- so where all lookups agree, every offset does
 pub agrees_all : (read : ℕ → ℕ) (ls : List ℕ) (m v : ℕ) → All (Agrees read (byte_at ls m) (byte_at ls v)) ls → (o : ℕ) → Agrees read (byte_at ls m) (byte_at ls v) o
 agrees_all read ls m v each o = elim (cases_Bool (is_among ls o)) [
-  | inl own ↦ All-contains (Agrees read (byte_at ls m) (byte_at ls v)) ls o each (among_contains ls o own)
+  | inl own ↦ All-contains (Agrees read (byte_at ls m) (byte_at ls v)) ls o each (Contains-from_any ls o own)
   | inr none ↦ agrees_none read ls m v o none
 ]
 

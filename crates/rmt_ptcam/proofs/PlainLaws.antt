@@ -8,7 +8,7 @@ use Rattle.std.proofs.lemmas.List.Sums.{sum_by-cons, sum_by-append, sum_by-drop_
 use Rattle.std.proofs.lemmas.Bool.Decides.{eqb_tells}
 use Rattle.rmt_bits.specs.Bits.{number_of, bytes_of}
 use Rattle.rmt_bits.specs.declared.lane.Lane.{Lane}
-use Rattle.rmt_bits.proofs.ListLaws.{range_more, filter-range_more}
+use Rattle.rmt_bits.proofs.ListLaws.{filter-range_more, range-next}
 use Rattle.rmt_ast.specs.declared.program.Target.TheVariants as target
 use Rattle.rmt_ptcam.specs.Types.{Program, Header, Tail, Target, Test, ParserConfig, ParserState, ParserEntry, Extract, TailOf}
 use Rattle.rmt_ast.specs.State.{width_of}
@@ -160,13 +160,6 @@ lane_bits-drop places fs i lt =
 
 -- ---- tails and states
 
--- one more number of a range
-pub range_to : (first entry : ℕ) → first ≤ entry → range_with_len first (entry + 1 - first) ≡ range_with_len first (entry - first) ++ entry ∷ []
-range_to first entry le =
-    let count : entry + 1 - first ≡ (entry - first) + 1 = omega arith in
-    let last : first + (entry - first) ≡ entry = omega arith in
-    ap (range_with_len first) count ∙ range_more first (entry - first) ∙ ap (λ n. range_with_len first (entry - first) ++ n ∷ []) last
-
 pub filter_here : (t : ℕ → Bool) (n : ℕ) (so_far next : List ℕ) → so_far ≡ filter t (range_with_len 0 n) → t n ≡ true → next ≡ so_far ++ n ∷ [] → next ≡ filter t (range_with_len 0 (n + 1))
 filter_here t n so_far next is passes pushed =
     pushed ∙ ap (λ (xs : List ℕ). xs ++ n ∷ []) is ∙ sym (filter-range_more t n ∙ ap (λ (b : Bool). filter t (range_with_len 0 n) ++ cond b (n ∷ []) []) passes)
@@ -194,7 +187,7 @@ tail_more p n h t first entry from len start so_far next le place width is pushe
     let numbers : List ℕ = range_with_len first (entry - first) in
     let one : record { entry = entry; header = n; from = from; len = len; unit = t.unit; base = t.base } ≡ tail_at p n h t entry = rw (place, width) refl in
     let grown : map (tail_at p n h t) (range_with_len first (entry + 1 - first)) ≡ map (tail_at p n h t) numbers ++ tail_at p n h t entry ∷ [] =
-    ap (map (tail_at p n h t)) (range_to first entry le) ∙ map-append (tail_at p n h t) numbers (entry ∷ []) in
+    ap (map (tail_at p n h t)) (range-next first entry le) ∙ map-append (tail_at p n h t) numbers (entry ∷ []) in
     pushed ∙ ap (λ (x : TailOf). so_far ++ x ∷ []) one ∙ ap (λ (xs : List TailOf). xs ++ tail_at p n h t entry ∷ []) is
     ∙ append_assoc start (map (tail_at p n h t) numbers) (tail_at p n h t entry ∷ [])
     ∙ sym (ap (λ (xs : List TailOf). start ++ xs) grown)

@@ -7,10 +7,11 @@ use Rattle.std.proofs.lemmas.Bool.{cases_lt, eq-eqb, ne_eqb, lt-ltb, le-ltb, le-
 use Rattle.std.proofs.lemmas.List.Folds.{list_any-append}
 use Rattle.rmt_bits.specs.Bits.{bytes_of}
 use Rattle.rmt_bits.proofs.OptionLaws.{same_Bool}
+use Rattle.rmt_bits.specs.Members.{is_among}
 use Rattle.rmt_config.specs.Parser.{high_bytes}
 use Rattle.rmt_ptcam.specs.Types.{ParserEntry}
 use Rattle.rmt_ptcam.specs.ByteTests.{ByteTest, joined_tests, moved_test, test_at, test_for, tests_of}
-use Rattle.rmt_ptcam.specs.Joining.{compares_before, is_among, joined_entry, together, widened_entry}
+use Rattle.rmt_ptcam.specs.Joining.{compares_before, joined_entry, together, widened_entry}
 use Rattle.rmt_ptcam.specs.Words.{byte_at, byte_of_both, entry_of_both, first_byte, other_bytes, spread_entry}
 
 -- ---- the bytes of a word

@@ -8,12 +8,13 @@ use Rattle.std.proofs.lemmas.List.Elements.{All-contains, All-filter, All-head, 
 use Rattle.std.proofs.lemmas.List.FromFn.{length-range_with_len, get_or-range_with_len}
 use Rattle.rmt_bits.proofs.AllLaws.{All-range}
 use Rattle.rmt_config.specs.Order.{rises_from}
-use Rattle.rmt_ptcam.specs.Joining.{is_among, together}
+use Rattle.rmt_ptcam.specs.Joining.{together}
 use Rattle.rmt_ptcam.specs.Words.{byte_at, byte_of_both, both}
 use Rattle.rmt_ptcam.proofs.TestLaws.{together_is}
-use Rattle.rmt_ptcam.proofs.LookupLaws.{Agrees, Compares, compares_at, compares_by, agrees_all, agrees_at, agrees_from, contains_among, byte_small, looked_at, test_at, test_from}
+use Rattle.rmt_ptcam.proofs.LookupLaws.{Agrees, Compares, compares_at, compares_by, agrees_all, agrees_at, agrees_from, byte_small, looked_at, test_at, test_from}
 use Rattle.rmt_bits.proofs.OptionLaws.{same_Bool}
-use Rattle.rmt_bits.proofs.MemberLaws.{Contains-filter}
+use Rattle.rmt_bits.proofs.MemberLaws.{Contains-filter, among-Contains}
+use Rattle.rmt_bits.specs.Members.{is_among}
 
 abbrev test : List ℕ → ℕ → List ℕ → ℕ → Bool
 test here bytes there o = is_among here o || (nat_le bytes o && is_among there (o - bytes))
@@ -30,14 +31,14 @@ pub own_here : (here there : List ℕ) (bytes : ℕ) → All (λ o. o < 128) her
 own_here here there bytes low k d lt =
     let o : ℕ = get_or here k d in
     own_by here there bytes o (low k d lt)
-    (or_left (is_among here o) (nat_le bytes o && is_among there (o - bytes)) (contains_among here o (Contains-get_or here k d lt)))
+    (or_left (is_among here o) (nat_le bytes o && is_among there (o - bytes)) (among-Contains here o (Contains-get_or here k d lt)))
 
 pub own_there : (here there : List ℕ) (bytes o : ℕ) → o + bytes < 128 → Contains there o → Contains (together here bytes there) (o + bytes)
 own_there here there bytes o low own =
     let back : o + bytes - bytes ≡ o = omega arith in
     own_by here there bytes (o + bytes) low
     (or_right (is_among here (o + bytes)) (nat_le bytes (o + bytes) && is_among there (o + bytes - bytes))
-    (and_from (nat_le bytes (o + bytes)) (is_among there (o + bytes - bytes)) (le-leb bytes (o + bytes) (omega arith)) (ap (is_among there) back ∙ contains_among there o own)))
+    (and_from (nat_le bytes (o + bytes)) (is_among there (o + bytes - bytes)) (le-leb bytes (o + bytes) (omega arith)) (ap (is_among there) back ∙ among-Contains there o own)))
 
 -- ---- words of both
 
@@ -194,7 +195,7 @@ module _ (here : List ℕ) (bytes : ℕ) (there : List ℕ) where
       let o : ℕ = get_or here k d in
       let same : o ≡ o + 0 = omega arith in
       subst (λ x. test here bytes there x ≡ true) same
-      (or_left (is_among here o) (nat_le bytes o && is_among there (o - bytes)) (contains_among here o (Contains-get_or here k d lt)))) in
+      (or_left (is_among here o) (nat_le bytes o && is_among there (o - bytes)) (among-Contains here o (Contains-get_or here k d lt)))) in
       let same : length (together here bytes there) ≡ length (filter (test here bytes there) (range_with_len 0 128)) = ap (λ (ls : List ℕ). length ls) (together_is here bytes there) in
       omega (arith, all, few, same)
 
@@ -206,7 +207,7 @@ module _ (here : List ℕ) (bytes : ℕ) (there : List ℕ) where
       let o : ℕ = get_or there k d in
       let back : o + bytes - bytes ≡ o = omega arith in
       or_right (is_among here (o + bytes)) (nat_le bytes (o + bytes) && is_among there (o + bytes - bytes))
-      (and_from (nat_le bytes (o + bytes)) (is_among there (o + bytes - bytes)) (le-leb bytes (o + bytes) (omega arith)) (ap (is_among there) back ∙ contains_among there o (Contains-get_or there k d lt)))) in
+      (and_from (nat_le bytes (o + bytes)) (is_among there (o + bytes - bytes)) (le-leb bytes (o + bytes) (omega arith)) (ap (is_among there) back ∙ among-Contains there o (Contains-get_or there k d lt)))) in
       let same : length (together here bytes there) ≡ length (filter (test here bytes there) (range_with_len 0 128)) = ap (λ (ls : List ℕ). length ls) (together_is here bytes there) in
       omega (arith, all, few, same)
 

@@ -2,6 +2,7 @@
 use Rattle.std.specs.Prelude.{ℕ, zero, suc, ◌+◌, List, [], ◌∷◌, ◌++◌, Bool, false, ◌||◌, ◌==◌, if◌then◌else◌, Option, Some, None, Result, map, fold, length}
 use Rattle.std.specs.List.{filter, flat_map, range_with_len}
 use Rattle.rmt_bits.specs.declared.lane.Lane.{Lane}
+use Rattle.rmt_bits.specs.Members.{is_among}
 use Rattle.rmt_ptcam.specs.Types.{Program, Header, Case, Target, ParserConfig, ParserState, ParserEntry, Next}
 use Rattle.rmt_ast.specs.declared.program.Target.TheVariants as target
 use Rattle.rmt_config.specs.declared.config.Next.TheVariants as next
@@ -9,7 +10,7 @@ use Rattle.rmt_ptcam.specs.declared.fault.ParserFault.{ParserFault}
 use Rattle.rmt_ptcam.specs.Needs.{refusal, unless}
 use Rattle.rmt_ptcam.specs.Plain.{plain}
 use Rattle.rmt_ptcam.specs.declared.joins.Join.{Join}
-use Rattle.rmt_ptcam.specs.Joining.{Row, entries_in, entries_to, entry_named, is_among, join_named, parser_of, rows_of}
+use Rattle.rmt_ptcam.specs.Joining.{Row, entries_in, entries_to, entry_named, join_named, parser_of, rows_of}
 
 -- ---- joins
 

@@ -1,6 +1,7 @@
 -- Two steps of the parser in one: an entry is joined to the entries of the state that it goes to.
 use Rattle.std.specs.Prelude.{◌≡◌, ◌<◌, ℕ, ◌+◌, ◌*◌, List, [], ◌∷◌, ◌++◌, Bool, true, false, ◌&&◌, ◌||◌, ◌==◌, nat_lt, nat_le, if◌then◌else◌, All, Option, Some, None, option_map, unwrap_or, is_none, map, take, drop, length, slice_get, slice_set}
-use Rattle.std.specs.List.{filter, list_any, list_all, range_with_len}
+use Rattle.std.specs.List.{filter, list_all, range_with_len}
+use Rattle.rmt_bits.specs.Members.{is_among}
 use Rattle.rmt_ptcam.specs.Types.{ParserConfig, ParserState, ParserEntry, Next, Extract, TailOf}
 use Rattle.rmt_config.specs.declared.config.Next.TheVariants as next
 use Rattle.rmt_config.specs.declared.config.Extract.TheVariants.{Bits, One}
@@ -47,9 +48,6 @@ parser_of states rows = record { states = states; entries = map (λ (x : Row). x
 -- the offsets that a state looks up
 abbrev pub lookups_at : List ParserState → ℕ → List ℕ
 lookups_at states state = unwrap_or (option_map (λ (s : ParserState). s.lookups) (slice_get states state)) []
-
-abbrev pub is_among : List ℕ → ℕ → Bool
-is_among xs x = list_any (λ y. y == x) xs
 
 -- offsets below 128, each once, in order
 abbrev pub in_order : List ℕ → List ℕ

@@ -7,9 +7,11 @@ use Rattle.std.proofs.lemmas.List.{append-nil, length-replicate}
 use Rattle.std.proofs.lemmas.List.Elements.{All-nil, All-same}
 use Rattle.std.proofs.lemmas.List.FromFn.{length-range_with_len}
 use Rattle.rmt_bits.proofs.AllLaws.{All-range}
+use Rattle.rmt_bits.proofs.TestLaws.{at_most_one}
 use Rattle.rmt_cells.specs.Links.{times}
 use Rattle.rmt_cells.specs.Stands.{Stands as CellsStand}
 use Rattle.rmt_cells.proofs.Walks.{times_cons}
+use Rattle.rmt_cells.proofs.Fresh.{times_before}
 use Rattle.rmt_queues.specs.declared.queues.Queues.{Queues}
 use Rattle.rmt_queues.specs.Lists.{empty, queue_of}
 use Rattle.rmt_queues.specs.Rings.{AreRoomy, ring_of}
@@ -21,24 +23,14 @@ empty_queue zero port = refl
 empty_queue (suc ports) zero = refl
 empty_queue (suc ports) (suc port) = empty_queue ports port
 
-times_absent : (x a n : ℕ) → x < a → times x (range_with_len a n) ≡ 0
-times_absent x a zero lt = refl
-times_absent x a (suc n) lt =
-    let none : ◌≡◌ {A = ℕ} (cond (eqb a x) 1 0) 0 = ap (λ (b : Bool). cond b 1 0) (ne_eqb a x (λ same. omega arith)) in
-    let rest = times_absent x (a + 1) n (omega arith) in
-    omega (arith, none, rest, times_cons x a (range_with_len (a + 1) n))
-
-one_or_none : (b : Bool) → cond b 1 0 ≤ 1
-one_or_none b = grind arith
-
 times_once : (x a n : ℕ) → times x (range_with_len a n) ≤ 1
 times_once x a zero = omega arith
 times_once x a (suc n) =
     let all = times_cons x a (range_with_len (a + 1) n) in
     ⊎_elim
     (λ (same : a ≡ x).
-    let rest = times_absent x (a + 1) n (omega (arith, same)) in
-    omega (arith, all, rest, one_or_none (eqb a x)))
+    let rest = times_before x (a + 1) n (omega (arith, same)) in
+    omega (arith, all, rest, at_most_one (eqb a x)))
     (λ (other : a ≡ x → ⊥).
     let none : ◌≡◌ {A = ℕ} (cond (eqb a x) 1 0) 0 = ap (λ (b : Bool). cond b 1 0) (ne_eqb a x other) in
     let rest = times_once x (a + 1) n in

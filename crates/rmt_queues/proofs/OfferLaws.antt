@@ -12,7 +12,7 @@ use Rattle.rmt_bits.proofs.AllLaws.{All-left, All-right, All-range}
 use Rattle.rmt_bits.proofs.ListLaws.{range_more, sum_by-map}
 use Rattle.rmt_cells.specs.declared.cells.Chain.{Chain}
 use Rattle.rmt_cells.specs.Links.{times}
-use Rattle.rmt_cells.specs.Stands.{Held, Stands as CellsStand}
+use Rattle.rmt_cells.specs.Stands.{Held, Stands as CellsStand, held_if}
 use Rattle.rmt_cells.proofs.Orders.{reordered}
 use Rattle.rmt_cells.proofs.Walks.{times_append, times_head}
 use Rattle.rmt_queues.specs.declared.queues.Queues.{Queues}
@@ -21,7 +21,7 @@ use Rattle.rmt_queues.specs.Copies.{with_copy}
 use Rattle.rmt_queues.specs.Lists.{Lists, copies_of, has_room, item_of, queue_of, standing, with_item}
 use Rattle.rmt_queues.specs.Rings.{AreRoomy, ring_of}
 use Rattle.rmt_queues.specs.Stands.{Keeps, StandsAt, held_items}
-use Rattle.rmt_queues.specs.Stored.{held_if, stored_at}
+use Rattle.rmt_queues.specs.Stored.{stored_at}
 use Rattle.rmt_bits.proofs.AlikeLaws.{filter_alike, flat_map_alike, map_alike}
 use Rattle.rmt_queues.proofs.AlikeLaws.{sum_by_none, sum_by_plus}
 use Rattle.rmt_queues.proofs.CopyLaws.{with_copy_count, with_copy_deep, with_copy_map}

@@ -6,14 +6,14 @@ use Rattle.std.proofs.lemmas.Bool.{cases_eq}
 use Rattle.std.proofs.lemmas.List.{get_or_default, length-append, length-set, set-get_or}
 use Rattle.std.proofs.lemmas.List.Elements.{All-get_or, All-set}
 use Rattle.rmt_cells.specs.declared.cells.Chain.{Chain}
-use Rattle.rmt_cells.specs.Stands.{Held, Stands as CellsStand}
+use Rattle.rmt_cells.specs.Stands.{Held, Stands as CellsStand, held_if}
 use Rattle.rmt_queues.specs.declared.queues.Queues.{Queues}
 use Rattle.rmt_queues.specs.declared.rings.Ring.{Ring}
 use Rattle.rmt_queues.specs.declared.stored.Stored.{Stored}
 use Rattle.rmt_queues.specs.Lists.{Lists, copies_of, item_of, queue_of, standing, take_answer, taken}
 use Rattle.rmt_queues.specs.Rings.{AreRoomy, IsRoomy, ring_of}
 use Rattle.rmt_queues.specs.Stands.{Keeps, Stands, StandsAt, held_items}
-use Rattle.rmt_queues.specs.Stored.{held_if, stored_at}
+use Rattle.rmt_queues.specs.Stored.{stored_at}
 use Rattle.rmt_queues.proofs.RingLaws.{ring_at, ring_set_other, ring_set_same}
 use Rattle.rmt_queues.proofs.StandingLaws.{index_of}
 use Rattle.rmt_queues.proofs.TakeLaws.{back, copies_one, first_popped, front, none_popped, standing_split}

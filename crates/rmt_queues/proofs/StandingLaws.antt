@@ -10,13 +10,13 @@ use Rattle.rmt_bits.proofs.AllLaws.{All-range}
 use Rattle.rmt_cells.specs.declared.cells.Chain.{Chain}
 use Rattle.rmt_cells.specs.Links.{times}
 use Rattle.rmt_cells.specs.Pieces.{cells_for}
-use Rattle.rmt_cells.specs.Stands.{Held, cells_held}
+use Rattle.rmt_cells.specs.Stands.{Held, cells_held, held_if}
 use Rattle.rmt_cells.proofs.Walks.{times_none}
 use Rattle.rmt_queues.specs.declared.queues.Queues.{Queues}
 use Rattle.rmt_queues.specs.declared.stored.Stored.{Stored}
 use Rattle.rmt_queues.specs.Lists.{Lists, copies_of, free_cells, queue_of, standing}
 use Rattle.rmt_queues.specs.Stands.{StandsAt, held_items}
-use Rattle.rmt_queues.specs.Stored.{held_if, stored_at}
+use Rattle.rmt_queues.specs.Stored.{stored_at}
 use Rattle.rmt_queues.proofs.AlikeLaws.{sum_by_none}
 
 abbrev pub index_of : List ℕ → ℕ → ℕ

@@ -9,7 +9,7 @@ use Rattle.std.proofs.lemmas.Grind.{flat_map-append}
 use Rattle.rmt_bits.proofs.AllLaws.{All-left, All-right}
 use Rattle.rmt_cells.specs.declared.cells.Chain.{Chain}
 use Rattle.rmt_cells.specs.Links.{times}
-use Rattle.rmt_cells.specs.Stands.{Held, Stands as CellsStand}
+use Rattle.rmt_cells.specs.Stands.{Held, Stands as CellsStand, held_if}
 use Rattle.rmt_cells.proofs.StandsLaws.{contains_middle}
 use Rattle.rmt_cells.proofs.Walks.{times_append, times_cons, times_head}
 use Rattle.rmt_queues.specs.declared.queues.Queues.{Queues}
@@ -17,7 +17,7 @@ use Rattle.rmt_queues.specs.declared.stored.Stored.{Stored}
 use Rattle.rmt_queues.specs.Lists.{Lists, copies_of, item_of, queue_of, standing, taken}
 use Rattle.rmt_queues.specs.Rings.{AreRoomy, ring_of}
 use Rattle.rmt_queues.specs.Stands.{Keeps, StandsAt, held_items}
-use Rattle.rmt_queues.specs.Stored.{held_if, stored_at}
+use Rattle.rmt_queues.specs.Stored.{stored_at}
 use Rattle.rmt_bits.proofs.AlikeLaws.{flat_map_alike}
 use Rattle.rmt_queues.proofs.StandingLaws.{all_apart, index_of}
 use Rattle.rmt_queues.proofs.TakeLaws.{back, copies_one, copies_other, first_known, front, queue_other, queue_taken, standing_last, standing_more, standing_split}

@@ -3,12 +3,12 @@ use Rattle.std.specs.Prelude.{◌≡◌, ℕ, ◌+◌, ◌*◌, ◌<◌, ◌≤�
 use Rattle.std.specs.List.{All, flat_map}
 use Rattle.rmt_cells.specs.declared.cells.Chain.{Chain}
 use Rattle.rmt_cells.specs.Links.{times}
-use Rattle.rmt_cells.specs.Stands.{Held, Stands as CellsStand}
+use Rattle.rmt_cells.specs.Stands.{Held, Stands as CellsStand, held_if}
 use Rattle.rmt_queues.specs.declared.queues.Queues.{Queues}
 use Rattle.rmt_queues.specs.declared.stored.Stored.{Stored}
 use Rattle.rmt_queues.specs.Lists.{Lists, copies_of, item_of, queue_of, standing}
 use Rattle.rmt_queues.specs.Rings.{AreRoomy, ring_of}
-use Rattle.rmt_queues.specs.Stored.{held_if, stored_at}
+use Rattle.rmt_queues.specs.Stored.{stored_at}
 
 -- an item of a length is stored, with so many copies
 pub record Keeps (stored : Stored) (bytes count : ℕ) : Type 0 where

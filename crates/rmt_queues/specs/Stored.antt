@@ -1,7 +1,5 @@
 -- Items that are stored in cells.
-use Rattle.std.specs.Prelude.{ℕ, List, [], ◌∷◌, Option, Some, None, slice_index_or}
-use Rattle.rmt_cells.specs.declared.cells.Chain.{Chain}
-use Rattle.rmt_cells.specs.Stands.{Held}
+use Rattle.std.specs.Prelude.{ℕ, List, None, slice_index_or}
 use Rattle.rmt_queues.specs.declared.stored.Stored.{Stored}
 
 -- no item is stored
@@ -11,8 +9,3 @@ no_item = record { chain = None; len = 0; copies = 0 }
 -- what is stored at an index
 abbrev pub stored_at : List Stored → ℕ → Stored
 stored_at stored index = slice_index_or stored index no_item
-
--- a chain with its bytes, if one is there
-abbrev pub held_if : Option Chain → List ℕ → List Held
-held_if None bytes = []
-held_if (Some chain) bytes = record { chain = chain; bytes = bytes } ∷ []

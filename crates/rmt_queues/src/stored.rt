@@ -3,8 +3,8 @@
 ghost use Rattle.std.specs.Prelude.{◌≡◌, ℕ, ◌+◌, ◌*◌, ◌<◌, ◌≤◌, ◌^◌, ◌++◌, ◌∷◌, [], List, length, take, replicate, Contains, IfOk, Some, None, vec_len, vec_capacity};
 ghost use Rattle.std.specs.List.{range_with_len};
 ghost use Rattle.rmt_cells.specs.declared.cells.Chain.{Chain as ChainOf};
-ghost use Rattle.rmt_cells.specs.Stands.{Held, Stands as CellsStand};
-ghost use Rattle.rmt_queues.specs.Stored.{held_if, no_item};
+ghost use Rattle.rmt_cells.specs.Stands.{Held, Stands as CellsStand, held_if};
+ghost use Rattle.rmt_queues.specs.Stored.{no_item};
 
 use rmt_cells::cells::{Cells, Chain};
 use std::alloc::{AllocError, Global};

@@ -80,10 +80,7 @@ module _ (p : Program) (places : List (List Lane)) (l : Lane) (s v : List ℕ) (
     (holds : Holds places (slice_set s 0 0) v) (is : slice_index s 0 ≡ port) (below : port < 512) where
   lane_inside : l.word < length v
   lane_inside =
-      let lies = All-head LiesInWord l [] (subst (All LiesInWord) stands (lanes_lie p places 0 apart)) in
-      let whole = holds.whole in
-      let exists = lies.exists in
-      omega (arith, whole, exists)
+      omega (arith, holds.whole, (All-head LiesInWord l [] (subst (All LiesInWord) stands (lanes_lie p places 0 apart))).exists)
 
   port_fits : port < 2 ^ l.len
   port_fits =
@@ -129,12 +126,11 @@ pub begins : (p : Program) (places : List (List Lane)) (c : Config) (port : ℕ)
 begins p places c port frame r w program carried below parsed walked reached =
     let kept = subst (WalkLeaves (KeepsPort p port)) walked (walk_keeps_port p port frame program) in
     let room = subst KeepsTails parsed (parse_keeps_tails c.parser frame) in
-    let few = program.counts.headers in
     record {
       state = (subst (LeavesState p frame) walked (walk_leaves p port frame program below)).0;
       hold = hold_port p places c.in_port w.state r.vector port carried.apart program.fields.in_port carried.in_port reached.state kept.port_is below;
       at = reached.at;
-      room = (let long = length-map r.tails (tail_bytes frame) in omega (arith, long, room, few));
+      room = (let long = length-map r.tails (tail_bytes frame) in omega (arith, long, room, program.counts.headers));
       tails_long = kept.tails;
       tails = λ n. get_or-map (tail_bytes frame) r.tails n no_tail ∙ reached.tails n;
     }

@@ -23,7 +23,7 @@ use Rattle.rmt_config.specs.Order.{rises_from}
 use Rattle.rmt_config.proofs.RiseLaws.{all_above}
 use Rattle.rmt_refine.specs.declared.map.Map.{Map}
 use Rattle.rmt_refine.specs.View.{as_slot, no_content, own_content, own_number, own_view, slot_of}
-use Rattle.rmt_refine.specs.Units.{DoesAs, TableCarried, applied, table_at}
+use Rattle.rmt_refine.specs.Units.{DoesAs, TableCarried, UnitsCarried, applied, table_at}
 use Rattle.rmt_refine.specs.Cells.{IsSpotOf, IsTold, Spot, TableCellsCarried}
 use Rattle.rmt_refine.specs.Carries.{Carries}
 use Rattle.rmt_refine.specs.Listed.{ListTheirCells, ListsItsCells}
@@ -64,10 +64,9 @@ listed_number (y ∷ ys) least x rises there = by (y.cell == x.cell) refl (liste
           | inl is ↦ is
           | inr later ↦
               let lt = later.1 in
-              let above = all_above (λ (n : CellNumber). n.cell) (y.cell + 1) ys rest later.0 x later.1 in
               let here : (get_or ys later.0 x).cell ≡ x.cell = ap (λ (n : CellNumber). n.cell) later.2 in
               let equal = eqb-true y.cell x.cell e in
-              absurd (omega (arith, above, here, equal))
+              absurd (omega (arith, all_above (λ (n : CellNumber). n.cell) (y.cell + 1) ys rest later.0 x later.1, here, equal))
         ] in
         ap (λ b. unwrap_or (option_map (λ (n : CellNumber). n.number) (cond b (Some y) (find (λ (n : CellNumber). n.cell == x.cell) ys))) 0) e
         ∙ ap (λ (n : CellNumber). n.number) same
@@ -146,6 +145,28 @@ pub does_table : (p : Program) (m : Map) (k n : ℕ) (w : What) (slot : SlotUnit
 does_table p m k n (what.Apply i) slot does = some_and (slice_get p.tables i) (λ (t : Table). TableCarried m.places m.placement.parts n k t slot) does
 does_table p m k n (what.Gate field test) slot does = absurd does
 
+pub record PartTable (p : Program) (m : Map) (n k : ℕ) (slot : SlotUnit) : Type 0 where
+  pub node : Node
+  pub table : Table
+  pub node_is : slice_get p.nodes n ≡ Some node
+  pub applied_is : applied p node.what ≡ Some table
+  pub table_is : table_at p n ≡ Some table
+  pub carried : TableCarried m.places m.placement.parts n k table slot
+
+pub part_table : (p : Program) (m : Map) (c : Config) (n k place : ℕ) (stage : Stage) (slot : SlotUnit) → UnitsCarried p m.places m.placement.parts m.starts c → IsPart c n k place stage slot → PartTable p m n k slot
+part_table p m c n k place stage slot units part =
+    let unit = unit_of_part p m.places m.placement.parts m.starts c n k place stage slot units part in
+    let node = some_and (slice_get p.nodes n) (λ (x : Node). DoesAs p m.places m.placement.parts k n x.what (Slot slot)) unit.1.does in
+    let table = does_table p m k n node.0.what slot node.2 in
+    record {
+      node = node.0;
+      table = table.0;
+      node_is = node.1;
+      applied_is = table.1;
+      table_is = ap (option_and_then (λ (x : Node). applied p x.what)) node.1 ∙ table.1;
+      carried = table.2;
+    }
+
 pub counted_table : (p : Program) (w : What) → is_counted p w ≡ true → (t : Table) × (applied p w ≡ Some t) × (t.counted ≡ true)
 counted_table p (what.Gate field test) e = absurd (both_ways false refl e)
 counted_table p (what.Apply i) e = by_table (slice_get p.tables i) refl e
@@ -159,33 +180,20 @@ counted_table p (what.Apply i) e = by_table (slice_get p.tables i) refl e
 module _ (p : Program) (lists : List (List Entry)) (m : Map) (c : Config) (entries : AreEntries p lists) (carries : Carries p lists m c) where
   -- what is known of a slot: its node, its table, and its cells
   record SlotKnown (k place : ℕ) (stage : Stage) (slot : SlotUnit) : Type 0 where
-    node : Node
-    table : Table
-    node_is : slice_get p.nodes slot.node ≡ Some node
-    table_is : applied p node.what ≡ Some table
-    at_table : table_at p slot.node ≡ Some table
-    carried : TableCarried m.places m.placement.parts slot.node k table slot
+    own : PartTable p m slot.node k slot
     listed : ListsItsCells stage slot
     list_is : slice_get lists slot.node ≡ Some (entries_at lists slot.node)
-    cells : TableCellsCarried p c (own_view c) m.cells slot.node table (map (width_of p) table.key) (entries_at lists slot.node)
+    cells : TableCellsCarried p c (own_view c) m.cells slot.node own.table (map (width_of p) own.table.key) (entries_at lists slot.node)
 
   slot_known : (k place : ℕ) (stage : Stage) (slot : SlotUnit) → IsPart c slot.node k place stage slot → SlotKnown k place stage slot
   slot_known k place stage slot part =
-      let unit = unit_of_part p m.places m.placement.parts m.starts c slot.node k place stage slot carries.units part in
-      let node = some_and (slice_get p.nodes slot.node) (λ (x : Node). DoesAs p m.places m.placement.parts k slot.node x.what (Slot slot)) unit.1.does in
-      let table = does_table p m k slot.node node.0.what slot node.2 in
-      let list = list_at p lists slot.node node.0 entries node.1 in
-      let at_table : table_at p slot.node ≡ Some table.0 = ap (option_and_then (λ (x : Node). applied p x.what)) node.1 ∙ table.1 in
+      let own = part_table p m c slot.node k place stage slot carries.units part in
+      let list = list_at p lists slot.node own.node entries own.node_is in
       record {
-        node = node.0;
-        table = table.0;
-        node_is = node.1;
-        table_is = table.1;
-        at_table = at_table;
-        carried = table.2;
+        own = own;
         listed = carries.listed k place stage slot part.stage_is part.slot_is;
         list_is = list.0;
-        cells = carries.cells.tables slot.node table.0 (entries_at lists slot.node) at_table list.0;
+        cells = carries.cells.tables slot.node own.table (entries_at lists slot.node) own.table_is list.0;
       }
 
   own_part : (n k place : ℕ) (stage : Stage) (slot : SlotUnit) → IsPart c n k place stage slot → IsPart c slot.node k place stage slot
@@ -213,8 +221,8 @@ module _ (p : Program) (lists : List (List Entry)) (m : Map) (c : Config) (entri
       let holds = known.cells.holds e.0 spot stage e.1 is_spot e.2 part.stage_is in
       let number : e.0.number ≡ x.number =
       sym holds.number_is ∙ own_number_is slot.node k place x.cell stage slot part ∙ listed_number slot.numbers 0 x known.listed.rises there in
-      in_counted p p.nodes lists slot.node known.node (entries_at lists slot.node) x.number known.node_is known.list_is
-      (counted_is p known.node.what known.table known.table_is ∙ sym known.carried.counted ∙ counted)
+      in_counted p p.nodes lists slot.node known.own.node (entries_at lists slot.node) x.number known.own.node_is known.list_is
+      (counted_is p known.own.node.what known.own.table known.own.applied_is ∙ sym known.own.carried.counted ∙ counted)
       (subst (Contains (entry_numbers (entries_at lists slot.node))) number (Contains-map (λ (y : Entry). y.number) (entries_at lists slot.node) e.0 e.1))
 
   unit_told : (k place : ℕ) (stage : Stage) (u : Unit) (n : ℕ) → slice_get c.stages k ≡ Some stage → slice_get stage.units place ≡ Some u → Contains (unit_numbers u) n
@@ -263,15 +271,14 @@ module _ (p : Program) (lists : List (List Entry)) (m : Map) (c : Config) (entri
   slot_counted : (n k place : ℕ) (stage : Stage) (slot : SlotUnit) (t : Table) → IsPart c n k place stage slot → table_at p n ≡ Some t → t.counted ≡ true → slot.counted ≡ true
   slot_counted n k place stage slot t part at counted =
       let known = slot_known k place stage slot (own_part n k place stage slot part) in
-      let same : known.table ≡ t = same_Some known.table t (sym known.at_table ∙ ap (table_at p) part.node_is ∙ at) in
-      known.carried.counted ∙ ap (λ (x : Table). x.counted) same ∙ counted
+      let same : known.own.table ≡ t = same_Some known.own.table t (sym known.own.table_is ∙ ap (table_at p) part.node_is ∙ at) in
+      known.own.carried.counted ∙ ap (λ (x : Table). x.counted) same ∙ counted
 
   node_has : (n : ℕ) (node : Node) (t : Table) (e : Entry) → slice_get p.nodes n ≡ Some node → applied p node.what ≡ Some t → t.counted ≡ true → Contains (entries_at lists n) e
       → Contains (chip_numbers c) e.number
   node_has n node t e at table counted there =
-      let list = list_at p lists n node entries at in
       let at_table : table_at p n ≡ Some t = ap (option_and_then (λ (x : Node). applied p x.what)) at ∙ table in
-      let cells = carries.cells.tables n t (entries_at lists n) at_table list.0 in
+      let cells = carries.cells.tables n t (entries_at lists n) at_table (list_at p lists n node entries at).0 in
       let spot = All-contains (λ (x : Entry). (at : Spot) × IsSpotOf c n at × IsTold m.cells x at) (entries_at lists n) e cells.each there in
       at_spot spot.0 spot.2 (part_of_spot c n spot.0 spot.1) spot.1 cells at_table
     where

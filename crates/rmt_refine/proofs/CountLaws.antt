@@ -72,24 +72,19 @@ module _ (p : Program) (places : List (List Lane)) (parts : List Part) (starts :
   stage_sum_is w k stage zero = refl
   stage_sum_is w k stage (suc m) =
       let ns = cond (set_in m == k) (own m) [] in
-      let both = sum_by-append (weight w) (counts_in stage ns) (before k stage m) in
       let here : sum_by (weight w) (counts_in stage ns) ≡ cond (set_in m == k) (sum_by w (own m)) 0 = counts_sum w stage ns ∙ cond_sum w (set_in m == k) (own m) in
-      let rest = stage_sum_is w k stage m in
-      omega (arith, both, here, rest)
+      omega (arith, sum_by-append (weight w) (counts_in stage ns) (before k stage m), here, stage_sum_is w k stage m)
 
   early_next : (w : ℕ → ℕ) (k m : ℕ) → early_sum w (k + 1) m ≡ early_sum w k m + stage_sum w k m
   early_next w k zero = refl
   early_next w k (suc m) =
-      let rest = early_next w k m in
-      let here = below_next (set_in m) k (sum_by w (own m)) in
-      omega (arith, rest, here)
+      omega (arith, early_next w k m, below_next (set_in m) k (sum_by w (own m)))
 
   early_none : (w : ℕ → ℕ) (m : ℕ) → early_sum w 0 m ≡ 0
   early_none w zero = refl
   early_none w (suc m) =
-      let rest = early_none w m in
       let here : cond (nat_lt (set_in m) 0) (sum_by w (own m)) 0 ≡ 0 = ap (λ b. cond b (sum_by w (own m)) 0) (le-ltb (set_in m) 0 (omega arith)) in
-      omega (arith, rest, here)
+      omega (arith, early_none w m, here)
 
   -- ---- all stages
 
@@ -136,9 +131,8 @@ module _ (p : Program) (places : List (List Lane)) (parts : List Part) (starts :
   early_all w zero run le = refl
   early_all w (suc m) run le =
       let node = slice_get-item p.nodes m (omega (arith, le)) in
-      let rest = early_all w m run (omega (arith, le)) in
       let here = late_none w m node.0 run node.1 (omega (arith, le)) (runs node.0.guard outcomes) refl in
-      omega (arith, rest, here)
+      omega (arith, early_all w m run (omega (arith, le)), here)
 
   life_counts : (w : ℕ → ℕ) (life : Life) → TheRun → AllRead p places parts starts c v entries state outcomes set_in 0 c.stages life
       → AreSet p places parts starts c v entries state outcomes set_in 0 0 life.outcomes → life.counted ≡ []

@@ -16,7 +16,7 @@ use Rattle.rmt_ast.specs.Places.{lanes_of}
 use Rattle.rmt_ast.specs.State.{IsState}
 use Rattle.rmt_ast.specs.WellFormed.{Fits, IsProgram}
 use Rattle.rmt_phv.specs.Places.{written_by}
-use Rattle.rmt_deps.specs.Edges.{of_action, of_node, of_table, read_by, reads_of, words_of, writes_of}
+use Rattle.rmt_deps.specs.Edges.{of_action, of_node, of_table, read_by, reads_of, words_of_fields, writes_of}
 use Rattle.rmt_config.specs.Instructions.{first_code}
 use Rattle.rmt_config.specs.Life.{Running, Words, op_on}
 use Rattle.rmt_refine.specs.declared.map.Map.{Map}
@@ -41,7 +41,7 @@ use Rattle.std.proofs.lemmas.List.Elements.{All-contains}
 -- ---- members
 
 -- a field that is written has its lanes in words that are written
-pub lane_touched : (places : List (List Lane)) (fields : List ℕ) (f : ℕ) (l : Lane) → Contains fields f → Contains (lanes_of places f) l → Contains (words_of places fields) l.word
+pub lane_touched : (places : List (List Lane)) (fields : List ℕ) (f : ℕ) (l : Lane) → Contains fields f → Contains (lanes_of places f) l → Contains (words_of_fields places fields) l.word
 lane_touched places fields f l in_f in_l =
     Contains-flat_map (λ g. map (λ (x : Lane). x.word) (lanes_of places g)) fields f l.word in_f (Contains-map (λ (x : Lane). x.word) (lanes_of places f) l in_l)
 
@@ -107,8 +107,7 @@ module _ (p : Program) (lists : List (List Entry)) (m : Map) (c : Config) (v : V
       let is : IsEntry n (terms_of p t) e = All-contains (IsEntry n (terms_of p t)) (entries_at lists n) e are.each there.0.there in
       let params = some_and (slice_get (map (params_of p) t.actions) e.action) (λ ps. AllZip Fits ps e.args) is.action in
       let within = slice_get_within (map (params_of p) t.actions) e.action params.0 params.1 in
-      let long = length-map t.actions (params_of p) in
-      let listed = slice_get-get_or t.actions e.action 0 (omega (arith, within, long)) in
+      let listed = slice_get-get_or t.actions e.action 0 (omega (arith, within, length-map t.actions (params_of p))) in
       let its_params : slice_get (map (params_of p) t.actions) e.action ≡ Some (params_of p (slice_index t.actions e.action)) =
       slice_get-map (params_of p) t.actions e.action ∙ ap (option_map (params_of p)) listed in
       let fits = subst (λ ps. AllZip Fits ps e.args) (ap (λ q. unwrap_or q []) (sym params.1 ∙ its_params)) params.2 in
@@ -150,12 +149,12 @@ module _ (p : Program) (lists : List (List Entry)) (m : Map) (c : Config) (v : V
 
   -- its instruction has operations on words of fields that the node writes, and on no other
   pub touches : (n : ℕ) (t : Table) (r : Running) → DoesFor n t r → table_at p n ≡ Some t → (w : ℕ) (op : Operation) → op_on w r.ops ≡ Some op
-      → Contains (words_of m.places (writes_of p n)) w
+      → Contains (words_of_fields m.places (writes_of p n)) w
   touches n t r does e w op on =
       let found = found_passes (λ (x : Operation). x.word == w) r.ops op on in
       let lanes = assigned_lanes p m.places (action_run t (hit_at n t)) in
       let own = All-contains (λ (x : Operation). Contains (map (λ (l : Lane). l.word) lanes) x.word) r.ops op does.words found.0 in
       let lane = Contains-unmap (λ (l : Lane). l.word) lanes op.word own in
       let field = from_flat_map (lanes_of m.places) (of_action p written_by (action_run t (hit_at n t))) lane.0 lane.1 in
-      subst (Contains (words_of m.places (writes_of p n))) (lane.2 ∙ eqb-true op.word w found.1)
+      subst (Contains (words_of_fields m.places (writes_of p n))) (lane.2 ∙ eqb-true op.word w found.1)
       (lane_touched m.places (writes_of p n) field.0 lane.0 (written_listed n t field.0 e field.1) field.2)

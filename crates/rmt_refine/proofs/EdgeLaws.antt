@@ -1,8 +1,8 @@
 -- No part of a node stands before a part of its parent, where the parts keep every edge.
-use Rattle.std.proofs.Common.{◌≡◌, ℕ, zero, suc, ◌+◌, ◌-◌, ◌<◌, ◌≤◌, Bool, true, false, not, ◌&&◌, ◌||◌, ◌==◌, cond, List, [], ◌∷◌, ◌/◌, ◌%◌, ◌^◌, Option, Some, None, length, map, refl, sym, ap, ◌∙◌, subst, ◌⊎◌, inl, inr, arith}
+use Rattle.std.proofs.Common.{◌≡◌, ℕ, zero, suc, ◌+◌, ◌-◌, ◌<◌, ◌≤◌, Bool, true, false, not, ◌&&◌, ◌||◌, ◌==◌, cond, List, [], ◌∷◌, ◌/◌, ◌%◌, ◌^◌, Option, Some, None, length, map, refl, sym, ap, ◌∙◌, subst, inl, inr, arith}
 use Rattle.std.specs.Prelude.{All, Contains, MatchBool, bit_and, filter, slice_get, slice_index, ⊤}
 use Rattle.std.specs.List.{list_any, range_with_len}
-use Rattle.std.proofs.lemmas.Bool.{eq-eqb, eqb-true, false_from_ne_true, true_from_ne_false}
+use Rattle.std.proofs.lemmas.Bool.{cases_eq, eq-eqb, eqb-true, false_from_ne_true, true_from_ne_false}
 use Rattle.std.proofs.Math.Nat.{div-one, zero-div}
 use Rattle.std.proofs.lemmas.Nat.{and_mod, and_shr}
 use Rattle.std.proofs.lemmas.List.Elements.{All-contains_itself, All-contains}
@@ -24,7 +24,6 @@ use Rattle.rmt_refine.specs.Outcomes.{ChildrenFollow, entries_at, node_outcome, 
 use Rattle.rmt_refine.specs.Units.{UnitsCarried}
 use Rattle.rmt_pack.proofs.FindLaws.{Contains-range, Contains-range_from}
 use Rattle.rmt_refine.proofs.NodeLaws.{part_there}
-use Rattle.rmt_refine.proofs.RankLaws.{compare}
 use Rattle.rmt_refine.proofs.FieldLaws.{Goes}
 use Rattle.rmt_refine.proofs.RunLaws.{is_earlier, outcome_at}
 use Rattle.rmt_bits.proofs.MemberLaws.{Contains-first, Contains-later, Contains-split, Contains-filter}
@@ -97,15 +96,13 @@ one_parent most (g ∷ gs) x y fall cx cy same =
       | inl ex ↦ elim (Contains-split g gs y cy) [
         | inl ey ↦ sym ex ∙ ey
         | inr later ↦
-            let lt = all_less g.parent gs y fall.1 later in
             let e : g.parent ≡ y.parent = ap (λ (z : Guard). z.parent) ex ∙ same in
-            absurd (omega (arith, lt, e))
+            absurd (omega (arith, all_less g.parent gs y fall.1 later, e))
       ]
       | inr more ↦ elim (Contains-split g gs y cy) [
         | inl ey ↦
-            let lt = all_less g.parent gs x fall.1 more in
             let e : x.parent ≡ g.parent = same ∙ sym (ap (λ (z : Guard). z.parent) ey) in
-            absurd (omega (arith, lt, e))
+            absurd (omega (arith, all_less g.parent gs x fall.1 more, e))
         | inr later ↦ one_parent g.parent gs x y fall.1 more later same
       ]
     ]
@@ -129,22 +126,12 @@ same_arm x y e =
     never_both true b = refl
     never_both false b = refl
 
-eqb_cases : (a b : ℕ) → (a ≡ b) ⊎ (a ≡ b → ⊥)
-eqb_cases a b = elim (compare a b) [
-  | inl lt ↦ inr (λ e. omega (arith, lt, e))
-  | inr more ↦ elim more [
-    | inl gt ↦ inr (λ e. omega (arith, gt, e))
-    | inr e ↦ inl e
-  ]
-]
-
 -- the guards of a node with a guard are that and its parent's
 own_guards : (p : Program) (n : ℕ) (g : Guard) → IsProgram p → guard_of p n ≡ Some g → guards_of p n ≡ g ∷ guards_of p g.parent
 own_guards p zero g program e = let lt = parent_less p 0 g program e in absurd (omega (arith, lt))
 own_guards p (suc n) g program e =
-    let lt = parent_less p (suc n) g program e in
     ap (λ o. guard_then o (λ h. guards_up p n h.parent)) e
-    ∙ ap (λ gs. g ∷ gs) (enough p n g.parent g.parent program (omega (arith, lt)) (omega arith))
+    ∙ ap (λ gs. g ∷ gs) (enough p n g.parent g.parent program (omega (arith, parent_less p (suc n) g program e)) (omega arith))
 
 parent_beside : (p : Program) (n : ℕ) (g : Guard) → IsProgram p → guard_of p n ≡ Some g → on_different_arms p g.parent n ≡ false
 parent_beside p n g program e =
@@ -158,7 +145,7 @@ parent_beside p n g program e =
       | inl ey ↦
           let lt = all_less q up x fall cx in
           other_parent x y (λ same. let eq : x.parent ≡ q = same ∙ sym (ap (λ (z : Guard). z.parent) ey) in omega (arith, lt, eq))
-      | inr later ↦ elim (eqb_cases x.parent y.parent) [
+      | inr later ↦ elim (cases_eq x.parent y.parent) [
         | inl same ↦ same_arm x y (one_parent q up x y fall cx later same)
         | inr ne ↦ other_parent x y ne
       ]
@@ -230,7 +217,7 @@ masks_meet x y i hx hy none =
     omega (arith, clash)
 
 other_arm : (o : List ℕ) (g h : Guard) → g.mask / 2 ^ slice_index o g.parent % 2 ≡ 1 → h.mask / 2 ^ slice_index o h.parent % 2 ≡ 1 → are_other_arms g h ≡ false
-other_arm o g h pass_g pass_h = elim (eqb_cases g.parent h.parent) [
+other_arm o g h pass_g pass_h = elim (cases_eq g.parent h.parent) [
   | inl same ↦
       let there : h.mask / 2 ^ slice_index o g.parent % 2 ≡ 1 = ap (λ q. h.mask / 2 ^ slice_index o q % 2) same ∙ pass_h in
       let none : (bit_and g.mask h.mask == 0) ≡ false =

@@ -1,5 +1,5 @@
 -- The entries of well-formed lists: each is in the list of its table, and has a number of its own.
-use Rattle.std.proofs.Common.{◌≡◌, ◌≢◌, ◌⊎◌, ℕ, ◌<◌, List, [], ◌∷◌, Option, Some, None, All, Contains, filter_map, length, map, get_or, refl, sym, ap, subst, ◌∙◌, inl, inr, arith}
+use Rattle.std.proofs.Common.{◌≡◌, ◌≢◌, ℕ, ◌<◌, List, [], ◌∷◌, Option, Some, None, All, Contains, filter_map, length, map, refl, sym, ap, subst, ◌∙◌, inl, inr, arith}
 use Rattle.std.specs.Prelude.{AllPairs, IsSomeAnd, option_and_then, option_map, slice_get, slice_index}
 use Rattle.std.specs.List.{AllZip, cons_option}
 use Rattle.std.proofs.lemmas.List.{length-map}
@@ -19,24 +19,9 @@ use Rattle.rmt_config.specs.Commits.{all_entries}
 use Rattle.rmt_refine.specs.Commits.{AreNamesOf}
 use Rattle.rmt_refine.specs.Units.{applied, table_at}
 use Rattle.rmt_refine.proofs.PartLaws.{some_and}
-use Rattle.rmt_refine.proofs.RankLaws.{compare}
+pub use Rattle.rmt_refine.proofs.RankLaws.{two_items}
 use Rattle.rmt_refine.proofs.TheLaw.{table_entries}
 use Rattle.rmt_pack.proofs.EntryLaws.{AllPairs-unmap, all_numbers}
-
--- ---- pairs
-
-same_item : {X : Type 0} (xs : List X) (i : ℕ) (d x : X) → i < length xs → get_or xs i x ≡ x → get_or xs i d ≡ x
-same_item xs i d x lt e = same_Some (get_or xs i d) x (sym (slice_get-get_or xs i d lt) ∙ slice_get-get_or xs i x lt ∙ ap Some e)
-
--- of two items one stands before the other, or they are one
-pub two_items : {X : Type 0} (R : X → X → Type 0) (xs : List X) (a b : X) → AllPairs R xs → Contains xs a → Contains xs b → R a b ⊎ (R b a ⊎ (a ≡ b))
-two_items R xs a b pairs in_a in_b = elim (compare in_a.0 in_b.0) [
-  | inl lt ↦ inl (subst (λ y. R y b) in_a.2 (subst (R (get_or xs in_a.0 a)) (same_item xs in_b.0 a b in_b.1 in_b.2) (pairs in_a.0 in_b.0 a lt in_b.1)))
-  | inr more ↦ elim more [
-    | inl lt ↦ inr (inl (subst (λ y. R y a) in_b.2 (subst (R (get_or xs in_b.0 b)) (same_item xs in_a.0 b a in_a.1 in_a.2) (pairs in_b.0 in_a.0 b lt in_a.1))))
-    | inr e ↦ inr (inr (sym in_a.2 ∙ same_item xs in_a.0 a b in_a.1 (ap (λ i. get_or xs i b) e ∙ in_b.2)))
-  ]
-]
 
 -- ---- what a function gives of some items
 
@@ -68,10 +53,8 @@ numbers_apart p lists entries = AllPairs-unmap ◌≢◌ (λ (e : Entry). e.numb
 pub one_entry : (p : Program) (lists : List (List Entry)) (e f : Entry) → AreEntries p lists → Contains (all_entries lists) e → Contains (all_entries lists) f → e.number ≡ f.number → e ≡ f
 one_entry p lists e f entries in_e in_f same = elim (two_items (λ (a b : Entry). a.number ≢ b.number) (all_entries lists) e f (numbers_apart p lists entries) in_e in_f) [
   | inl apart ↦ absurd (apart same)
-  | inr more ↦ elim more [
-    | inl apart ↦ absurd (apart (sym same))
-    | inr is ↦ is
-  ]
+  | inr (inl apart) ↦ absurd (apart (sym same))
+  | inr (inr is) ↦ is
 ]
 
 -- ---- the list of an entry
@@ -143,6 +126,4 @@ action_is p t e n is =
 -- names tell the terms of its table
 pub entry_named : (p : Program) (names : Names) (lists : List (List Entry)) (e : Entry) → AreNamesOf p names → (l : IsListed p lists e) → terms_named names e.table ≡ Some (terms_of p l.table)
 entry_named p names lists e naming l =
-    let a = action_is p l.table e e.table l.is_entry in
-    let within = a.within in
-    naming e.table l.table l.table_is (omega (arith, within))
+    naming e.table l.table l.table_is (omega (arith, (action_is p l.table e e.table l.is_entry).within))

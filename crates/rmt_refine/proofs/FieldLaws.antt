@@ -3,7 +3,7 @@ use Rattle.std.proofs.Common.{◌≡◌, ℕ, zero, suc, ◌+◌, ◌<◌, ◌�
 use Rattle.std.specs.Prelude.{Contains, option_map, slice_get, slice_index, slice_set, unwrap_or}
 use Rattle.std.specs.List.{AllZip, flat_map}
 use Rattle.std.proofs.Math.ListN.{length-set}
-use Rattle.std.proofs.lemmas.Bool.{cases_lt}
+use Rattle.std.proofs.lemmas.Bool.{cases_eq, cases_lt}
 use Rattle.std.proofs.lemmas.List.Elements.{Contains-append_left, Contains-append_right, Contains-get_or, All-contains}
 use Rattle.std.proofs.lemmas.List.{get_or-set_other, get_or-set_same, length-map}
 use Rattle.std.proofs.lemmas.Option.{same_Some, slice_get_within}
@@ -25,7 +25,6 @@ use Rattle.rmt_refine.specs.Outcomes.{entries_at, run_before}
 use Rattle.rmt_refine.proofs.LookUpLaws.{hit_some}
 use Rattle.rmt_refine.proofs.OutcomeLaws.{list_at}
 use Rattle.rmt_refine.proofs.PartLaws.{some_and}
-use Rattle.rmt_refine.proofs.RankLaws.{compare}
 use Rattle.rmt_refine.proofs.RunLaws.{guard_at, run_next, through_node}
 use Rattle.rmt_bits.proofs.MemberLaws.{Contains-first, Contains-later, Contains-split, Contains-flat_map}
 
@@ -81,12 +80,9 @@ set_agree : (known : ℕ → Type 0) (s t : List ℕ) (i x y : ℕ) → Agree kn
 set_agree known s t i x y agree e = record {
   long = length-set s i x ∙ agree.long ∙ sym (length-set t i y);
   same = λ f which.
-      elim (compare f i) [
-        | inl lt ↦ others f which (λ q. omega (arith, q, lt))
-        | inr more ↦ elim more [
-          | inl gt ↦ others f which (λ q. omega (arith, q, gt))
-          | inr q ↦ subst (λ g. slice_index (slice_set s i x) g ≡ slice_index (slice_set t i y) g) (sym q) (set_same s t i x y agree.long e)
-        ]
+      elim (cases_eq f i) [
+        | inl q ↦ subst (λ g. slice_index (slice_set s i x) g ≡ slice_index (slice_set t i y) g) (sym q) (set_same s t i x y agree.long e)
+        | inr ne ↦ others f which ne
       ];
 }
   where
@@ -131,8 +127,7 @@ act_agree p action args s t agree f there = by_action (slice_get p.actions actio
         ≡ slice_index (unwrap_or (option_map (λ (a : Action). acted p a.assigns args t) o) t) f
     by_action None same is = absurd (let lt = is.1 in omega (arith, lt))
     by_action (Some a) same is =
-        let r = acted_agree p args a.assigns (Contains (read_by a)) s t same (λ g reads. reads) in
-        r.same f (inr is)
+        (acted_agree p args a.assigns (Contains (read_by a)) s t same (λ g reads. reads)).same f (inr is)
 
 -- ---- what a node leaves alone
 

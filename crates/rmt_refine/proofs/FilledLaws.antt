@@ -1,7 +1,7 @@
 -- A commit that moves cells leaves cells in which each packet sees just the entries after it.
-use Rattle.std.proofs.Common.{◌≡◌, ◌≢◌, ◌⊎◌, ℕ, ◌+◌, ◌*◌, ◌/◌, ◌%◌, ◌^◌, ◌<◌, ◌==◌, true, false, List, [], map, get_or, Option, Some, None, Contains, refl, sym, ap, subst, ◌∙◌, inl, inr, arith}
+use Rattle.std.proofs.Common.{◌≡◌, ◌≢◌, ◌⊎◌, ℕ, ◌+◌, ◌*◌, ◌%◌, ◌<◌, true, false, List, [], map, get_or, Option, Some, None, Contains, refl, sym, ap, subst, ◌∙◌, inl, inr, arith}
 use Rattle.std.specs.Prelude.{AllPairs, IsSomeAnd, count_by, option_map, slice_get, unwrap_or}
-use Rattle.std.proofs.lemmas.Bool.{and_from, cases_eq, eq-eqb, false≢true}
+use Rattle.std.proofs.lemmas.Bool.{and_from, eq-eqb, false≢true}
 use Rattle.std.proofs.lemmas.List.Elements.{All-contains, All-contains_itself}
 use Rattle.std.proofs.lemmas.Option.{same_Some}
 use Rattle.rmt_bits.proofs.MemberLaws.{Contains-map, Contains-unmap}
@@ -18,6 +18,7 @@ use Rattle.rmt_config.specs.Limits.{IsWithinLimits}
 use Rattle.rmt_config.specs.RunCells.{RunCells, emptied, has_bit, no_content, sees, slot_at, with_version}
 use Rattle.rmt_config.specs.Rooms.{Room, entry_content, is_before, key_number, rooms_for}
 use Rattle.rmt_config.specs.Commits.{AreFilled, IsFilled, Placed, all_entries, filled, filled_content, placed_at}
+use Rattle.rmt_config.proofs.RunCellLaws.{both_show}
 use Rattle.rmt_refine.specs.declared.map.CellOf.{CellOf}
 use Rattle.rmt_refine.specs.declared.map.Map.{Map}
 use Rattle.rmt_refine.specs.View.{View}
@@ -30,18 +31,12 @@ use Rattle.rmt_pack.proofs.PartLaws.{and_at}
 use Rattle.rmt_pack.proofs.RoomLaws.{room_is}
 use Rattle.rmt_refine.proofs.RoomOrderLaws.{any_key, rooms_rise}
 use Rattle.rmt_pack.proofs.RoomOrderLaws.{fewer_first, pair_at, room_there}
-use Rattle.rmt_refine.proofs.StandLaws.{Apart, HoldsIts, InOrder, StandsIn, all_carried, entry_holds, few_codes, placed_there, shown, shown_seen, shown_unseen, told_of}
+use Rattle.rmt_refine.proofs.StandLaws.{Apart, HoldsIts, InOrder, StandsIn, all_carried, entry_holds, few_codes, placed_there, shown, shown_seen, told_of, seen_placed}
 
 -- ---- a head with both visible bits
 
 full_bit : (v i : ℕ) → has_bit v (1 + 2 * 3 + 8 * i) ≡ true
-full_bit v i = elim (cases_eq (v % 2) 0) [
-  | inl e ↦
-      subst (λ m. ((1 + 2 * 3 + 8 * i) / 2 ^ (1 + m) % 2 == 1) ≡ true) (sym e) (eq-eqb ((1 + 2 * 3 + 8 * i) / 2 % 2) 1 (omega arith))
-  | inr ne ↦
-      let one : v % 2 ≡ 1 = omega (arith, ne) in
-      subst (λ m. ((1 + 2 * 3 + 8 * i) / 2 ^ (1 + m) % 2 == 1) ≡ true) (sym one) (eq-eqb ((1 + 2 * 3 + 8 * i) / 4 % 2) 1 (omega arith))
-]
+full_bit v i = both_show v (1 + 2 * 3 + 8 * i) (omega arith)
 
 pub full_occupied : (i : ℕ) → is_occupied (1 + 2 * 3 + 8 * i) ≡ true
 full_occupied i = eq-eqb ((1 + 2 * 3 + 8 * i) % 2) 1 (omega arith)
@@ -167,11 +162,10 @@ module _ (p : Program) (m : Map) (c : Config) (names : Names) (cells : RunCells)
       let f = fills q there in
       let x = entry_content (terms_of p f.base.listed.table) q.room.part 3 q.entry in
       let code = q.room.part.first + q.entry.action in
-      let found = placed_there p m c new after units entries placed apart q there in
       let is : filled_content c names (Some q) q.room.part.stage q.room.part.place ≡ x =
       ap (λ (o : Option Terms). unwrap_or (option_map (λ t. entry_content t q.room.part 3 q.entry) o) (emptied q.room.part.slot)) f.named in
       subst (λ (o : Option Placed). HoldsIts p c new after q f.base (unwrap_or (option_map (λ (y : Placed). y.entry.number) o) 0) (shown next_version (filled_content c names o q.room.part.stage q.room.part.place)))
-      (sym found)
+      (sym (placed_there p m c new after units entries placed apart q there))
       (subst (λ y. HoldsIts p c new after q f.base q.entry.number (shown next_version y)) (sym is)
       (subst (HoldsIts p c new after q f.base q.entry.number) (sym (shown_seen next_version x (full_seen next_version code)))
       (entry_holds p m c new after units entries q f.base 3 (full_occupied code) (full_code code (few_codes p m c new after units entries limits q f.base)))))
@@ -184,11 +178,7 @@ module _ (p : Program) (m : Map) (c : Config) (names : Names) (cells : RunCells)
       by (Some slot) = refl
 
   only_placed : (k place n : ℕ) (slot : SlotUnit) → slot_at c k place ≡ Some slot → is_seen (new.content k place n).head ≡ true → (q : Placed) × (placed_at placed k place n ≡ Some q)
-  only_placed k place n slot at seen = by (placed_at placed k place n) refl seen
-    where
-      by : (o : Option Placed) → placed_at placed k place n ≡ o → is_seen (shown next_version (filled_content c names o k place)).head ≡ true → (q : Placed) × (placed_at placed k place n ≡ Some q)
-      by None e h = absurd (shown_unseen next_version (filled_content c names None k place) (none_unseen k place) h)
-      by (Some q) e h = (q, e)
+  only_placed k place n slot at = seen_placed next_version placed k place n (λ o. filled_content c names o k place) (none_unseen k place)
 
   pub filled_carried : (now : List CellOf) × CellsCarried p c new now after
   filled_carried = (map told_of placed, all_carried p m c new after units entries placed apart its differ each_there holds only_placed)

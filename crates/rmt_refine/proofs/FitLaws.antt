@@ -1,31 +1,27 @@
 -- What fit changes make of well-formed entries: they stay well formed, and each entry is one that stood or has a new number.
-use Rattle.std.proofs.Common.{◌≡◌, ◌≢◌, ◌⊎◌, ℕ, zero, suc, ◌+◌, ◌-◌, ◌<◌, ◌≤◌, ◌==◌, true, false, ◌&&◌, List, [], ◌∷◌, ◌++◌, length, map, Option, Some, None, All, Contains, refl, sym, ap, subst, ◌∙◌, inl, inr, arith}
+use Rattle.std.proofs.Common.{◌≡◌, ◌≢◌, ◌⊎◌, ℕ, zero, suc, ◌+◌, ◌<◌, ◌≤◌, ◌==◌, true, List, [], ◌∷◌, ◌++◌, length, map, Option, Some, None, All, Contains, refl, sym, ap, subst, ◌∙◌, inl, inr, arith}
 use Rattle.std.specs.Prelude.{option_map, slice_get, slice_set, unwrap_or}
-use Rattle.std.specs.List.{AllZip, flat_map}
-use Rattle.std.specs.Str.{bytes_eq}
-use Rattle.std.proofs.lemmas.Bool.{and_from, cases_eq, eq-eqb, eqb-true, false≢true}
-use Rattle.std.proofs.lemmas.List.{length-append, length-map, length-set}
+use Rattle.std.specs.List.{flat_map}
+use Rattle.std.proofs.lemmas.Bool.{cases_eq, eqb-true, false≢true}
+use Rattle.std.proofs.lemmas.List.{length-map, length-set}
 use Rattle.std.proofs.lemmas.List.Elements.{All-append, All-cons, All-contains, All-contains_itself, All-nil, All-set, All-weaker}
-use Rattle.std.proofs.lemmas.List.Quantifiers.{all_pairs_push}
 use Rattle.std.proofs.lemmas.Option.{none-some, same_Some, slice_get-map}
-use Rattle.std.proofs.lemmas.Slice.Eq.{bytes_eq-Decides}
 use Rattle.rmt_bits.proofs.AllLaws.{All-flat_map, All-parts, All-unmap}
 use Rattle.rmt_bits.proofs.ListLaws.{slice_get-set_other}
-use Rattle.rmt_bits.proofs.MemberLaws.{Contains-first, Contains-item, Contains-map, Contains-split, Contains-unmap, flat_from, list_any-Contains, any_item}
+use Rattle.rmt_bits.proofs.MemberLaws.{Contains-first, Contains-item, Contains-map, Contains-split, Contains-unmap, flat_from, any_item}
 use Rattle.rmt_bits.proofs.PairLaws.{AllPairs-append, AllPairs-none}
 use Rattle.rmt_ast.specs.declared.entry.Entry.{Entry}
-use Rattle.rmt_ast.specs.declared.program.Kind.TheVariants as kind
 use Rattle.rmt_ast.specs.Answers.{entry_numbers}
-use Rattle.rmt_ast.specs.Changes.{Adds, Change, Installed, Removes, are_same, changed, committed, is_keyed_by, list_of, next_number, without}
-use Rattle.rmt_ast.specs.EntryLists.{AreEntries, AreEntriesAt, AreTableEntries, HasKeysOnce, HasRank, IsEntry, IsPrefix, Terms, terms_at, terms_of}
+use Rattle.rmt_ast.specs.Changes.{Adds, Change, Installed, Removes, changed, committed, list_of, next_number, without}
+use Rattle.rmt_ast.specs.EntryLists.{AreEntries, AreEntriesAt, Terms, terms_at, terms_of}
 use Rattle.rmt_ast.specs.Events.{Arrives, Commits, Event, lists_from}
 use Rattle.rmt_ast.specs.WellFormed.{AreDistinct, HasKey, IsProgram}
-use Rattle.rmt_refine.specs.Types.{Kind, Node, Program, Table, Test}
+use Rattle.rmt_refine.specs.Types.{Kind, Node, Program, Table}
 use Rattle.rmt_config.specs.Commits.{all_entries, is_numbered_in}
 use Rattle.rmt_refine.specs.Commits.{KeepEntries}
-use Rattle.rmt_refine.specs.Fit.{AreFit, AreFitChanges, CanBeAdded, CanBeMade, has_once, is_held, key_of_entry}
+use Rattle.rmt_refine.specs.Fit.{AreFit, AreFitChanges, CanBeAdded, CanBeMade, has_once}
 use Rattle.rmt_refine.specs.Units.{applied, table_at}
-use Rattle.rmt_pack.proofs.EntryLaws.{all_numbers, distinct_at, entries_without, numbered, one_rank, same_rank}
+use Rattle.rmt_pack.proofs.EntryLaws.{all_numbers, distinct_at, entries_without, numbered, table_added}
 use Rattle.rmt_refine.proofs.EntryLaws.{listed_in, one_entry}
 use Rattle.rmt_refine.proofs.NumberLaws.{one_list}
 use Rattle.rmt_pack.proofs.PartLaws.{and_from as some_from, then_some}
@@ -33,6 +29,7 @@ use Rattle.rmt_refine.proofs.PartLaws.{some_and}
 use Rattle.rmt_refine.proofs.TheLaw.{its_table, its_terms}
 use Rattle.rmt_bits.proofs.MostLaws.{fold_max}
 use Rattle.rmt_ast.proofs.EntryLaws.{all_without}
+use Rattle.rmt_ast.specs.declared.program.Kind.TheVariants as kind
 
 -- ---- numbers that stand once
 
@@ -105,9 +102,7 @@ module _ (p : Program) (s : Installed) (entries : AreEntries p s.lists) (below :
     not_next : (j x : ℕ) → IsOldNumber j x → x ≡ s.next → ⊥
     not_next j x o is =
         let e = Contains-unmap (λ (y : Entry). y.number) o.list x o.there in
-        let lt = below_in j o.list e.0 o.list_is e.1 in
-        let same = e.2 in
-        omega (arith, lt, same, is)
+        omega (arith, below_in j o.list e.0 o.list_is e.1, e.2, is)
 
     in_one_list : InOneList lists
     in_one_list j k a b x at_a at_b in_a in_b = elim (old_number j x a at_a in_a) [
@@ -163,54 +158,11 @@ terms_there p n t at =
 
 -- ---- an entry is added
 
--- entries with the same tests have the same key
-pub ranks_agree : (k : Kind) (ws : List ℕ) (e o : Entry) → has_once k ≡ true → (k ≡ kind.Prefix → 1 ≤ length ws) → HasRank k ws e → HasRank k ws o → e.tests ≡ o.tests → e.rank ≡ o.rank
-ranks_agree kind.Keyless ws e o once some he ho same = absurd (false≢true once)
-ranks_agree kind.Exact ws e o once some he ho same = he.1 ∙ sym ho.1
-ranks_agree kind.Prefix ws e o once some he ho same = one_rank ws e.tests e.rank o.rank (some refl) he (subst (AllZip (IsPrefix o.rank) ws) (sym same) ho)
-ranks_agree kind.Ternary ws e o once some he ho same = absurd (false≢true once)
-
-keyed : (e o : Entry) → e.tests ≡ o.tests → e.rank ≡ o.rank → is_keyed_by (key_of_entry e) o ≡ true
-keyed e o tests ranks =
-    and_from (are_same e.tests o.tests) (e.rank == o.rank)
-    (and_from (bytes_eq (map (λ (t : Test). t.value) e.tests) (map (λ (t : Test). t.value) o.tests)) (bytes_eq (map (λ (t : Test). t.mask) e.tests) (map (λ (t : Test). t.mask) o.tests))
-    ((bytes_eq-Decides (map (λ (t : Test). t.value) e.tests) (map (λ (t : Test). t.value) o.tests)).1 (ap (map (λ (t : Test). t.value)) tests))
-    ((bytes_eq-Decides (map (λ (t : Test). t.mask) e.tests) (map (λ (t : Test). t.mask) o.tests)).1 (ap (map (λ (t : Test). t.mask)) tests)))
-    (eq-eqb e.rank o.rank ranks)
-
-other_tests : (n : ℕ) (t : Terms) (es : List Entry) (e : Entry) → has_once t.kind ≡ true → (t.kind ≡ kind.Prefix → 1 ≤ length t.widths) → All (IsEntry n t) es → IsEntry n t e
-    → (has_once t.kind && is_held (key_of_entry e) es) ≡ false → All (λ (o : Entry). o.tests ≢ e.tests) es
-other_tests n t es e once some each is new =
-    All-weaker (Contains es) (λ (o : Entry). o.tests ≢ e.tests)
-    (λ o there same.
-    let own = All-contains (IsEntry n t) es o each there in
-    let held = list_any-Contains (is_keyed_by (key_of_entry e)) es o there (keyed e o (sym same) (ranks_agree t.kind t.widths e o once some is.rank own.rank (sym same))) in
-    false≢true (sym new ∙ and_from (has_once t.kind) (is_held (key_of_entry e) es) once held))
-    es (All-contains_itself es)
-
-pub keys_pushed : (k : Kind) (es : List Entry) (e : Entry) → HasKeysOnce k es → (has_once k ≡ true → All (λ (o : Entry). o.tests ≢ e.tests) es) → HasKeysOnce k (es ++ e ∷ [])
-keys_pushed kind.Keyless es e once other = tt
-keys_pushed kind.Exact es e once other = all_pairs_push (λ (a b : Entry). a.tests ≢ b.tests) es e once (other refl)
-keys_pushed kind.Prefix es e once other = all_pairs_push (λ (a b : Entry). a.tests ≢ b.tests) es e once (other refl)
-keys_pushed kind.Ternary es e once other = tt
-
 prefix_width : (p : Program) (k : Kind) (t : Table) → HasKey p k t → k ≡ kind.Prefix → 1 ≤ length t.key
 prefix_width p kind.Keyless t has e = absurd (false≢true (ap has_once e))
 prefix_width p kind.Exact t has e = has.has_key
 prefix_width p kind.Prefix t has e = has.0.has_key
 prefix_width p kind.Ternary t has e = has.has_key
-
-table_added : (n : ℕ) (t : Terms) (es : List Entry) (e : Entry) (next : ℕ) → (t.kind ≡ kind.Prefix → 1 ≤ length t.widths) → AreTableEntries n es t → IsEntry n t e
-    → (has_once t.kind && is_held (key_of_entry e) es) ≡ false → length es < t.size → All (λ (o : Entry). o.number < next) es → AreTableEntries n (es ++ numbered e next ∷ []) t
-table_added n t es e next some are is new room below = record {
-  each = All-append (IsEntry n t) es (numbered e next ∷ []) are.each
-      (All-cons (IsEntry n t) (numbered e next) [] (record { table = is.table; tests = is.tests; rank = same_rank t.kind t.widths e next is.rank; action = is.action }) (All-nil (IsEntry n t)));
-  rising = all_pairs_push (λ (a b : Entry). a.number < b.number) es (numbered e next) are.rising below;
-  keys_once = keys_pushed t.kind es (numbered e next) are.keys_once (λ once. other_tests n t es e once some are.each is new);
-  within_size = let long = length-append es (numbered e next ∷ []) in omega (arith, room, long);
-}
-
--- ---- an entry is removed
 
 -- ---- a change that can be made
 
@@ -258,7 +210,7 @@ module _ (p : Program) (program : IsProgram p) where
             let same : old ≡ es = sym (list_is s.lists e.table old at) in
             let is : o ≡ Some (terms_of p t.0) = same_Some o (Some (terms_of p t.0)) (sym terms ∙ terms_there p e.table t.0 t.1) in
             subst (AreEntriesAt e.table new) (sym is)
-            (table_added e.table (terms_of p t.0) es e s.next some (subst (λ xs. AreEntriesAt e.table xs (Some (terms_of p t.0))) same (subst (AreEntriesAt e.table old) is are)) t.2.is_entry t.2.is_new t.2.has_room
+            (table_added has_once refl refl e.table (terms_of p t.0) es e s.next some (subst (λ xs. AreEntriesAt e.table xs (Some (terms_of p t.0))) same (subst (AreEntriesAt e.table old) is are)) t.2.is_entry t.2.is_new t.2.has_room
             (in_list s (λ (x : Entry). x.number < s.next) e.table below)));
       }
   change_follows s (Removes node key) entries below can =
@@ -277,18 +229,15 @@ module _ (p : Program) (program : IsProgram p) where
   follow_itself : (s : Installed) → AreEntries p s.lists → AllBelow s → FollowOn p s s
   follow_itself s entries below = record { next = omega arith; each = all_stand s; below = below; entries = entries }
 
+  stays_on : (a b : Installed) → FollowOn p a b → (e : Entry) → StaysOrIsNew b e → StaysOrIsNew a e
+  stays_on a b ab e (inl there) = All-contains (StaysOrIsNew a) (all_entries b.lists) e ab.each there
+  stays_on a b ab e (inr new) = inr (omega (arith, ab.next, new))
+
   follow_on : (a b d : Installed) → FollowOn p a b → FollowOn p b d → FollowOn p a d
   follow_on a b d ab bd =
-      let le = ab.next in
-      let more = bd.next in
       record {
-        next = omega (arith, le, more);
-        each = All-weaker (λ (e : Entry). Contains (all_entries b.lists) e ⊎ (b.next ≤ e.number)) (StaysOrIsNew a)
-            (λ e h. elim h [
-              | inl there ↦ All-contains (StaysOrIsNew a) (all_entries b.lists) e ab.each there
-              | inr new ↦ inr (omega (arith, le, new))
-            ])
-            (all_entries d.lists) bd.each;
+        next = omega (arith, ab.next, bd.next);
+        each = All-weaker (StaysOrIsNew b) (StaysOrIsNew a) (stays_on a b ab) (all_entries d.lists) bd.each;
         below = bd.below;
         entries = bd.entries;
       }
@@ -318,42 +267,26 @@ module _ (p : Program) (program : IsProgram p) where
 
   -- ---- all entries of a run
 
-  -- entries of a later time stood before, or are new
+  -- the entries at a later time are well formed, and stood before or are new
   later_entries : (s : Installed) (events : List Event) → AreEntries p s.lists → AllBelow s → AreFit p s events
-      → (ls : List (List Entry)) → Contains (lists_from s events) ls → All (StaysOrIsNew s) (all_entries ls)
+      → (ls : List (List Entry)) → Contains (lists_from s events) ls → AreEntries p ls × All (StaysOrIsNew s) (all_entries ls)
   later_entries s [] entries below fit ls there = elim (Contains-split s.lists [] ls there) [
-    | inl same ↦ subst (λ (xs : List (List Entry)). All (StaysOrIsNew s) (all_entries xs)) same (all_stand s)
+    | inl same ↦ subst (λ (xs : List (List Entry)). AreEntries p xs × All (StaysOrIsNew s) (all_entries xs)) same (entries, all_stand s)
     | inr later ↦ absurd (let lt = later.1 in omega (arith, lt))
   ]
   later_entries s ((Arrives packet) ∷ events) entries below fit ls there = later_entries s events entries below fit.1 ls there
   later_entries s ((Commits changes) ∷ events) entries below fit ls there =
       let one = commit_follows s changes entries below fit.0 in
-      let le = one.next in
       let next = committed s changes in
       elim (Contains-split s.lists (lists_from next events) ls there) [
-        | inl same ↦ subst (λ (xs : List (List Entry)). All (StaysOrIsNew s) (all_entries xs)) same (all_stand s)
+        | inl same ↦ subst (λ (xs : List (List Entry)). AreEntries p xs × All (StaysOrIsNew s) (all_entries xs)) same (entries, all_stand s)
         | inr later ↦
-            All-weaker (StaysOrIsNew next) (StaysOrIsNew s)
-            (λ e h. elim h [
-              | inl stands ↦ All-contains (StaysOrIsNew s) (all_entries next.lists) e one.each stands
-              | inr new ↦ inr (omega (arith, le, new))
-            ])
-            (all_entries ls) (later_entries next events one.entries one.below fit.1 ls later)
+            let rest = later_entries next events one.entries one.below fit.1 ls later in
+            (rest.0, All-weaker (StaysOrIsNew next) (StaysOrIsNew s) (stays_on s next one) (all_entries ls) rest.1)
       ]
 
-  -- the entries at each time are well formed
   pub entries_ever : (s : Installed) (events : List Event) → AreEntries p s.lists → AllBelow s → AreFit p s events → (ls : List (List Entry)) → Contains (lists_from s events) ls → AreEntries p ls
-  entries_ever s [] entries below fit ls there = elim (Contains-split s.lists [] ls there) [
-    | inl same ↦ subst (AreEntries p) same entries
-    | inr later ↦ absurd (let lt = later.1 in omega (arith, lt))
-  ]
-  entries_ever s ((Arrives packet) ∷ events) entries below fit ls there = entries_ever s events entries below fit.1 ls there
-  entries_ever s ((Commits changes) ∷ events) entries below fit ls there =
-      let one = commit_follows s changes entries below fit.0 in
-      elim (Contains-split s.lists (lists_from (committed s changes) events) ls there) [
-        | inl same ↦ subst (AreEntries p) same entries
-        | inr later ↦ entries_ever (committed s changes) events one.entries one.below fit.1 ls later
-      ]
+  entries_ever s events entries below fit ls there = (later_entries s events entries below fit ls there).0
 
   -- entries of one number are one, whenever they stand
   pub one_ever : (s : Installed) (events : List Event) → AreEntries p s.lists → AllBelow s → AreFit p s events
@@ -373,11 +306,11 @@ module _ (p : Program) (program : IsProgram p) where
       elim (Contains-split s.lists (lists_from next events) ls in_ls) [
         | inl is ↦
             one_of_both s e f entries below (subst (λ (ys : List (List Entry)). Contains (all_entries ys) e) (sym is) there)
-            (All-contains (StaysOrIsNew s) (all_entries ms) f (later_entries s ((Commits changes) ∷ events) entries below fit ms in_ms) too) same
+            (All-contains (StaysOrIsNew s) (all_entries ms) f (later_entries s ((Commits changes) ∷ events) entries below fit ms in_ms).1 too) same
         | inr later ↦ elim (Contains-split s.lists (lists_from next events) ms in_ms) [
           | inl is ↦
               sym (one_of_both s f e entries below (subst (λ (ys : List (List Entry)). Contains (all_entries ys) f) (sym is) too)
-              (All-contains (StaysOrIsNew s) (all_entries ls) e (later_entries s ((Commits changes) ∷ events) entries below fit ls in_ls) there) (sym same))
+              (All-contains (StaysOrIsNew s) (all_entries ls) e (later_entries s ((Commits changes) ∷ events) entries below fit ls in_ls).1 there) (sym same))
           | inr last ↦ one_ever next events one.entries one.below fit.1 ls ms later last e f there too same
         ]
       ]

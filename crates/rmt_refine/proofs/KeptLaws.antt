@@ -34,9 +34,10 @@ use Rattle.rmt_refine.proofs.EntryLaws.{All-filter_map, AllPairs-filter_map, IsL
 use Rattle.rmt_pack.proofs.EntryLaws.{AllPairs-unmap}
 use Rattle.rmt_pack.proofs.RoomLaws.{RoomAt, RoomIs, room_at, room_is, at_is}
 use Rattle.rmt_pack.proofs.PlacedLaws.{Comes, HasItsRoom, Stays, Takes, all_placed, each_has_its_room, each_placed, placed_entries, placed_entry, stay_fine}
-use Rattle.rmt_refine.proofs.StandLaws.{cell_of_spot, Apart, HoldsIts, InOrder, StandsIn, all_carried, before_from, entry_holds, few_codes, is_spot, its_key, placed_there, seen_from, shown, shown_seen, shown_unseen, spot, then_so, told_of, widths}
+use Rattle.rmt_refine.proofs.StandLaws.{cell_of_spot, Apart, HoldsIts, InOrder, StandsIn, all_carried, before_from, entry_holds, few_codes, is_spot, its_key, placed_there, seen_from, shown, shown_seen, spot, told_of, widths, seen_placed}
 use Rattle.rmt_refine.proofs.VisibleBitLaws.{seen_coming, seen_next, set-alike, unseen_next}
 use Rattle.rmt_bits.proofs.FindLaws.{find-some}
+use Rattle.rmt_bits.proofs.TestLaws.{then_so}
 
 module _ (p : Program) (m : Map) (c : Config) (names : Names) (cells : RunCells) (before after : List (List Entry)) (told : List CellOf) (placed : List Placed)
     (limits : IsWithinLimits c) (naming : AreNamesOf p names) (units : UnitsCarried p m.places m.placement.parts m.starts c)
@@ -125,8 +126,7 @@ module _ (p : Program) (m : Map) (c : Config) (names : Names) (cells : RunCells)
   -- an entry that stays has a room
   has_room : (e : Entry) → Contains (all_entries after) e → is_numbered_in (all_entries before) e ≡ true → (q : Placed) × (placed_now c names cells e ≡ Some q)
   has_room e in_after stood =
-      let there = was_there e in_after stood in
-      let l = entry_listed p before e entries_before there in
+      let l = entry_listed p before e entries_before (was_there e in_after stood) in
       let t = l.table in
       let own = carried.tables e.table t l.list l.table_is l.list_is in
       let at = All-contains (λ (x : Entry). (s : Spot) × IsSpotOf c e.table s × IsTold told x s) l.list e own.each l.there in
@@ -345,12 +345,7 @@ module _ (p : Program) (m : Map) (c : Config) (names : Names) (cells : RunCells)
           (leaving_unseen slot (cells.content k place n))
 
   only_placed : (k place n : ℕ) (slot : SlotUnit) → slot_at c k place ≡ Some slot → is_seen (new.content k place n).head ≡ true → (q : Placed) × (placed_at placed k place n ≡ Some q)
-  only_placed k place n slot at seen = by (placed_at placed k place n) refl seen
-    where
-      by : (o : Option Placed) → placed_at placed k place n ≡ o → is_seen (shown next_version (settled_content c names cells before o k place n)).head ≡ true
-          → (q : Placed) × (placed_at placed k place n ≡ Some q)
-      by None e h = absurd (shown_unseen next_version (settled_content c names cells before None k place n) (none_unseen k place n slot at) h)
-      by (Some q) e h = (q, e)
+  only_placed k place n slot at = seen_placed next_version placed k place n (λ o. settled_content c names cells before o k place n) (none_unseen k place n slot at)
 
   -- each entry that is placed stands in its room
   pub placed_stand : (q : Placed) → Contains placed q → StandsIn p c new after q

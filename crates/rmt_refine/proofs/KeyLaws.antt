@@ -23,8 +23,7 @@ FieldsFit p s key = All (λ f. slice_index s f < 2 ^ width_of p f) key
 
 two_lt : (x r w ws more : ℕ) → more ≡ w + ws → x < 2 ^ w → r < 2 ^ ws → x * 2 ^ ws + r < 2 ^ more
 two_lt x r w ws more e hx hr =
-    let lt = mul-add-lt x (2 ^ ws) r (2 ^ w) hx hr in
-    rw (e, pow-add 2 w ws) (omega (arith, lt))
+    rw (e, pow-add 2 w ws) (omega (arith, mul-add-lt x (2 ^ ws) r (2 ^ w) hx hr))
 
 pub joined-lt : (p : Program) (s key : List ℕ) → FieldsFit p s key → joined p key s < 2 ^ sum (map (width_of p) key)
 joined-lt p s [] h = omega arith
@@ -71,8 +70,7 @@ key_agrees p s (f ∷ fs) (t ∷ ts) fit h =
     let rest-lt : rest < 2 ^ sum ws = joined-lt p s fs fit_tail in
     let masks-lt : masks < 2 ^ sum ws = tests-lt (λ u. u.mask) (λ w u is. is.mask_fits) ws ts h.1 in
     let values-lt : values < 2 ^ sum ws = tests-lt (λ u. u.value) (λ w u is. is.value_fits) ws ts h.1 in
-    let less = and_le_l rest masks in
-    let seen-lt : bit_and rest masks < 2 ^ sum ws = omega (arith, less, rest-lt) in
+    let seen-lt : bit_and rest masks < 2 ^ sum ws = omega (arith, and_le_l rest masks, rest-lt) in
     ap (λ n. n == t.value * 2 ^ sum ws + values) (and_block (sum ws) x t.mask rest masks rest-lt masks-lt)
     ∙ block_eq (bit_and x t.mask) t.value (bit_and rest masks) values (sum ws) seen-lt values-lt
     ∙ ap (λ b. (bit_and x t.mask == t.value) && b) (key_agrees p s fs ts fit_tail h.1)

@@ -38,6 +38,7 @@ mod OneStateLaws
 pub mod EntryLaws
 pub mod StandLaws
 mod KeptLaws
+mod LeftLaws
 pub mod FilledLaws
 mod StartLaws
 pub mod NamedLaws

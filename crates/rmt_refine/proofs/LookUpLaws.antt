@@ -111,10 +111,9 @@ holds_key : (p : Program) (t : Table) (s : List ℕ) (first : ℕ) (e : Entry) (
     → HoldsEntry p t (map (width_of p) t.key) first e number content → has_key (joined p t.key s) content ≡ matches t.key s e
 holds_key p t s first e number n content fit is holds =
     let key = joined p t.key s in
-    let ws = map (width_of p) t.key in
     ap (λ b. b && (bit_and key content.mask == content.key)) holds.seen
     ∙ ap (λ m. bit_and key m == content.key) holds.mask
-    ∙ ap (λ x. bit_and key (tests_as_one (λ u. u.mask) ws e.tests) == x) holds.key
+    ∙ ap (λ x. bit_and key (tests_as_one (λ u. u.mask) (map (width_of p) t.key) e.tests) == x) holds.key
     ∙ key_agrees p s t.key e.tests fit is.tests
 
 -- an entry that stands at a spot
@@ -170,8 +169,7 @@ misses p c v cells n t es s l why k place slot at node =
       | inr misses_all ↦ none_unless (find test there) (λ j found.
           let f = found_passes test there j found in
           let e = cell_entry p c v cells n t es s k place j part.0 slot l part.1 f.0 f.1 in
-          let stands = e.1 in
-          misses_all e.0 stands.there e.2)
+          misses_all e.0 e.1.there e.2)
     ] in
     look_of_part c v n k place key part.0 slot part.1 ∙ ap (option_map (found_at v k place)) none
 
@@ -184,10 +182,8 @@ behind : (p : Program) (c : Config) (v : View) (cells : List CellOf) (n : ℕ) (
 behind p c v cells n t es s e o a b l hit keyed sa sb pass =
     elim (are_ordered p n t es s e o l.are keyed sa.there sb.there hit.matching pass) [
       | inl same ↦ inl (l.carried.one e b a sa.there sb.spot sa.spot (subst (λ x. IsTold cells x b) (sym same) sb.told) sa.told)
-      | inr either ↦ elim either [
-        | inl before ↦ inr (l.carried.order e o a b sa.there sb.there sa.spot sb.spot sa.told sb.told (goes_where_precedes t.kind e o before), before)
-        | inr other ↦ absurd (hit.first o sb.there pass other)
-      ]
+      | inr (inl before) ↦ inr (l.carried.order e o a b sa.there sb.there sa.spot sb.spot sa.told sb.told (goes_where_precedes t.kind e o before), before)
+      | inr (inr other) ↦ absurd (hit.first o sb.there pass other)
     ]
 
 -- rows are looked at by rising number
@@ -236,9 +232,8 @@ finds p c v cells n t es s e a l hit keyed sa =
       | inr after ↦ elim after.0 [
         | inl lt ↦ absurd (omega (arith, lt))
         | inr both ↦
-            let lt = both.1 in
             let le = rows_rise t.kind kd.0 slot.memory v.seed (bits_of_lanes slot.keys) key test e o.0 f.0 a.cell kd.2 after.1 f.1 q.3 pass in
-            absurd (omega (arith, lt, le))
+            absurd (omega (arith, both.1, le))
       ]
     ] in
     let holds = l.carried.holds e a stage sa.there sa.spot sa.told part.stage_is in

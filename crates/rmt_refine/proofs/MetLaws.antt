@@ -1,9 +1,8 @@
 -- Each packet of a run of packets and commits becomes what the program answers with the entries that just the commits before it leave.
-use Rattle.std.proofs.Common.{◌≡◌, ℕ, ◌+◌, ◌-◌, ◌<◌, ◌≤◌, ◌==◌, Bool, true, false, cond, List, [], ◌∷◌, ◌++◌, append_assoc, fold, length, take, Option, Some, None, All, Contains, refl, sym, ap, subst, ◌∙◌, arith}
+use Rattle.std.proofs.Common.{◌≡◌, ℕ, ◌+◌, ◌-◌, ◌<◌, ◌≤◌, Bool, true, List, [], ◌∷◌, ◌++◌, append_assoc, fold, length, take, Option, Some, None, All, Contains, refl, sym, ap, subst, ◌∙◌, arith}
 use Rattle.std.specs.Prelude.{option_map, slice_get, unwrap_or}
 use Rattle.std.specs.List.{AllZip}
 use Rattle.std.proofs.Math.Seq.{take-append_seam}
-use Rattle.std.proofs.lemmas.Bool.{false≢true}
 use Rattle.std.proofs.lemmas.List.{length-append, length-replicate}
 use Rattle.std.proofs.lemmas.List.Elements.{All-contains}
 use Rattle.std.proofs.lemmas.List.Sums.{fold-append}
@@ -19,13 +18,13 @@ use Rattle.rmt_ast.specs.Events.{Event, Met, met_from}
 use Rattle.rmt_ast.specs.WellFormed.{IsProgram}
 use Rattle.rmt_refine.specs.Types.{Config, Program, SlotUnit}
 use Rattle.rmt_config.specs.declared.cell_write.CellWrite.{CellWrite}
-use Rattle.rmt_config.specs.Cells.{Content, cells_in, is_occupied, visible_bits}
+use Rattle.rmt_config.specs.Cells.{cells_in, is_occupied}
 use Rattle.rmt_config.specs.CellForm.{StageHolds}
 use Rattle.rmt_config.specs.ChipRun.{latency_of, outcome_of}
-use Rattle.rmt_config.specs.Commits.{AreFilled, IsCell, Makes, Placed, RunState, RunsFrom, RunsTo, all_entries, arrives, behind_commit, behind_packet, commits, ends, filled_content, leaving_content, moves, placed_after, placed_at, settled_content, settled_number, stays, waits, without_bit}
+use Rattle.rmt_config.specs.Commits.{AreFilled, IsCell, Makes, Placed, RunState, RunsFrom, RunsTo, all_entries, arrives, behind_commit, behind_packet, commits, ends, filled_content, moves, placed_after, placed_at, settled_content, settled_number, stays, waits}
 use Rattle.rmt_config.specs.Form.{Formed, visible_with}
 use Rattle.rmt_config.specs.Limits.{IsWithinLimits}
-use Rattle.rmt_config.specs.RunCells.{RunCells, emptied, no_content, own_cells, slot_at, with_version, with_write}
+use Rattle.rmt_config.specs.RunCells.{RunCells, own_cells, slot_at, with_version, with_write}
 use Rattle.rmt_config.specs.RunCells as run
 use Rattle.rmt_config.specs.RunInputs.{Enters, Idle, Input, Turns, after_input, cells_at, look_from}
 use Rattle.rmt_refine.specs.declared.map.CellOf.{CellOf}
@@ -39,6 +38,7 @@ use Rattle.rmt_refine.specs.Refined.{AnswersAs}
 use Rattle.rmt_refine.proofs.FilledLaws.{filled_carried}
 use Rattle.rmt_refine.proofs.FitLaws.{FollowOn, commit_follows, first_below, keep_entries}
 use Rattle.rmt_refine.proofs.InputLaws.{AllLeave, commit_leave, commit_packets, idle_leave, idle_packets, outcome_at, packets_at}
+use Rattle.rmt_refine.proofs.LeftLaws.{left, not_filled}
 use Rattle.rmt_refine.proofs.KeptLaws.{entries_kept}
 use Rattle.rmt_refine.proofs.OneStateLaws.{after_changing, changing, length_changing, one_state, same_turned, version_made}
 use Rattle.rmt_refine.proofs.PartLaws.{some_and}
@@ -59,10 +59,9 @@ left_over c names r events inputs (ends s) last = let long = length-replicate (s
 left_over c names r events inputs (arrives s packet es is h) last =
     let le = left_over c names (behind_packet c s) es is h (omega arith) in omega (arith, le, last)
 left_over c names r events inputs (commits s changes es is moved seed next ws makes are h) last =
-    let le = left_over c names (behind_commit s changes moved seed ws next) es is h (omega (arith, last)) in
     let long = length-append (changing (waits s moved) ws) (Turns seed ∷ is) in
     let front = length_changing (waits s moved) ws in
-    omega (arith, le, long, front)
+    omega (arith, left_over c names (behind_commit s changes moved seed ws next) es is h (omega (arith, last)), long, front)
 
 pub runs_leave : (c : Config) (names : Names) (r : RunState) (events : List Event) (inputs : List Input) → RunsFrom c names r events inputs → r.all_gone ≤ r.cycle + latency_of c.stages → AllLeave (latency_of c.stages) inputs
 runs_leave c names r events inputs (ends s) last = idle_leave (latency_of c.stages) (s.all_gone - s.cycle)
@@ -106,39 +105,21 @@ module _ (p : Program) (m : Map) (c : Config) (names : Names) (program : IsProgr
           (All-contains (λ (x : Placed). Contains (all_entries after.lists) x.entry) placed q all there)
 
       module _ (placed : List Placed) (made : placed_after c names r.cells r.entries.lists after.lists ≡ Some placed) (k place n : ℕ) (slot : SlotUnit) (at : slot_at c k place ≡ Some slot) (cell : IsCell c k place n) where
-        abbrev content : Content
-        content = r.cells.content k place n
-
         all_in : All (λ (x : Placed). Contains (all_entries after.lists) x.entry) placed
         all_in = λ i d lt. (each_has_its_room c names r.cells r.entries.lists after.lists placed made i d lt).entry
 
-        left : (b : Bool) → (visible_bits (without_bit (r.cells.version + 1) content.head) == 0) ≡ b → is_occupied content.head ≡ true
-            → is_occupied (cond b (emptied slot) (record content { head = without_bit (r.cells.version + 1) content.head })).head ≡ true → cond b 0 (r.cells.number k place n) < after.next
-        left true e was h = absurd (false≢true h)
-        left false e was h = let lt = good.used k place n cell was in let le = follows.next in omega (arith, lt, le)
-
-        none_used : (b : Bool) → is_occupied content.head ≡ b
-            → is_occupied (cond b (unwrap_or (option_map (λ s. leaving_content (r.cells.version + 1) s content) (slot_at c k place)) content) content).head ≡ true
-            → settled_number r.cells None k place n < after.next
-        none_used false e h = absurd (false≢true (sym e ∙ h))
-        none_used true e h =
-            left (visible_bits (without_bit (r.cells.version + 1) content.head) == 0) refl e
-            (ap (λ (o : Option SlotUnit). is_occupied (unwrap_or (option_map (λ s. leaving_content (r.cells.version + 1) s content) o) content).head) (sym at) ∙ h)
-
         settled_used : (o : Option Placed) → placed_at placed k place n ≡ o → is_occupied (settled_content c names r.cells r.entries.lists o k place n).head ≡ true → settled_number r.cells o k place n < after.next
         settled_used (Some q) e h = placed_below placed q all_in (placed_spot placed (record { stage = k; place = place; cell = n }) q e).0
-        settled_used None e h = none_used (is_occupied content.head) refl h
+        settled_used None e h =
+            let own = left c names r.cells r.entries.lists k place n slot at h in
+            omega (arith, good.used k place n cell own.was, follows.next, own.number)
 
       filled_used : (seed : ℕ) (placed : List Placed) → AreFilled c names seed after.lists placed → (k place n : ℕ) (o : Option Placed) → placed_at placed k place n ≡ o
           → is_occupied (filled_content c names o k place).head ≡ true → unwrap_or (option_map (λ (q : Placed). q.entry.number) o) 0 < after.next
       filled_used seed placed are k place n (Some q) e h =
           All-contains (λ (x : Entry). x.number < after.next) (all_entries after.lists) q.entry follows.below
           (subst (λ es. Contains es q.entry) are.each (Contains-map (λ (x : Placed). x.entry) placed q (placed_spot placed (record { stage = k; place = place; cell = n }) q e).0))
-      filled_used seed placed are k place n None e h = absurd (by (slot_at c k place) h)
-        where
-          by : (o : Option SlotUnit) → is_occupied (unwrap_or (option_map emptied o) no_content).head ≡ true → ⊥
-          by None g = false≢true g
-          by (Some slot) g = false≢true g
+      filled_used seed placed are k place n None e h = absurd (not_filled c names k place h)
 
       pub commit_good : (moved : Bool) (seed : ℕ) (next : RunCells) (ws : List CellWrite) → Makes c names r.cells r.entries.lists after.lists moved seed next → IsGood p c (behind_commit r changes moved seed ws next)
       commit_good moved seed next ws (stays placed made) =
@@ -213,10 +194,7 @@ module _ (p : Program) (m : Map) (c : Config) (names : Names) (program : IsProgr
       )
       met_all r es inputs (commits s changes more is moved seed next ws makes are h) done split cycle same good fit =
           let xs = changing (waits s moved) ws in
-          let front = length_changing (waits s moved) ws in
           let mid = xs ++ Turns seed ∷ [] in
-          let long = length-append done mid in
-          let own = length-append xs (Turns seed ∷ []) in
           let cycles : s.cycle + (waits s moved + length ws + 1) ≡ s.cycle + waits s moved + length ws + 1 = omega arith in
           let reached : cells_after (done ++ mid) ≡ with_version (fold (with_write c) (cells_after done) ws) seed =
           fold-append (after_input c) (own_cells c) done mid ∙ fold-append (after_input c) (cells_after done) xs (Turns seed ∷ [])
@@ -225,7 +203,7 @@ module _ (p : Program) (m : Map) (c : Config) (names : Names) (program : IsProgr
           subst (λ ys. AllZip (IsAnswered p c whole) ys (met_from (committed s.entries changes) more)) (sym (commit_packets s.cycle (waits s moved) ws seed is ∙ ap (λ k. packets_at k is) cycles))
           (met_all (behind_commit s changes moved seed ws next) more is h (done ++ mid)
           (replaced done mid is whole (split ∙ ap (λ ys. done ++ ys) (sym (append_assoc xs (Turns seed ∷ []) is))))
-          (omega (arith, long, own, front, cycle))
+          (omega (arith, length-append done mid, length-append xs (Turns seed ∷ []), length_changing (waits s moved) ws, cycle))
           (subst (λ (x : RunCells). SameCells c x (with_version next seed)) (sym reached) turned)
           (commit_good s changes good fit.0 moved seed next ws makes) fit.1)
 

@@ -63,11 +63,9 @@ module _ (p : Program) (lists : List (List Entry)) (n : ℕ) where
       by : (o : Option TableName) → named_at p k (entries_of k) x.what ≡ o → find (λ (y : TableName). y.node == n) (cons_option o rest) ≡ find (λ (y : TableName). y.node == n) rest
       by None e = refl
       by (Some y) e =
-          let number = node_named p k (entries_of k) x.what y e in
           ap (λ b. cond b (Some y) (find (λ (z : TableName). z.node == n) rest))
           (false_from_ne_true (y.node == n) (λ same.
-          let equal = eqb-true y.node n same in
-          let here : k ≡ n = omega (arith, number, equal) in
+          let here : k ≡ n = omega (arith, node_named p k (entries_of k) x.what y e, eqb-true y.node n same) in
           none-some y (sym (none 0 x refl (omega (arith, here))) ∙ ap (λ j. named_at p j (entries_of j) x.what) (sym here) ∙ e)))
 
 module _ (p : Program) (lists : List (List Entry)) (n : ℕ) (t : Table) (keyed : has_key t.kind ≡ true) where

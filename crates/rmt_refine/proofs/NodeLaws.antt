@@ -1,18 +1,18 @@
 -- In which stages a node stands.
+use Rattle.std.proofs.lemmas.Bool.Decides.{nat_tests}
 use Rattle.std.proofs.Common.{◌≡◌, ℕ, ◌+◌, ◌<◌, ◌≤◌, Bool, true, false, ◌&&◌, ◌==◌, cond, List, [], ◌∷◌, Some, length, map, refl, sym, ap, ◌∙◌, subst, ◌⊎◌, inl, inr, arith, ◌≢◌}
-use Rattle.std.specs.Prelude.{All, AllPairs, Contains, filter, fold, max, nat_lt, slice_get}
+use Rattle.std.specs.Prelude.{All, Contains, filter, fold, max, nat_lt, slice_get, sum_by}
 use Rattle.std.specs.List.{range_with_len}
 use Rattle.std.proofs.Math.Nat.{le-max_left, le-max_right, max-eq_left, max-eq_right}
-use Rattle.std.proofs.lemmas.Bool.{both_ways, cases_lt, eq-eqb, eqb-true}
+use Rattle.std.proofs.lemmas.Bool.{and_parts, cases_lt, eq-eqb, eqb-true}
 use Rattle.std.proofs.lemmas.List.Kept.{AllPairs-filter}
 use Rattle.std.proofs.lemmas.List.Sums.{sum_by-cons}
 use Rattle.std.proofs.lemmas.Option.{get_or_from_slice_get, slice_get_within}
 use Rattle.rmt_refine.specs.Types.{Program}
 use Rattle.rmt_pack.specs.declared.placement.Part.{Part}
 use Rattle.rmt_pack.specs.Placements.{quanta_in, quanta_of}
-use Rattle.rmt_pack.proofs.BlockLaws.{range-apart}
+use Rattle.rmt_pack.proofs.BlockLaws.{place-same, range-apart}
 use Rattle.rmt_refine.specs.Units.{last_stage, nodes_in}
-use Rattle.rmt_refine.proofs.RankLaws.{compare}
 use Rattle.rmt_bits.proofs.MemberLaws.{Contains-first, Contains-later, Contains-split, Contains-filter, Contains-unfilter}
 use Rattle.std.proofs.lemmas.List.Elements.{All-contains}
 
@@ -24,17 +24,12 @@ most a x = max a x
 from_start : (a : ℕ) (xs : List ℕ) → a ≤ fold most a xs
 from_start a [] = omega arith
 from_start a (x ∷ xs) =
-    let one = le-max_left a x in
-    let more = from_start (max a x) xs in
-    omega (arith, one, more)
+    omega (arith, le-max_left a x, from_start (max a x) xs)
 
 step : (b d : Bool) (k q more a : ℕ) (x : Part) (xs : List Part) → (d ≡ true → x.stage ≡ k) → 0 < cond (b && d) q 0 + more
     → ((a' : ℕ) → 0 < more → k ≤ fold most a' (map (λ (y : Part). y.stage) xs)) → k ≤ fold most a (map (λ (y : Part). y.stage) (cond b (x ∷ xs) xs))
 step true true k q more a x xs here h later =
-    let e = here refl in
-    let one = le-max_right a x.stage in
-    let rest = from_start (max a x.stage) (map (λ (y : Part). y.stage) xs) in
-    omega (arith, e, one, rest)
+    omega (arith, here refl, le-max_right a x.stage, from_start (max a x.stage) (map (λ (y : Part). y.stage) xs))
 step true false k q more a x xs here h later = later (max a x.stage) (omega (arith, h))
 step false d k q more a x xs here h later = later a (omega (arith, h))
 
@@ -49,20 +44,16 @@ within_last parts n k h = last_from n k parts 0 h
 
 -- ---- it stands in its last
 
-stands_with : (b d : Bool) (q more : ℕ) → b ≡ true → d ≡ true → 0 < q → 0 < cond (b && d) q 0 + more
-stands_with true true q more eb ed some = omega (arith, some)
-stands_with true false q more eb ed some = absurd (both_ways false refl ed)
-stands_with false d q more eb ed some = absurd (both_ways false refl eb)
-
 pub stands_by_part : (parts : List Part) (n k : ℕ) (y : Part) → Contains parts y → y.node ≡ n → y.stage ≡ k → 0 < y.quanta → 0 < quanta_in parts n k
 stands_by_part [] n k y there node stage some = absurd (let lt = there.1 in omega (arith, lt))
 stands_by_part (x ∷ xs) n k y there node stage some =
-    subst (λ m. 0 < m) (sym (sum_by-cons (λ (z : Part). cond ((z.node == n) && (z.stage == k)) z.quanta 0) x xs))
-    (elim (Contains-split x xs y there) [
-      | inl e ↦ stands_with (x.node == n) (x.stage == k) x.quanta (quanta_in xs n k) (eq-eqb x.node n (ap (λ (z : Part). z.node) e ∙ node))
-          (eq-eqb x.stage k (ap (λ (z : Part). z.stage) e ∙ stage)) (subst (λ (z : Part). 0 < z.quanta) (sym e) some)
-      | inr later ↦ let more = stands_by_part xs n k y later node stage some in omega (arith, more)
-    ])
+    let first = sum_by-cons (λ (z : Part). cond ((z.node == n) && (z.stage == k)) z.quanta 0) x xs in
+    elim (Contains-split x xs y there) [
+      | inl e ↦
+          let own = subst (λ (z : Part). (z.node ≡ n) × (z.stage ≡ k) × (0 < z.quanta)) (sym e) (node, stage, some) in
+          grind (arith, nat_tests, first, own)
+      | inr later ↦ omega (arith, stands_by_part xs n k y later node stage some, first)
+    ]
 
 -- the greatest of some stages is one of them, or where none is greater the first one
 reached : (a : ℕ) (xs : List Part) → (fold most a (map (λ (y : Part). y.stage) xs) ≡ a) ⊎ ((y : Part) × Contains xs y × (y.stage ≡ fold most a (map (λ (z : Part). z.stage) xs)))
@@ -83,19 +74,20 @@ greatest_there x xs =
       | inr r ↦ (r.0, Contains-later x xs r.0 r.1, r.2)
     ]
 
-picked : (b : Bool) (n : ℕ) (x : Part) (xs : List Part) → (x.node == n) ≡ b → 0 < cond (x.node == n) x.quanta 0 + quanta_of xs n
-    → (0 < quanta_of xs n → (y : Part) × Contains xs y × (y.node ≡ n)) → (y : Part) × Contains (x ∷ xs) y × (y.node ≡ n)
-picked true n x xs e lt rest = (x, Contains-first x xs, eqb-true x.node n e)
-picked false n x xs e lt rest =
-    let h : 0 < cond false x.quanta 0 + quanta_of xs n = subst (λ b. 0 < cond b x.quanta 0 + quanta_of xs n) e lt in
-    let more : 0 < quanta_of xs n = omega (arith, h) in
-    let r = rest more in
-    (r.0, Contains-later x xs r.0 r.1, r.2)
+-- where a sum over the items that pass a test isn't 0, some item passes
+some_item : (test : Part → Bool) (xs : List Part) → 0 < sum_by (λ x. cond (test x) x.quanta 0) xs → (y : Part) × Contains xs y × (test y ≡ true)
+some_item test [] h = absurd (omega (arith, h))
+some_item test (x ∷ xs) h = by (test x) refl (some_item test xs)
+  where
+    by : (b : Bool) → test x ≡ b → (0 < sum_by (λ z. cond (test z) z.quanta 0) xs → (y : Part) × Contains xs y × (test y ≡ true)) → (y : Part) × Contains (x ∷ xs) y × (test y ≡ true)
+    by true e rest = (x, Contains-first x xs, e)
+    by false e rest =
+        let none : cond (test x) x.quanta 0 ≡ 0 = ap (λ b. cond b x.quanta 0) e in
+        let r = rest (omega (arith, h, sum_by-cons (λ (z : Part). cond (test z) z.quanta 0) x xs, none)) in
+        (r.0, Contains-later x xs r.0 r.1, r.2)
 
 some_part : (n : ℕ) (parts : List Part) → 0 < quanta_of parts n → (y : Part) × Contains parts y × (y.node ≡ n)
-some_part n [] h = absurd (omega (arith, h))
-some_part n (x ∷ xs) h =
-    picked (x.node == n) n x xs refl (subst (λ m. 0 < m) (sum_by-cons (λ (z : Part). cond (z.node == n) z.quanta 0) x xs) h) (λ more. some_part n xs more)
+some_part n parts h = let r = some_item (λ (x : Part). x.node == n) parts h in (r.0, r.1, eqb-true r.0.node n r.2)
 
 last_of : (ps : List Part) (y : Part) → Contains ps y → (z : Part) × Contains ps z × (z.stage ≡ fold most 0 (map (λ (x : Part). x.stage) ps))
 last_of [] y there = absurd (let lt = there.1 in omega (arith, lt))
@@ -109,29 +101,17 @@ stands_in_last parts n all some =
     let f = Contains-unfilter (λ (x : Part). x.node == n) parts z.0 z.1 in
     stands_by_part parts n (last_stage parts n) z.0 f.0 (eqb-true _ n f.1) z.2 (All-contains (λ (x : Part). 0 < x.quanta) parts z.0 all f.0)
 
-picked_in : (b d : Bool) (n k : ℕ) (x : Part) (xs : List Part) → (x.node == n) ≡ b → (x.stage == k) ≡ d → 0 < cond (b && d) x.quanta 0 + quanta_in xs n k
-    → (0 < quanta_in xs n k → (y : Part) × Contains xs y × (y.node ≡ n) × (y.stage ≡ k)) → (y : Part) × Contains (x ∷ xs) y × (y.node ≡ n) × (y.stage ≡ k)
-picked_in true true n k x xs e h lt rest = (x, Contains-first x xs, eqb-true x.node n e, eqb-true x.stage k h)
-picked_in true false n k x xs e h lt rest = let r = rest (omega (arith, lt)) in (r.0, Contains-later x xs r.0 r.1, r.2, r.3)
-picked_in false d n k x xs e h lt rest = let r = rest (omega (arith, lt)) in (r.0, Contains-later x xs r.0 r.1, r.2, r.3)
-
 -- a node stands in a stage by some part
 pub part_there : (parts : List Part) (n k : ℕ) → 0 < quanta_in parts n k → (y : Part) × Contains parts y × (y.node ≡ n) × (y.stage ≡ k)
-part_there [] n k h = absurd (omega (arith, h))
-part_there (x ∷ xs) n k h =
-    picked_in (x.node == n) (x.stage == k) n k x xs refl refl
-    (subst (λ m. 0 < m) (sum_by-cons (λ (z : Part). cond ((z.node == n) && (z.stage == k)) z.quanta 0) x xs) h) (λ more. part_there xs n k more)
+part_there parts n k h =
+    let r = some_item (λ (x : Part). (x.node == n) && (x.stage == k)) parts h in
+    let both = and_parts (r.0.node == n) (r.0.stage == k) r.2 in
+    (r.0, r.1, eqb-true r.0.node n both.0, eqb-true r.0.stage k both.1)
 
 -- ---- once in a stage
 
-same_place : (xs : List ℕ) (x i j : ℕ) → AllPairs ◌≢◌ xs → slice_get xs i ≡ Some x → slice_get xs j ≡ Some x → (i < j) ⊎ ((j < i) ⊎ (i ≡ j)) → i ≡ j
-same_place xs x i j apart at_i at_j (inl lt) =
-    absurd (apart i j 0 lt (slice_get_within xs j x at_j) (get_or_from_slice_get xs i x 0 at_i ∙ sym (get_or_from_slice_get xs j x 0 at_j)))
-same_place xs x i j apart at_i at_j (inr (inl lt)) =
-    absurd (apart j i 0 lt (slice_get_within xs i x at_i) (get_or_from_slice_get xs j x 0 at_j ∙ sym (get_or_from_slice_get xs i x 0 at_i)))
-same_place xs x i j apart at_i at_j (inr (inr e)) = e
-
 pub one_place : (p : Program) (parts : List Part) (k n i j : ℕ) → slice_get (nodes_in p parts k) i ≡ Some n → slice_get (nodes_in p parts k) j ≡ Some n → i ≡ j
 one_place p parts k n i j at_i at_j =
-    same_place (nodes_in p parts k) n i j
-    (AllPairs-filter ◌≢◌ (λ m. nat_lt 0 (quanta_in parts m k)) (range_with_len 0 (length p.nodes)) (range-apart 0 (length p.nodes))) at_i at_j (compare i j)
+    let nodes = nodes_in p parts k in
+    let apart = AllPairs-filter ◌≢◌ (λ m. nat_lt 0 (quanta_in parts m k)) (range_with_len 0 (length p.nodes)) (range-apart 0 (length p.nodes)) in
+    place-same nodes i j apart (slice_get_within nodes i n at_i) (slice_get_within nodes j n at_j) (get_or_from_slice_get nodes i n 0 at_i ∙ sym (get_or_from_slice_get nodes j n 0 at_j))

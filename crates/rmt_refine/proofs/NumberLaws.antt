@@ -60,16 +60,12 @@ from_counted p (q ∷ nodes) (fs ∷ lists) x there =
 
 never_both : (xs ys : List ℕ) (x : ℕ) → AreDistinct (xs ++ ys) → Contains xs x → Contains ys x → ⊥
 never_both xs ys x distinct a b =
-    let lt_a = a.1 in
-    let lt_b = b.1 in
-    let long = length-append xs ys in
-    distinct a.0 (length xs + b.0) x (omega (arith, lt_a)) (omega (arith, lt_b, long))
+    distinct a.0 (length xs + b.0) x (omega (arith, a.1)) (omega (arith, b.1, length-append xs ys))
     (get_or-append xs ys x a.0 a.1 ∙ a.2 ∙ sym (get_or-append-add xs ys b.0 x ∙ b.2))
 
 distinct_rest : (xs ys : List ℕ) → AreDistinct (xs ++ ys) → AreDistinct ys
 distinct_rest xs ys distinct i j d lt inside e =
-    let long = length-append xs ys in
-    distinct (length xs + i) (length xs + j) d (omega (arith, lt)) (omega (arith, inside, long))
+    distinct (length xs + i) (length xs + j) d (omega (arith, lt)) (omega (arith, inside, length-append xs ys))
     (get_or-append-add xs ys i d ∙ e ∙ sym (get_or-append-add xs ys j d))
 
 in_rest : (lists : List (List Entry)) (j : ℕ) (b : List Entry) (x : ℕ) → slice_get lists j ≡ Some b → Contains (entry_numbers b) x → Contains (flat_map entry_numbers lists) x

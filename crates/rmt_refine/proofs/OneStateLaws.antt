@@ -245,9 +245,8 @@ formed_starts [] h = All-nil (λ (s : Stage). s.start ≤ 0)
 formed_starts (s ∷ []) h = All-cons (λ (t : Stage). t.start ≤ s.start + 12) s [] (omega arith) (All-nil (λ (t : Stage). t.start ≤ s.start + 12))
 formed_starts (s ∷ t ∷ stages) h =
     let parts = and_parts (s.start == 0) (rises_from 1 (map (λ (u : Stage). u.start) (t ∷ stages))) h in
-    let zero_start = eqb-true s.start 0 parts.0 in
     let later = starts_end 1 (t ∷ stages) parts.1 in
-    All-cons (λ (u : Stage). u.start ≤ latency_of (t ∷ stages)) s (t ∷ stages) (omega (arith, zero_start)) later
+    All-cons (λ (u : Stage). u.start ≤ latency_of (t ∷ stages)) s (t ∷ stages) (omega (arith, eqb-true s.start 0 parts.0)) later
 
 starts_of_items : (c : Config) → IsTrue (items_are_formed c) → starts_are_formed (map (λ (s : Stage). s.start) c.stages) ≡ true
 starts_of_items c h = (and_parts _ _ (and_parts _ _ h).1).1

@@ -11,7 +11,7 @@ use Rattle.rmt_ast.specs.declared.entry.Entry.{Entry}
 use Rattle.rmt_ast.specs.EntryLists.{AreEntries}
 use Rattle.rmt_ast.specs.State.{IsState}
 use Rattle.rmt_ast.specs.WellFormed.{IsProgram}
-use Rattle.rmt_deps.specs.Edges.{contains, depends, edge, keys_of, meet, on_different_arms, reads_of, words_of, writes_of}
+use Rattle.rmt_deps.specs.Edges.{depends, edge, keys_of, meet, on_different_arms, reads_of, words_of_fields, writes_of}
 use Rattle.rmt_pack.specs.declared.placement.Part.{Part}
 use Rattle.rmt_pack.specs.Placements.{is_strict, quanta_in}
 use Rattle.rmt_pack.specs.Starts.{distance, stages_of}
@@ -22,11 +22,12 @@ use Rattle.rmt_refine.proofs.EdgeLaws.{field_edge, in_order, run_beside, word_ed
 use Rattle.rmt_refine.proofs.FieldLaws.{Goes}
 use Rattle.rmt_refine.proofs.NodeLaws.{part_there}
 use Rattle.rmt_bits.proofs.MemberLaws.{Contains-map, list_any-Contains, Contains-filter}
+use Rattle.rmt_bits.specs.Members.{is_among}
 
 -- ---- members
 
 they_meet : (xs ys : List ℕ) (n : ℕ) → Contains xs n → Contains ys n → meet xs ys ≡ true
-they_meet xs ys n in_xs in_ys = list_any-Contains (contains ys) xs n in_xs (list_any-Contains (λ y. y == n) ys n in_ys (eq-eqb n n refl))
+they_meet xs ys n in_xs in_ys = list_any-Contains (is_among ys) xs n in_xs (list_any-Contains (λ y. y == n) ys n in_ys (eq-eqb n n refl))
 
 -- a stage with quanta of a node is one of its stages
 stands_there : (parts : List Part) (n k : ℕ) → 0 < quanta_in parts n k → Contains (stages_of parts n) k
@@ -87,11 +88,11 @@ module _ (p : Program) (lists : List (List Entry)) (m : Map) (c : Config) (v : V
 
   -- two nodes that write in one word
   pub word_order : (a b j k w : ℕ) → a < b → b < length p.nodes → Goes p lists s a → Goes p lists s b → 0 < quanta_in parts a j → 0 < quanta_in parts b k
-      → Contains (words_of m.places (writes_of p a)) w → Contains (words_of m.places (writes_of p b)) w → (j < k) × (start j + 3 ≤ start k)
+      → Contains (words_of_fields m.places (writes_of p a)) w → Contains (words_of_fields m.places (writes_of p b)) w → (j < k) × (start j + 3 ≤ start k)
   word_order a b j k w lt within goes_a goes_b some_j some_k in_a in_b =
       strict_order (edge a b kind.Word) j k
       (word_edge p m.places (Contains edges) a b lt within (beside a b goes_a goes_b)
-      (they_meet (words_of m.places (writes_of p a)) (words_of m.places (writes_of p b)) w in_a in_b) (All-contains_itself edges)) some_j some_k refl
+      (they_meet (words_of_fields m.places (writes_of p a)) (words_of_fields m.places (writes_of p b)) w in_a in_b) (All-contains_itself edges)) some_j some_k refl
 
   -- a node that has a field in its key, or reads it, stands no later than one that writes it afterwards
   pub reverse_order : (a b j k f : ℕ) → a < b → b < length p.nodes → Goes p lists s a → Goes p lists s b → 0 < quanta_in parts a j → 0 < quanta_in parts b k

@@ -135,8 +135,7 @@ module _ (p : Program) (lists : List (List Entry)) (places : List (List Lane)) (
       → (g.parent < n) × ((k : ℕ) → 0 < quanta_in parts n k → (slice_index (run p lists s).outcomes g.parent ≡ 0) ⊎ (set_at g.parent ≤ k))
   parent_first n node g at is =
       let lt = is_earlier n node.guard g (program.nodes n node at).guard is in
-      let within = slice_get_within p.nodes n node at in
-      let room : g.parent < length p.nodes = omega (arith, lt, within) in
+      let room : g.parent < length p.nodes = omega (arith, lt, slice_get_within p.nodes n node at) in
       let q = slice_get-item p.nodes g.parent room in (
         lt,
         λ k stands.

@@ -1,9 +1,9 @@
 -- Which of two entries that match comes first.
-use Rattle.std.proofs.Common.{◌≡◌, ◌≢◌, ℕ, ◌<◌, true, ◌&&◌, ◌==◌, List, length, map, get_or, refl, sym, ap, ◌∙◌, subst, ◌⊎◌, inl, inr, arith}
+use Rattle.std.proofs.Common.{◌≡◌, ◌≢◌, ℕ, ◌<◌, true, ◌&&◌, ◌==◌, List, Some, length, map, get_or, refl, sym, ap, ◌∙◌, subst, ◌⊎◌, inl, inr, arith}
 use Rattle.std.specs.Prelude.{AllPairs, Contains, nat_lt}
 use Rattle.std.specs.List.{AllZip}
 use Rattle.std.proofs.lemmas.Bool.{lt-ltb, or_left}
-use Rattle.std.proofs.lemmas.List.{get_or_default}
+use Rattle.std.proofs.lemmas.Option.{same_Some, slice_get-get_or}
 use Rattle.rmt_refine.specs.Types.{Program, Test, Table, Kind}
 use Rattle.rmt_ast.specs.declared.program.Kind.TheVariants.{Keyless, Exact, Prefix, Ternary}
 use Rattle.rmt_ast.specs.declared.entry.Entry.{Entry}
@@ -27,21 +27,27 @@ goes_where_precedes Ternary a b h = h
 
 -- ---- of two entries that match one comes first, or they are the same
 
-pairs_at : {X : Type 0} (R : X → X → Type 0) (xs : List X) (a b : X) → AllPairs R xs → (i j : ℕ) → i < length xs → j < length xs
-    → get_or xs i a ≡ a → get_or xs j b ≡ b → (R a b → ⊥) → (R b a → ⊥) → (i < j) ⊎ ((j < i) ⊎ (i ≡ j)) → a ≡ b
-pairs_at R xs a b pairs i j li lj ea eb not_ab not_ba (inl lt) =
-    absurd (not_ab (subst (λ y. R a y) (get_or_default xs j a b lj ∙ eb) (subst (λ x. R x (get_or xs j a)) ea (pairs i j a lt lj))))
-pairs_at R xs a b pairs i j li lj ea eb not_ab not_ba (inr (inl lt)) =
-    absurd (not_ba (subst (λ y. R y a) eb (subst (λ x. R (get_or xs j b) x) (get_or_default xs i b a li ∙ ea) (pairs j i b lt li))))
-pairs_at R xs a b pairs i j li lj ea eb not_ab not_ba (inr (inr e)) =
-    sym ea ∙ ap (λ k. get_or xs k a) e ∙ get_or_default xs j a b lj ∙ eb
-
 pub compare : (i j : ℕ) → (i < j) ⊎ ((j < i) ⊎ (i ≡ j))
 compare i j = grind arith
 
+same_item : {X : Type 0} (xs : List X) (i : ℕ) (d x : X) → i < length xs → get_or xs i x ≡ x → get_or xs i d ≡ x
+same_item xs i d x lt e = same_Some (get_or xs i d) x (sym (slice_get-get_or xs i d lt) ∙ slice_get-get_or xs i x lt ∙ ap Some e)
+
+-- of two items one stands before the other, or they are one
+pub two_items : {X : Type 0} (R : X → X → Type 0) (xs : List X) (a b : X) → AllPairs R xs → Contains xs a → Contains xs b → R a b ⊎ (R b a ⊎ (a ≡ b))
+two_items R xs a b pairs in_a in_b = elim (compare in_a.0 in_b.0) [
+  | inl lt ↦ inl (subst (λ y. R y b) in_a.2 (subst (R (get_or xs in_a.0 a)) (same_item xs in_b.0 a b in_b.1 in_b.2) (pairs in_a.0 in_b.0 a lt in_b.1)))
+  | inr (inl lt) ↦ inr (inl (subst (λ y. R y a) in_b.2 (subst (R (get_or xs in_b.0 b)) (same_item xs in_a.0 b a in_a.1 in_a.2) (pairs in_b.0 in_a.0 b lt in_a.1))))
+  | inr (inr e) ↦ inr (inr (sym in_a.2 ∙ same_item xs in_a.0 a b in_a.1 (ap (λ i. get_or xs i b) e ∙ in_b.2)))
+]
+
 -- two members of a list in which no two stand so to each other
 pub pairs_same : {X : Type 0} (R : X → X → Type 0) (xs : List X) (a b : X) → AllPairs R xs → Contains xs a → Contains xs b → (R a b → ⊥) → (R b a → ⊥) → a ≡ b
-pairs_same R xs a b pairs ca cb not_ab not_ba = pairs_at R xs a b pairs ca.0 cb.0 ca.1 cb.1 ca.2 cb.2 not_ab not_ba (compare ca.0 cb.0)
+pairs_same R xs a b pairs ca cb not_ab not_ba = elim (two_items R xs a b pairs ca cb) [
+  | inl first ↦ absurd (not_ab first)
+  | inr (inl later) ↦ absurd (not_ba later)
+  | inr (inr is) ↦ is
+]
 
 -- which of two comes first
 abbrev pub Ordered : Kind → Entry → Entry → Type 0
@@ -66,26 +72,20 @@ ordered Exact p s key es a b once rising ca cb ta tb ra rb pa pb keyed =
 ordered Prefix p s key es a b once rising ca cb ta tb ra rb pa pb keyed =
     elim (compare a.rank b.rank) [
       | inl lt ↦ inr (inr (lt-ltb a.rank b.rank lt))
-      | inr more ↦ elim more [
-        | inl lt ↦ inr (inl (lt-ltb b.rank a.rank lt))
-        | inr e ↦
-            inl (same_keys p s key es (IsPrefix b.rank) (prefix_masks b.rank) a b once ca cb ta tb
-            (subst (λ r. AllZip (IsPrefix r) (map (width_of p) key) a.tests) e ra) rb pa pb)
-      ]
+      | inr (inl lt) ↦ inr (inl (lt-ltb b.rank a.rank lt))
+      | inr (inr e) ↦
+          inl (same_keys p s key es (IsPrefix b.rank) (prefix_masks b.rank) a b once ca cb ta tb
+          (subst (λ r. AllZip (IsPrefix r) (map (width_of p) key) a.tests) e ra) rb pa pb)
     ]
 ordered Ternary p s key es a b once rising ca cb ta tb ra rb pa pb keyed =
     elim (compare a.rank b.rank) [
       | inl lt ↦ inr (inl (from_earlier a b (inl lt)))
-      | inr more ↦ elim more [
-        | inl lt ↦ inr (inr (from_earlier b a (inl lt)))
-        | inr e ↦ elim (compare a.number b.number) [
-          | inl lt ↦ inr (inl (from_earlier a b (inr (e, lt))))
-          | inr others ↦ elim others [
-            | inl lt ↦ inr (inr (from_earlier b a (inr (sym e, lt))))
-            | inr same ↦
-                inl (pairs_same (λ (x y : Entry). x.number < y.number) es a b rising ca cb (λ lt. omega (arith, same, lt)) (λ lt. omega (arith, same, lt)))
-          ]
-        ]
+      | inr (inl lt) ↦ inr (inr (from_earlier b a (inl lt)))
+      | inr (inr e) ↦ elim (compare a.number b.number) [
+        | inl lt ↦ inr (inl (from_earlier a b (inr (e, lt))))
+        | inr (inl lt) ↦ inr (inr (from_earlier b a (inr (sym e, lt))))
+        | inr (inr same) ↦
+            inl (pairs_same (λ (x y : Entry). x.number < y.number) es a b rising ca cb (λ lt. omega (arith, same, lt)) (λ lt. omega (arith, same, lt)))
       ]
     ]
 

@@ -130,9 +130,8 @@ test_reads p places words s field t cut is holds =
 held-lt : (words : Words) (ls : List Lane) → held_by words ls < 2 ^ bits_of_lanes ls
 held-lt words [] = omega arith
 held-lt words (l ∷ ls) =
-    let high = held-lt words ls in
     let low = slice-lt (words l.word) l.low l.len in
-    let lt = mul-add-lt (held_by words ls) (2 ^ l.len) (lane_of words l) (2 ^ bits_of_lanes ls) high low in
+    let lt = mul-add-lt (held_by words ls) (2 ^ l.len) (lane_of words l) (2 ^ bits_of_lanes ls) (held-lt words ls) low in
     let e : held_by words ls * 2 ^ l.len + lane_of words l ≡ held_by words (l ∷ ls) = omega arith in
     subst (λ n. held_by words (l ∷ ls) < n) (sym (pow-add 2 l.len (bits_of_lanes ls)) ∙ ap (λ b. 2 ^ b) (sym (bits_of_lanes-cons l ls)))
     (subst (λ n. n < 2 ^ l.len * 2 ^ bits_of_lanes ls) e lt)

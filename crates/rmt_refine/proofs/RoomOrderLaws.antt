@@ -1,51 +1,30 @@
 -- The rooms of a prefix or ternary table stand in order, whatever the key; and an entry that goes before another has fewer entries before it.
-use Rattle.std.proofs.Common.{◌≡◌, ◌⊎◌, ℕ, ◌+◌, ◌*◌, ◌<◌, ◌≤◌, ◌==◌, true, ◌&&◌, List, [], ◌∷◌, ◌++◌, map, get_or, Some, All, refl, sym, ap, subst, ◌∙◌, inl, inr, arith}
+use Rattle.std.proofs.Common.{◌≡◌, ℕ, ◌+◌, ◌*◌, ◌<◌, ◌==◌, true, ◌&&◌, List, [], ◌∷◌, ◌++◌, map, get_or, Some, All, refl, sym, ap, subst, ◌∙◌, inl, inr, arith}
 use Rattle.std.specs.Prelude.{AllPairs, nat_lt, slice_get}
-use Rattle.std.specs.List.{enumerate_from, flat_map, range_with_len}
+use Rattle.std.specs.List.{flat_map, range_with_len}
 use Rattle.std.proofs.lemmas.Bool.{and_from, eq-eqb, lt-ltb, or_left, or_right}
-use Rattle.std.proofs.lemmas.List.Elements.{All-append, All-head, All-map, All-nil, All-tail, All-weaker}
-use Rattle.rmt_bits.proofs.PairLaws.{AllPairs-append, AllPairs-map, AllPairs-none, AllPairs-weaker, range_rises}
+use Rattle.std.proofs.lemmas.List.Elements.{All-head, All-map, All-tail, All-weaker}
+use Rattle.rmt_bits.proofs.PairLaws.{AllPairs-map, AllPairs-weaker, range_rises}
 use Rattle.rmt_ast.specs.declared.program.Kind.TheVariants as kind
-use Rattle.rmt_refine.specs.Types.{Config, Kind, Memory, Program, Stage, Table}
+use Rattle.rmt_refine.specs.Types.{Config, Kind, Memory, Program, Table}
 use Rattle.rmt_config.specs.declared.config.Memory.TheVariants.{Without, Exact, Ternary}
 use Rattle.rmt_config.specs.LaneForm.{bits_of_lanes}
 use Rattle.rmt_config.specs.Cells.{candidates}
-use Rattle.rmt_config.specs.Rooms.{PartAt, Room, is_before, parts_among, parts_of, rooms_for}
+use Rattle.rmt_config.specs.Rooms.{PartAt, Room, is_before, parts_of, rooms_for}
 use Rattle.rmt_refine.specs.declared.map.Map.{Map}
 use Rattle.rmt_refine.specs.Units.{HasKind, UnitsCarried, nodes_in, table_at}
 use Rattle.rmt_refine.proofs.NodeLaws.{one_place}
 use Rattle.rmt_refine.proofs.PartLaws.{kind_of_part, unit_of_part}
 use Rattle.rmt_pack.proofs.RoomLaws.{PartIs, stages_there}
-use Rattle.rmt_pack.proofs.RoomOrderLaws.{IsFrom, Rises, among_from, among_rise, pairs_flat}
+use Rattle.rmt_pack.proofs.PartOrderLaws.{Rises, parts_in_order}
+use Rattle.rmt_pack.proofs.RoomOrderLaws.{pairs_flat}
+use Rattle.rmt_pack.proofs.RankLaws.{IsRowKind}
 
 -- ---- pairs
 
 -- pairs of items, each of which has a property
 pub pairs_with : {X : Type 0} (P : X → Type 0) (R S : X → X → Type 0) → ((x y : X) → P x → P y → R x y → S x y) → (xs : List X) → All P xs → AllPairs R xs → AllPairs S xs
 pairs_with P R S gives xs all pairs i j d lt within = gives (get_or xs i d) (get_or xs j d) (all i d (omega (arith, lt, within))) (all j d within) (pairs i j d lt within)
-
--- ---- parts
-
-stages_from : (node k : ℕ) (stages : List Stage) → All (λ (a : PartAt). k ≤ a.stage) (flat_map (λ (x : ℕ × Stage). parts_among node x.0 0 0 x.1.units) (enumerate_from k stages))
-stages_from node k [] = All-nil (λ (a : PartAt). k ≤ a.stage)
-stages_from node k (stage ∷ stages) =
-    All-append (λ (a : PartAt). k ≤ a.stage) (parts_among node k 0 0 stage.units) (flat_map (λ (x : ℕ × Stage). parts_among node x.0 0 0 x.1.units) (enumerate_from (k + 1) stages))
-    (All-weaker (IsFrom k 0) (λ (a : PartAt). k ≤ a.stage) (λ a h. let same = h.0 in omega (arith, same)) (parts_among node k 0 0 stage.units) (among_from node k stage.units 0 0))
-    (All-weaker (λ (a : PartAt). k + 1 ≤ a.stage) (λ (a : PartAt). k ≤ a.stage) (λ a le. omega (arith, le))
-    (flat_map (λ (x : ℕ × Stage). parts_among node x.0 0 0 x.1.units) (enumerate_from (k + 1) stages)) (stages_from node (k + 1) stages))
-
-stages_rise : (node k : ℕ) (stages : List Stage) → AllPairs Rises (flat_map (λ (x : ℕ × Stage). parts_among node x.0 0 0 x.1.units) (enumerate_from k stages))
-stages_rise node k [] = AllPairs-none Rises
-stages_rise node k (stage ∷ stages) =
-    let rest = flat_map (λ (x : ℕ × Stage). parts_among node x.0 0 0 x.1.units) (enumerate_from (k + 1) stages) in
-    AllPairs-append Rises (parts_among node k 0 0 stage.units) rest (among_rise node k stage.units 0 0) (stages_rise node (k + 1) stages)
-    (All-weaker (IsFrom k 0) (λ a. All (Rises a) rest)
-    (λ a own. let same = own.0 in All-weaker (λ (b : PartAt). k + 1 ≤ b.stage) (Rises a) (λ b le. inl (omega (arith, le, same))) rest (stages_from node (k + 1) stages))
-    (parts_among node k 0 0 stage.units) (among_from node k stage.units 0 0))
-
--- the parts of a node stand in order
-pub parts_in_order : (c : Config) (n : ℕ) → AllPairs Rises (parts_of c n)
-parts_in_order c n = stages_rise n 0 c.stages
 
 -- ---- rooms
 
@@ -54,17 +33,13 @@ record HasRows (a : PartAt) : Type 0 where
   rows : ℕ
   any_row : (seed bits key : ℕ) → candidates seed bits a.slot.memory key ≡ range_with_len 0 rows
 
--- the rows of prefix and ternary tables
-abbrev HasRowKind : Kind → Type 0
-HasRowKind k = (k ≡ kind.Prefix) ⊎ (k ≡ kind.Ternary)
-
-rows_of : (k : Kind) (q : ℕ) (m : Memory) → HasRowKind k → HasKind k q m → (rows : ℕ) × ((seed bits key : ℕ) → candidates seed bits m key ≡ range_with_len 0 rows)
+rows_of : (k : Kind) (q : ℕ) (m : Memory) → IsRowKind k → HasKind k q m → (rows : ℕ) × ((seed bits key : ℕ) → candidates seed bits m key ≡ range_with_len 0 rows)
 rows_of k q Without rowed h = (0, λ seed bits key. refl)
 rows_of k q (Ternary d ks rs cs) rowed h = (2048 * d, λ seed bits key. refl)
 rows_of k q (Exact x per d first ks rs cs) (inl is) h = absurd (subst (λ (y : Kind). HasKind y q (Exact x per d first ks rs cs)) is h)
 rows_of k q (Exact x per d first ks rs cs) (inr is) h = absurd (subst (λ (y : Kind). HasKind y q (Exact x per d first ks rs cs)) is h)
 
-module _ (p : Program) (m : Map) (c : Config) (units : UnitsCarried p m.places m.placement.parts m.starts c) (n : ℕ) (t : Table) (table : table_at p n ≡ Some t) (rowed : HasRowKind t.kind) where
+module _ (p : Program) (m : Map) (c : Config) (units : UnitsCarried p m.places m.placement.parts m.starts c) (n : ℕ) (t : Table) (table : table_at p n ≡ Some t) (rowed : IsRowKind t.kind) where
   parts_are : All (PartIs c n) (parts_of c n)
   parts_are = stages_there c n 0 c.stages (λ i. ap (slice_get c.stages) (omega arith))
 
@@ -84,8 +59,7 @@ module _ (p : Program) (m : Map) (c : Config) (units : UnitsCarried p m.places m
       let ua = (unit_of_part p m.places m.placement.parts m.starts c n a.stage a.place ha.stage a.slot units ha.part).0 in
       let ub = (unit_of_part p m.places m.placement.parts m.starts c n b.stage b.place hb.stage b.slot units hb.part).0 in
       let one = one_place p m.placement.parts a.stage n a.place b.place ua (subst (λ k. slice_get (nodes_at k) b.place ≡ Some n) (sym same.0) ub) in
-      let lt = same.1 in
-      absurd (omega (arith, lt, one))
+      absurd (omega (arith, same.1, one))
     where
       nodes_at : ℕ → List ℕ
       nodes_at k = nodes_in p m.placement.parts k

@@ -115,12 +115,10 @@ pub guard_at : (p : Program) (lists : List (List Entry)) (s : List ℕ) (n : ℕ
     → runs node.guard (run_before p lists s n).outcomes ≡ runs node.guard (run p lists s).outcomes
 guard_at p lists s n node program at =
     let before = run_before p lists s n in
-    let after = through_node p lists n node before in
-    let sets = node_sets p lists n node before in
     same_runs node.guard before.outcomes (run p lists s).outcomes (λ x is.
     let lt = is_earlier n node.guard x (program.nodes n node at).guard is in
-    sym (sets.others x.parent (λ e. omega (arith, e, lt)))
-    ∙ sym (run_earlier p lists (n + 1) (drop (n + 1) p.nodes) after x.parent (omega (arith, lt)))
+    sym ((node_sets p lists n node before).others x.parent (λ e. omega (arith, e, lt)))
+    ∙ sym (run_earlier p lists (n + 1) (drop (n + 1) p.nodes) (through_node p lists n node before) x.parent (omega (arith, lt)))
     ∙ sym (ap (λ (r : Run). slice_index r.outcomes x.parent) (run_at p lists s n node at)))
 
 -- the run up to the next node goes through this one
@@ -128,8 +126,7 @@ pub run_next : (p : Program) (lists : List (List Entry)) (s : List ℕ) (n : ℕ
     → run_before p lists s (n + 1) ≡ through_node p lists n node (run_before p lists s n)
 run_next p lists s n node at =
     let first : Run = record { state = s; outcomes = replicate (length p.nodes) 0; hits = [] } in
-    let long = (parts_at p.nodes n node at).1 in
-    let e : 0 + length (take n p.nodes) ≡ n = omega (arith, long) in
+    let e : 0 + length (take n p.nodes) ≡ n = omega (arith, (parts_at p.nodes n node at).1) in
     ap (λ nodes. run_from p lists 0 nodes first) (take-slice_get p.nodes n node at)
     ∙ run_append p lists 0 (take n p.nodes) (node ∷ []) first
     ∙ ap (λ m. run_from p lists m (node ∷ []) (run_before p lists s n)) e
@@ -140,20 +137,14 @@ pub outcome_at : (p : Program) (lists : List (List Entry)) (s : List ℕ) (n : �
     ≡ cond (runs node.guard (run p lists s).outcomes) (node_outcome p (entries_at lists n) (run_before p lists s n).state node.what) 0
 outcome_at p lists s n node program at =
     let before = run_before p lists s n in
-    let after = through_node p lists n node before in
-    let rest = drop (n + 1) p.nodes in
-    let final = run_at p lists s n node at in
-    let sets = node_sets p lists n node before in
-    let parts = parts_at p.nodes n node at in
-    let long = parts.1 in
+    let long = (parts_at p.nodes n node at).1 in
     let within = slice_get_within p.nodes n node at in
     let first : Run = record { state = s; outcomes = replicate (length p.nodes) 0; hits = [] } in
     let room : n < length before.outcomes =
     let e = run_long p lists 0 (take n p.nodes) first ∙ length-replicate (length p.nodes) 0 in omega (arith, e, within) in
     let none : slice_index before.outcomes n ≡ 0 =
     run_later p lists 0 (take n p.nodes) first n (omega (arith, long)) ∙ get_or-replicate (length p.nodes) n 0 0 within in
-    let guard = guard_at p lists s n node program at in
-    ap (λ (r : Run). slice_index r.outcomes n) final
-    ∙ run_earlier p lists (n + 1) rest after n (omega arith)
-    ∙ sets.own_is room none
-    ∙ ap (λ b. cond b (node_outcome p (entries_at lists n) before.state node.what) 0) guard
+    ap (λ (r : Run). slice_index r.outcomes n) (run_at p lists s n node at)
+    ∙ run_earlier p lists (n + 1) (drop (n + 1) p.nodes) (through_node p lists n node before) n (omega arith)
+    ∙ (node_sets p lists n node before).own_is room none
+    ∙ ap (λ b. cond b (node_outcome p (entries_at lists n) before.state node.what) 0) (guard_at p lists s n node program at)

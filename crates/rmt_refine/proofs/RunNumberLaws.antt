@@ -16,8 +16,8 @@ use Rattle.rmt_ast.specs.Events.{Event, lists_from}
 use Rattle.rmt_ast.specs.WellFormed.{IsProgram}
 use Rattle.rmt_refine.specs.Types.{Config, Node, Program, SlotUnit, Table}
 use Rattle.rmt_config.specs.declared.cell_write.CellWrite.{CellWrite}
-use Rattle.rmt_config.specs.Cells.{Content, cells_in, is_occupied, is_seen, visible_bits}
-use Rattle.rmt_config.specs.Commits.{AreWrites, IsCell, Makes, Placed, RunState, RunsFrom, all_entries, arrives, behind_commit, behind_packet, commits, ends, filled_content, leaving_content, moves, placed_at, settled_content, settled_number, stays, waits, without_bit, writes_before}
+use Rattle.rmt_config.specs.Cells.{Content, cells_in, is_occupied, is_seen}
+use Rattle.rmt_config.specs.Commits.{AreWrites, IsCell, Makes, Placed, RunState, RunsFrom, all_entries, arrives, behind_commit, behind_packet, commits, ends, filled_content, moves, placed_at, settled_content, settled_number, stays, waits, writes_before}
 use Rattle.rmt_config.specs.Limits.{IsWithinLimits}
 use Rattle.rmt_config.specs.RunCells.{RunCells, emptied, has_bit, is_changed, no_content, sees, slot_at, with_write, written_content, written_mask}
 use Rattle.rmt_config.specs.RunInputs.{Idle, Input, Turns, Writes, numbers_brought}
@@ -28,14 +28,14 @@ use Rattle.rmt_refine.specs.Commits.{AreNamesOf, seen_by}
 use Rattle.rmt_refine.specs.Fit.{AreFit, AreFitChanges}
 use Rattle.rmt_refine.specs.Outcomes.{entries_at}
 use Rattle.rmt_refine.specs.Units.{applied, table_at}
-use Rattle.rmt_refine.proofs.CellNumberLaws.{counted_table}
+use Rattle.rmt_refine.proofs.CellNumberLaws.{counted_table, part_table}
 use Rattle.rmt_refine.proofs.EntryLaws.{entry_listed, listed_in}
 use Rattle.rmt_refine.proofs.FilledLaws.{its}
 use Rattle.rmt_bits.specs.Bits.{number_of}
 use Rattle.rmt_config.specs.LaneForm.{bits_of_lanes}
 use Rattle.rmt_refine.specs.View.{View}
-use Rattle.rmt_refine.proofs.VisibleBitLaws.{bit_kept}
 use Rattle.rmt_refine.proofs.FitLaws.{FollowOn, commit_follows, keep_entries, stand_first}
+use Rattle.rmt_refine.proofs.LeftLaws.{left, not_filled}
 use Rattle.rmt_refine.proofs.KeptLaws.{placed_stand}
 use Rattle.rmt_refine.proofs.MetLaws.{IsGood, commit_good, packet_good}
 use Rattle.rmt_refine.proofs.NumberLaws.{counted_is, from_counted, in_counted, one_list}
@@ -43,7 +43,7 @@ use Rattle.rmt_refine.proofs.OneStateLaws.{changing}
 use Rattle.rmt_pack.proofs.PartLaws.{and_from as some_from, part_of_slot, then_some}
 use Rattle.rmt_refine.proofs.PartLaws.{part_of_spot, slot_of_part, some_and}
 use Rattle.rmt_refine.proofs.StandLaws.{StandsIn, placed_spot, spot, seen_from, shown, shown_seen}
-use Rattle.rmt_refine.proofs.StartLaws.{SeenEntry, part_table, seen_entry}
+use Rattle.rmt_refine.proofs.StartLaws.{SeenEntry, seen_entry}
 use Rattle.rmt_refine.proofs.UnseenLaws.{all_others, not_again, where_is}
 
 -- ---- entries of counted tables
@@ -202,27 +202,15 @@ module _ (p : Program) (m : Map) (c : Config) (names : Names) (program : IsProgr
           seen_counted r.entries.lists k place n slot at counted good.entries (r.cells.number k place n)
           (seen_entry p m c (seen_by r.cells.version r.cells) good.told r.entries.lists slot.node k place n part.0 slot carries.units good.entries good.cells part.1 lt shown_there)
 
-      left_counted : (b : Bool) → (visible_bits (without_bit (r.cells.version + 1) content.head) == 0) ≡ b → is_occupied content.head ≡ true
-          → is_occupied (cond b (emptied slot) (record content { head = without_bit (r.cells.version + 1) content.head })).head ≡ true
-          → StoodCounted (cond b 0 (r.cells.number k place n))
-      left_counted true e was h = absurd (false≢true h)
-      left_counted false e was h = inl (was_seen was (bit_kept r.cells.version content.head (λ none. false≢true (sym e ∙ eq-eqb (visible_bits (without_bit (r.cells.version + 1) content.head)) 0 none))))
-
-      none_counted : (b : Bool) → is_occupied content.head ≡ b
-          → is_occupied (cond b (unwrap_or (option_map (λ s. leaving_content (r.cells.version + 1) s content) (slot_at c k place)) content) content).head ≡ true
-          → StoodCounted (settled_number r.cells None k place n)
-      none_counted false e h = absurd (false≢true (sym e ∙ h))
-      none_counted true e h =
-          left_counted (visible_bits (without_bit (r.cells.version + 1) content.head) == 0) refl e
-          (ap (λ (o : Option SlotUnit). is_occupied (unwrap_or (option_map (λ s. leaving_content (r.cells.version + 1) s content) o) content).head) (sym at) ∙ h)
-
       settled_counted : (placed : List Placed) → ((q : Placed) → Contains placed q → (v : View) × StandsIn p c v after.lists q) → (o : Option Placed) → placed_at placed k place n ≡ o
           → is_occupied (settled_content c names r.cells r.entries.lists o k place n).head ≡ true → StoodCounted (settled_number r.cells o k place n)
       settled_counted placed stand (Some q) e h =
           let f = placed_spot placed (record { stage = k; place = place; cell = n }) q e in
           let s = stand q f.0 in
           inr (room_counted s.0 q k place n slot at counted f.1 s.1)
-      settled_counted placed stand None e h = none_counted (is_occupied content.head) refl h
+      settled_counted placed stand None e h =
+          let own = left c names r.cells r.entries.lists k place n slot at h in
+          subst StoodCounted (sym own.number) (inl (was_seen own.was own.bit))
 
       filled_counted : (placed : List Placed) → ((q : Placed) → Contains placed q → (v : View) × StandsIn p c v after.lists q) → (o : Option Placed) → placed_at placed k place n ≡ o
           → is_occupied (filled_content c names o k place).head ≡ true → StoodCounted (unwrap_or (option_map (λ (q : Placed). q.entry.number) o) 0)
@@ -230,11 +218,7 @@ module _ (p : Program) (m : Map) (c : Config) (names : Names) (program : IsProgr
           let f = placed_spot placed (record { stage = k; place = place; cell = n }) q e in
           let s = stand q f.0 in
           inr (room_counted s.0 q k place n slot at counted f.1 s.1)
-      filled_counted placed stand None e h = absurd (by (slot_at c k place) h)
-        where
-          by : (o : Option SlotUnit) → is_occupied (unwrap_or (option_map emptied o) no_content).head ≡ true → ⊥
-          by None g = false≢true g
-          by (Some s) g = false≢true g
+      filled_counted placed stand None e h = absurd (not_filled c names k place h)
 
       made_counted : (moved : Bool) (seed : ℕ) (next : RunCells) → Makes c names r.cells r.entries.lists after.lists moved seed next → is_occupied (next.content k place n).head ≡ true → StoodCounted (next.number k place n)
       made_counted moved seed next (stays placed made) h =

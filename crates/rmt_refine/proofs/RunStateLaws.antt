@@ -51,11 +51,9 @@ module _ (p : Program) (lists : List (List Entry)) (c : Config) (names : Names) 
   -- behind a packet
   behind_one : (done inputs : List Input) (packet : Packet) (r : RunState) → StandsBehind done (Enters packet ∷ inputs) r → StandsBehind (done ++ Enters packet ∷ []) inputs (behind_packet c r)
   behind_one done inputs packet r stands =
-      let long = length-append done (Enters packet ∷ []) in
-      let cycle = stands.cycle in
       record {
         split = stands.split ∙ sym (append_assoc done (Enters packet ∷ []) inputs);
-        cycle = omega (arith, long, cycle);
+        cycle = omega (arith, length-append done (Enters packet ∷ []), stands.cycle);
         same = subst (λ (x : RunCells). SameCells c x r.cells) (sym (fold-append (after_input c) (own_cells c) done (Enters packet ∷ []))) stands.same;
       }
 
@@ -65,17 +63,14 @@ module _ (p : Program) (lists : List (List Entry)) (c : Config) (names : Names) 
       → StandsBehind done (changing (waits r moved) ws ++ Turns seed ∷ inputs) r → StandsBehind (done ++ (changing (waits r moved) ws ++ Turns seed ∷ [])) inputs (behind_commit r changes moved seed ws next)
   behind_changes done inputs r changes moved seed next ws makes are stands =
       let xs = changing (waits r moved) ws in
-      let front = length_changing (waits r moved) ws in
-      let long = length-append done (xs ++ Turns seed ∷ []) in
       let own = length-append xs (Turns seed ∷ []) in
-      let cycle = stands.cycle in
       let reached : cells_after (done ++ (xs ++ Turns seed ∷ [])) ≡ with_version (fold (with_write c) (cells_after done) ws) seed =
       fold-append (after_input c) (own_cells c) done (xs ++ Turns seed ∷ []) ∙ fold-append (after_input c) (cells_after done) xs (Turns seed ∷ [])
       ∙ ap (λ (x : RunCells). with_version x seed) (after_changing c (cells_after done) (waits r moved) ws) in
       let turned = same_turned c names formed named r (cells_after done) next ws seed (version_made c names formed named r.entries.lists (committed r.entries changes).lists r.cells next moved seed makes) stands.same are in
       record {
         split = stands.split ∙ ap (λ ys. done ++ ys) (sym (append_assoc xs (Turns seed ∷ []) inputs)) ∙ sym (append_assoc done (xs ++ Turns seed ∷ []) inputs);
-        cycle = omega (arith, long, own, front, cycle);
+        cycle = omega (arith, length-append done (xs ++ Turns seed ∷ []), own, length_changing (waits r moved) ws, stands.cycle);
         same = subst (λ (x : RunCells). SameCells c x (with_version next seed)) (sym reached) turned;
       }
 

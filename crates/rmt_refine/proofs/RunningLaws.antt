@@ -1,7 +1,7 @@
 -- Which instructions run in a stage and what is counted in it: those of the tables whose outcome is set there, and their hits.
-use Rattle.std.proofs.Common.{◌≡◌, ℕ, zero, suc, ◌+◌, ◌<◌, ◌≤◌, Bool, true, false, ◌&&◌, ◌==◌, cond, List, [], ◌∷◌, ◌++◌, Option, Some, None, length, map, refl, sym, ap, ◌∙◌, subst, ◌⊎◌, inl, inr, arith}
+use Rattle.std.proofs.Common.{◌≡◌, ℕ, zero, suc, ◌+◌, ◌<◌, ◌≤◌, Bool, true, false, ◌==◌, cond, List, [], ◌∷◌, ◌++◌, Option, Some, None, length, map, refl, sym, ap, ◌∙◌, subst, ◌⊎◌, inl, inr, arith}
 use Rattle.std.specs.Prelude.{nat_lt, option_and_then, option_map, slice_get, slice_index, slice_set, unwrap_or}
-use Rattle.std.proofs.lemmas.Bool.{both_ways, cases_lt, eq-eqb, eqb-true, lt-ltb}
+use Rattle.std.proofs.lemmas.Bool.{both_ways, eq-eqb, eqb-true, lt-ltb}
 use Rattle.std.proofs.lemmas.Option.{none-some, same_Some, slice_get_within}
 use Rattle.rmt_bits.specs.declared.lane.Lane.{Lane}
 use Rattle.rmt_refine.specs.Types.{Program, Table, Node, What, Config, Stage, Unit, SlotUnit}
@@ -13,7 +13,7 @@ use Rattle.rmt_ast.specs.State.{joined}
 use Rattle.rmt_config.specs.Instructions.{first_code}
 use Rattle.rmt_config.specs.declared.config.Unit.TheVariants.{Gate, Slot}
 use Rattle.rmt_config.specs.Cells.{Found}
-use Rattle.rmt_config.specs.Life.{Acts, Words, acts_of, gate_passes, guarded, looked_up, slot_acts, unit_acts}
+use Rattle.rmt_config.specs.Life.{Acts, Words, acts_of, gate_passes, looked_up, slot_acts, unit_acts}
 use Rattle.rmt_config.specs.Life.{runs as chip_runs}
 use Rattle.rmt_pack.specs.declared.placement.Part.{Part}
 use Rattle.rmt_pack.specs.Placements.{quanta_in}
@@ -27,7 +27,7 @@ use Rattle.rmt_refine.proofs.PartLaws.{slot_of_part}
 use Rattle.rmt_config.specs.Life.{Counted, Running, code_at}
 use Rattle.rmt_ast.specs.EntryLists.{params_of}
 use Rattle.rmt_config.specs.Effects.{HasArguments}
-use Rattle.rmt_refine.proofs.StageLaws.{AreSet, IsAt, applied_here, hit_here, miss_here, part_at, is_set, stands_where_set, IsRun, ReadsAs, StageReads, eqb_false, guard_right, not_there, own_before, own_unset, run_outcome, some_outcome, unit_law, kept_through}
+use Rattle.rmt_refine.proofs.StageLaws.{AreSet, IsAt, applied_here, hit_here, miss_here, part_at, stands_where_set, IsRun, ReadsAs, StageReads, eqb_false, not_there, unit_law, unit_turn, kept_through}
 
 -- ---- what one unit adds
 
@@ -292,39 +292,14 @@ module _ (p : Program) (places : List (List Lane)) (parts : List Part) (starts :
   unit_makes : (k n place : ℕ) (stage : Stage) (u : Unit) (node : Node) (words : Words) (a : Acts) → TheRun → UnitAt k n place stage u node
       → a.place ≡ place → SetBefore k n a.outcomes → (runs node.guard outcomes ≡ true → k ≤ set_in n → Reads words n node.what)
       → Makes k n stage a (unit_acts (look_in c v) k stage words a u)
-  unit_makes k n place stage u node words a run at here set reads = by_run (runs node.guard outcomes) refl
+  unit_makes k n place stage u node words a run at here set reads = elim (unit_turn p places parts starts c v entries state outcomes set_in k n place stage u node a.outcomes run at set) [
+    | inl off ↦ inl (unit_stops c v k stage words a u off.stopped, λ t h. no_act off.why t h)
+    | inr on ↦ acting_makes k n place stage u node words a node.what run at refl here on.later on.goes on.acts (reads on.goes on.later)
+  ]
     where
-      own : slice_index a.outcomes n ≡ cond (is_set p places parts starts c v entries state outcomes set_in k n n) (slice_index outcomes n) 0
-      own = set.each n at.within
-
-      guard : guarded (guard_in u) a.outcomes ≡ runs node.guard outcomes
-      guard = guard_right p places parts starts c v entries state outcomes set_in k n place stage u node a.outcomes run at set
-
-      own_value : (x : ℕ) → slice_index a.outcomes n ≡ x → (slice_index a.outcomes (node_of u) == 0) ≡ (x == 0)
-      own_value x e = ap (λ m. slice_index a.outcomes m == 0) at.carried.number ∙ ap (λ y. y == 0) e
-
-      by_run : (r : Bool) → runs node.guard outcomes ≡ r → Makes k n stage a (unit_acts (look_in c v) k stage words a u)
-      by_run false off =
-          let stopped : chip_runs (node_of u) (guard_in u) a.outcomes ≡ false = ap (λ b. b && (slice_index a.outcomes (node_of u) == 0)) (guard ∙ off) in
-          inl (unit_stops c v k stage words a u stopped, (λ t h. both_ways (runs node.guard outcomes) off (h.goes node at.node_is)))
-      by_run true goes =
-          elim (cases_lt (set_in n) k) [
-            | inl lt ↦
-                let value : slice_index a.outcomes n ≡ slice_index outcomes n =
-                own ∙ ap (λ b. cond b (slice_index outcomes n) 0) (own_before p places parts starts c v entries state outcomes set_in k n lt n) in
-                let some : (slice_index outcomes n ≡ 0) → ⊥ =
-                λ e. some_outcome p places parts starts c v entries state outcomes set_in n (set_in n) node.what (run.sets n node at.node_is goes)
-                (sym (run_outcome p places parts starts c v entries state outcomes set_in n node run at.node_is goes) ∙ e) in
-                let stopped : chip_runs (node_of u) (guard_in u) a.outcomes ≡ false =
-                ap (λ b. b && (slice_index a.outcomes (node_of u) == 0)) (guard ∙ goes) ∙ own_value (slice_index outcomes n) value ∙ eqb_false (slice_index outcomes n) 0 some in
-                inl (unit_stops c v k stage words a u stopped, (λ t h. let e = h.set_here in omega (arith, e, lt)))
-            | inr le ↦
-                let value : slice_index a.outcomes n ≡ 0 =
-                own ∙ ap (λ b. cond b (slice_index outcomes n) 0) (own_unset p places parts starts c v entries state outcomes set_in k n le) in
-                let acts : chip_runs (node_of u) (guard_in u) a.outcomes ≡ true =
-                ap (λ b. b && (slice_index a.outcomes (node_of u) == 0)) (guard ∙ goes) ∙ own_value 0 value in
-                acting_makes k n place stage u node words a node.what run at refl here le goes acts (reads goes le)
-          ]
+      no_act : (runs node.guard outcomes ≡ false) ⊎ (set_in n < k) → (t : Table) → ActsIn k n t → ⊥
+      no_act (inl off) t h = both_ways (runs node.guard outcomes) off (h.goes node at.node_is)
+      no_act (inr lt) t h = let e = h.set_here in omega (arith, e, lt)
 
   -- ---- all units of a stage
 

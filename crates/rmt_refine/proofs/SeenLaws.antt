@@ -118,12 +118,11 @@ module _ (p : Program) (lists : List (List Entry)) (m : Map) (c : Config) (v : V
         let o = match_order p lists m c v s program entries state carries j n (stage_of j) k f lt within w.goes goes (writer_stands f j w) some w.writes key in
         record { before = o.0; in_time = o.1 };
     later = λ j w ge seen.
-        let before = seen.before in
         elim (cases_lt n j) [
           | inl lt ↦
               let o = reverse_order p lists m c v s program entries state carries n j k (stage_of j) f lt (writer_within p j f w.writes) goes w.goes some (writer_stands f j w) w.writes (inl key) in
-              omega (arith, o, before)
-          | inr back ↦ let e = same_stage n j ge back in omega (arith, e, before, le)
+              omega (arith, o, seen.before)
+          | inr back ↦ let e = same_stage n j ge back in omega (arith, e, seen.before, le)
         ];
   }
 
@@ -132,16 +131,14 @@ module _ (p : Program) (lists : List (List Entry)) (m : Map) (c : Config) (v : V
   operand_cut n f within goes reads = record {
     earlier = λ j w lt.
         let o = action_order p lists m c v s program entries state carries j n (stage_of j) (stage_of n) f lt within w.goes goes (writer_stands f j w) (stands n within goes) w.writes (inl reads) in
-        let far = o.1 in
-        record { before = o.0; in_time = omega (arith, far) };
+        record { before = o.0; in_time = omega (arith, o.1) };
     later = λ j w ge seen.
-        let before = seen.before in
         elim (cases_lt n j) [
           | inl lt ↦
               let o = reverse_order p lists m c v s program entries state carries n j (stage_of n) (stage_of j) f lt (writer_within p j f w.writes) goes w.goes (stands n within goes)
               (writer_stands f j w) w.writes (inr reads) in
-              omega (arith, o, before)
-          | inr back ↦ let e = same_stage n j ge back in omega (arith, e, before)
+              omega (arith, o, seen.before)
+          | inr back ↦ let e = same_stage n j ge back in omega (arith, e, seen.before)
         ];
   }
 
@@ -150,13 +147,11 @@ module _ (p : Program) (lists : List (List Entry)) (m : Map) (c : Config) (v : V
   own_cut n f t own le = record {
     earlier = λ j w lt.
         let o = writers_order f j n w own lt in
-        let far = o.1 in
-        record { before = o.0; in_time = omega (arith, far, le) };
+        record { before = o.0; in_time = omega (arith, o.1, le) };
     later = λ j w ge seen.
-        let before = seen.before in
         elim (cases_lt n j) [
-          | inl lt ↦ let o = writers_order f n j own w lt in let behind = o.0 in omega (arith, behind, before)
-          | inr back ↦ let e = same_stage n j ge back in omega (arith, e, before)
+          | inl lt ↦ let o = writers_order f n j own w lt in let behind = o.0 in omega (arith, behind, seen.before)
+          | inr back ↦ let e = same_stage n j ge back in omega (arith, e, seen.before)
         ];
   }
 
@@ -190,8 +185,4 @@ module _ (p : Program) (lists : List (List Entry)) (m : Map) (c : Config) (v : V
   -- and no writer stands between it and the cut
   pub none_between : (k t f n i : ℕ) → IsWriter f i → stage_of i ≡ k → IsCut (k + 1) t f n → (j : ℕ) → IsWriter f j → i < j → j < n → ⊥
   none_between k t f n i own e cut j w lt less =
-      let o = writers_order f i j own w lt in
-      let behind = o.0 in
-      let seen = cut.earlier j w less in
-      let before = seen.before in
-      omega (arith, behind, before, e)
+      omega (arith, (writers_order f i j own w lt).0, ((cut.earlier j w less).before), e)

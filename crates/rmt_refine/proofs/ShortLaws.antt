@@ -1,7 +1,7 @@
 -- A commit that moves no cell changes at most the cells of the entries that it and the commit before it added or removed.
-use Rattle.std.proofs.Common.{◌≡◌, ◌≢◌, ◌⊎◌, ℕ, ◌+◌, ◌*◌, ◌<◌, ◌≤◌, ◌==◌, ◌&&◌, ◌||◌, Bool, true, false, not, cond, List, [], ◌∷◌, ◌++◌, length, map, Option, Some, None, All, Contains, refl, sym, ap, subst, ◌∙◌, inl, inr, arith}
-use Rattle.std.specs.Prelude.{AllPairs, IfSome, nat_lt, option_map, unwrap_or, ⊤}
-use Rattle.std.proofs.lemmas.Bool.{and_from, and_parts, both_ways, eq-eqb, eqb-true, false≢true, false_from_ne_true, ltb-true, or_cases}
+use Rattle.std.proofs.Common.{◌≡◌, ◌≢◌, ◌⊎◌, ℕ, ◌+◌, ◌*◌, ◌<◌, ◌≤◌, ◌==◌, Bool, true, false, not, cond, List, [], ◌∷◌, ◌++◌, length, map, Option, Some, None, All, Contains, refl, sym, ap, subst, ◌∙◌, inl, inr, arith}
+use Rattle.std.specs.Prelude.{AllPairs, IfSome, option_map, unwrap_or, ⊤}
+use Rattle.std.proofs.lemmas.Bool.{and_from, and_parts, both_ways, eq-eqb, eqb-true, false≢true, false_from_ne_true}
 use Rattle.std.proofs.lemmas.List.{length-append, length-map}
 use Rattle.std.proofs.lemmas.List.Elements.{All-contains, All-contains_itself, All-head, All-map, All-tail, All-weaker, Contains-append_left, Contains-append_right}
 use Rattle.std.proofs.lemmas.Option.{none-some}
@@ -14,6 +14,7 @@ use Rattle.rmt_ast.specs.declared.names.Names.{Names}
 use Rattle.rmt_ast.specs.Changes.{Change, Installed, committed}
 use Rattle.rmt_ast.specs.EntryLists.{AreEntries, IsEntry, Terms, terms_of}
 use Rattle.rmt_ast.specs.WellFormed.{IsProgram}
+use Rattle.rmt_ast.specs.Answers.{entry_numbers}
 use Rattle.rmt_refine.specs.Types.{CellNumber, Config, Program, SlotUnit, Stage}
 use Rattle.rmt_config.specs.declared.cell_write.CellWrite.{CellWrite}
 use Rattle.rmt_config.specs.CellForm.{Coded, SlotHolds, StageHolds}
@@ -22,7 +23,9 @@ use Rattle.rmt_config.specs.Commits.{AreFilled, AreWrites, IsCell, Makes, Placed
 use Rattle.rmt_config.specs.Form.{visible_with}
 use Rattle.rmt_config.specs.Limits.{IsWithinLimits}
 use Rattle.rmt_config.specs.Rooms.{content_in, entry_content}
-use Rattle.rmt_config.specs.RunCells.{RunCells, emptied, has_bit, no_content, own_cells, sees, slot_at}
+use Rattle.rmt_config.specs.RunCells.{RunCells, emptied, has_bit, own_cells, sees, slot_at}
+use Rattle.rmt_config.proofs.RunCellLaws.{both_show}
+use Rattle.rmt_config.proofs.CommitLaws.{writes_apart}
 use Rattle.rmt_refine.specs.declared.map.Map.{Map}
 use Rattle.rmt_refine.specs.View.{own_content}
 use Rattle.rmt_refine.specs.Cells.{IsSpotOf, IsTold, Spot}
@@ -32,11 +35,10 @@ use Rattle.rmt_refine.specs.Fit.{AreFitChanges}
 use Rattle.rmt_refine.specs.Named.{NamesCarried}
 use Rattle.rmt_refine.specs.Outcomes.{entries_at}
 use Rattle.rmt_refine.specs.ShortCommits.{CommitsAreShort, IsReached, arrived, begins, touched, turned}
-use Rattle.rmt_refine.proofs.CellNumberLaws.{cells_listed, coded_slot}
+use Rattle.rmt_refine.proofs.CellNumberLaws.{cells_listed, coded_slot, part_table}
 use Rattle.rmt_pack.proofs.EntryLaws.{is_numbered}
 use Rattle.rmt_refine.proofs.EntryLaws.{listed_in, one_entry}
-use Rattle.rmt_refine.proofs.FilledLaws.{fills, full_occupied}
-use Rattle.rmt_refine.proofs.FilledLaws.{differ as filled_differ}
+use Rattle.rmt_refine.proofs.FilledLaws.{fills, full_occupied, differ as filled_differ}
 use Rattle.rmt_refine.proofs.FitLaws.{FollowOn, commit_follows, keep_entries}
 use Rattle.rmt_refine.proofs.KeptLaws.{at_its_cell, each_is_placed, its_cell, placed_differ, placed_kept, placed_occupied, placed_stand}
 use Rattle.rmt_refine.proofs.MetLaws.{IsGood, commit_good, packet_good, start_good}
@@ -47,10 +49,11 @@ use Rattle.rmt_refine.proofs.PartLaws.{some_and, spot_of_part}
 use Rattle.rmt_pack.proofs.PlacedLaws.{Comes, Stays}
 use Rattle.rmt_refine.proofs.RoomOrderLaws.{pairs_with}
 use Rattle.rmt_refine.proofs.StandLaws.{placed_spot, same_placed, shown, shown_seen, spot}
-use Rattle.rmt_refine.proofs.StartLaws.{cell_visible, part_table, seen_entry}
+use Rattle.rmt_refine.proofs.StartLaws.{cell_visible, seen_entry}
 use Rattle.rmt_refine.proofs.TheLaw.{table_entries}
 use Rattle.rmt_refine.proofs.ViewLaws.{content_is, number_is}
-use Rattle.rmt_refine.proofs.VisibleBitLaws.{bit_kept, both_set, both_show, clear-alike, none_set}
+use Rattle.rmt_refine.proofs.VisibleBitLaws.{both_set, clear-alike, none_set}
+use Rattle.rmt_refine.proofs.LeftLaws.{IsLeft, left, not_filled}
 
 -- ---- few numbers
 
@@ -88,13 +91,11 @@ still_there x z (y ∷ ys) other there = by (y == x) refl (still_there x z ys ot
 pub at_most : (xs ys : List ℕ) → AllPairs ◌≢◌ xs → All (Contains ys) xs → length xs ≤ length ys
 at_most [] ys apart all = omega arith
 at_most (x ∷ xs) ys apart all =
-    let own = All-head (Contains ys) x xs all in
-    let long = one_fewer x ys own in
     let rest = at_most xs (without_one x ys) (AllPairs-tail ◌≢◌ x xs apart)
     (All-weaker (Contains xs) (Contains (without_one x ys))
     (λ z there. still_there x z ys (All-contains (λ w. x ≢ w) xs z (AllPairs-head ◌≢◌ x xs apart) there) (All-contains (Contains ys) xs z (All-tail (Contains ys) x xs all) there))
     xs (All-contains_itself xs)) in
-    omega (arith, long, rest)
+    omega (arith, one_fewer x ys (All-head (Contains ys) x xs all), rest)
 
 -- ---- cells between commits
 
@@ -107,12 +108,9 @@ number_at cells s = cells.number s.stage s.place s.cell
 abbrev IsCellAt : Config → Spot → Type 0
 IsCellAt c s = IsCell c s.stage s.place s.cell
 
-abbrev numbers : List Entry → List ℕ
-numbers es = map (λ (e : Entry). e.number) es
-
 -- An occupied cell has both visible bits, or is that of an entry that the last commit touched; no two have one number, and an empty cell has none.
 record IsTidy (c : Config) (recent : List Entry) (cells : RunCells) : Type 0 where
-  full : (s : Spot) → IsCellAt c s → is_occupied (content_at cells s).head ≡ true → (visible_bits (content_at cells s).head ≡ 3) ⊎ Contains (numbers recent) (number_at cells s)
+  full : (s : Spot) → IsCellAt c s → is_occupied (content_at cells s).head ≡ true → (visible_bits (content_at cells s).head ≡ 3) ⊎ Contains (entry_numbers recent) (number_at cells s)
   apart : (a b : Spot) → IsCellAt c a → IsCellAt c b → is_occupied (content_at cells a).head ≡ true → is_occupied (content_at cells b).head ≡ true → number_at cells a ≡ number_at cells b → a ≡ b
   empty : (s : Spot) → IsCellAt c s → is_occupied (content_at cells s).head ≡ false → number_at cells s ≡ 0
 
@@ -197,9 +195,7 @@ module _ (p : Program) (m : Map) (c : Config) (names : Names) (program : IsProgr
           elim (kept q f.0) [
             | inl st ↦ sym f.1 ∙ tidy.apart (spot q) b (cell_of q f.0) cell_b (was_there q st) there (st.number ∙ same)
             | inr co ↦
-                let new = new_number q f.0 co in
-                let used = good.used b.stage b.place b.cell cell_b there in
-                absurd (omega (arith, new, used, same))
+                absurd (omega (arith, new_number q f.0 co, good.used b.stage b.place b.cell cell_b there, same))
           ]
 
       one_spot : (a b : Spot) → IsCellAt c a → IsCellAt c b → (oa ob : Option Placed) → at a ≡ oa → at b ≡ ob → IsTaken oa a → IsTaken ob b → number_of oa a ≡ number_of ob b → a ≡ b
@@ -213,13 +209,13 @@ module _ (p : Program) (m : Map) (c : Config) (names : Names) (program : IsProgr
 
       -- ---- the entries that it touches
 
-      came : (q : Placed) → Contains placed q → Comes c names r.cells r.entries.lists q → Contains (numbers touching) q.entry.number
+      came : (q : Placed) → Contains placed q → Comes c names r.cells r.entries.lists q → Contains (entry_numbers touching) q.entry.number
       came q there co =
           let own = Contains-filter (λ e. not (is_numbered_in before_all e)) after_all q.entry (in_after q there) (ap not co.new) in
           Contains-map (λ (e : Entry). e.number) touching q.entry (Contains-append_left (come r.entries.lists after.lists) (come after.lists r.entries.lists) q.entry own)
 
       -- an entry whose cell is no placed entry's goes
-      went : (s : Spot) → IsCellAt c s → at s ≡ None → is_occupied (content_at r.cells s).head ≡ true → has_bit v (content_at r.cells s).head ≡ true → Contains (numbers touching) (number_at r.cells s)
+      went : (s : Spot) → IsCellAt c s → at s ≡ None → is_occupied (content_at r.cells s).head ≡ true → has_bit v (content_at r.cells s).head ≡ true → Contains (entry_numbers touching) (number_at r.cells s)
       went s cell none there bit =
           let slot = some_and (slot_at c s.stage s.place) (λ x. s.cell < cells_in x.memory) cell in
           let part = part_of_slot c slot.0.node s.stage s.place slot.0 slot.1 refl in
@@ -228,7 +224,7 @@ module _ (p : Program) (m : Map) (c : Config) (names : Names) (program : IsProgr
           let shown_there : is_seen (shown v x).head ≡ true = ap (λ (y : Content). is_seen y.head) (shown_seen v x sees_it) ∙ there in
           let e = seen_entry p m c (seen_by v r.cells) good.told r.entries.lists slot.0.node s.stage s.place s.cell part.0 slot.0 carries.units good.entries good.cells part.1 slot.2 shown_there in
           let in_before = listed_in r.entries.lists slot.0.node (entries_at r.entries.lists slot.0.node) e.entry e.list_is e.there in
-          subst (Contains (numbers touching)) (sym e.number_is) (by e.entry in_before e.number_is (is_numbered_in after_all e.entry) refl)
+          subst (Contains (entry_numbers touching)) (sym e.number_is) (by e.entry in_before e.number_is (is_numbered_in after_all e.entry) refl)
         where
           goes_on : (e f : Entry) → Contains before_all e → number_at r.cells s ≡ e.number → Contains after_all f → f.number ≡ e.number → ⊥
           goes_on e f in_before number in_f same =
@@ -243,7 +239,7 @@ module _ (p : Program) (m : Map) (c : Config) (names : Names) (program : IsProgr
                 | inr co ↦ false≢true (sym co.new ∙ ap (is_numbered_in before_all) q.2 ∙ stood)
               ]
 
-          by : (e : Entry) → Contains before_all e → number_at r.cells s ≡ e.number → (b : Bool) → is_numbered_in after_all e ≡ b → Contains (numbers touching) e.number
+          by : (e : Entry) → Contains before_all e → number_at r.cells s ≡ e.number → (b : Bool) → is_numbered_in after_all e ≡ b → Contains (entry_numbers touching) e.number
           by e in_before number false new =
               Contains-map (λ (x : Entry). x.number) touching e
               (Contains-append_right (come r.entries.lists after.lists) (come after.lists r.entries.lists) e (Contains-filter (λ x. not (is_numbered_in after_all x)) before_all e in_before (ap not new)))
@@ -254,31 +250,10 @@ module _ (p : Program) (m : Map) (c : Config) (names : Names) (program : IsProgr
       -- ---- the cells afterwards
 
       -- a cell that loses its entry
-      record IsLeft (s : Spot) : Type 0 where
-        was : is_occupied (content_at r.cells s).head ≡ true
-        bit : has_bit v (content_at r.cells s).head ≡ true
-        number : settled_number r.cells None s.stage s.place s.cell ≡ number_at r.cells s
-
-      left : (s : Spot) → IsCellAt c s → is_occupied (settled_content c names r.cells r.entries.lists None s.stage s.place s.cell).head ≡ true → IsLeft s
-      left s cell h =
+      loses : (s : Spot) → IsCellAt c s → is_occupied (settled_content c names r.cells r.entries.lists None s.stage s.place s.cell).head ≡ true → IsLeft c names r.cells r.entries.lists s.stage s.place s.cell
+      loses s cell h =
           let slot = some_and (slot_at c s.stage s.place) (λ x. s.cell < cells_in x.memory) cell in
-          by slot.0 slot.1 (is_occupied (content_at r.cells s).head) refl h
-        where
-          leaves : (slot : SlotUnit) (b : Bool) → (visible_bits (without_bit (v + 1) (content_at r.cells s).head) == 0) ≡ b → is_occupied (content_at r.cells s).head ≡ true
-              → is_occupied (cond b (emptied slot) (record (content_at r.cells s) { head = without_bit (v + 1) (content_at r.cells s).head })).head ≡ true → IsLeft s
-          leaves slot true e was g = absurd (false≢true g)
-          leaves slot false e was g = record {
-            was = was;
-            bit = bit_kept v (content_at r.cells s).head (λ none. false≢true (sym e ∙ eq-eqb (visible_bits (without_bit (v + 1) (content_at r.cells s).head)) 0 none));
-            number = ap (λ b. cond b 0 (number_at r.cells s)) e;
-          }
-
-          by : (slot : SlotUnit) → slot_at c s.stage s.place ≡ Some slot → (b : Bool) → is_occupied (content_at r.cells s).head ≡ b
-              → is_occupied (cond b (unwrap_or (option_map (λ y. leaving_content (v + 1) y (content_at r.cells s)) (slot_at c s.stage s.place)) (content_at r.cells s)) (content_at r.cells s)).head ≡ true → IsLeft s
-          by slot at_slot false e g = absurd (false≢true (sym e ∙ g))
-          by slot at_slot true e g =
-              leaves slot (visible_bits (without_bit (v + 1) (content_at r.cells s).head) == 0) refl e
-              (ap (λ (o : Option SlotUnit). is_occupied (unwrap_or (option_map (λ y. leaving_content (v + 1) y (content_at r.cells s)) o) (content_at r.cells s)).head) (sym at_slot) ∙ g)
+          left c names r.cells r.entries.lists s.stage s.place s.cell slot.0 slot.1 h
 
       record IsTakenNow (o : Option Placed) (s : Spot) : Type 0 where
         taken : IsTaken o s
@@ -286,7 +261,7 @@ module _ (p : Program) (m : Map) (c : Config) (names : Names) (program : IsProgr
 
       taken_now : (s : Spot) → IsCellAt c s → (o : Option Placed) → is_occupied (settled_content c names r.cells r.entries.lists o s.stage s.place s.cell).head ≡ true → IsTakenNow o s
       taken_now s cell (Some q) h = record { taken = tt; number = refl }
-      taken_now s cell None h = let l = left s cell h in record { taken = l.was; number = l.number }
+      taken_now s cell None h = let l = loses s cell h in record { taken = l.was; number = l.number }
 
       -- a cell of an entry that stays has both bits, where it had the current one
       stay_full : (s : Spot) (q : Placed) → at s ≡ Some q → Stays c names r.cells r.entries.lists q → visible_bits (settled_content c names r.cells r.entries.lists (Some q) s.stage s.place s.cell).head ≡ 3
@@ -307,14 +282,14 @@ module _ (p : Program) (m : Map) (c : Config) (names : Names) (program : IsProgr
       }
         where
           full_by : (s : Spot) → IsCellAt c s → (o : Option Placed) → at s ≡ o → is_occupied (settled_content c names r.cells r.entries.lists o s.stage s.place s.cell).head ≡ true
-              → (visible_bits (settled_content c names r.cells r.entries.lists o s.stage s.place s.cell).head ≡ 3) ⊎ Contains (numbers touching) (settled_number r.cells o s.stage s.place s.cell)
+              → (visible_bits (settled_content c names r.cells r.entries.lists o s.stage s.place s.cell).head ≡ 3) ⊎ Contains (entry_numbers touching) (settled_number r.cells o s.stage s.place s.cell)
           full_by s cell (Some q) e h =
               let f = placed_spot placed s q e in
               elim (kept q f.0) [
                 | inl st ↦ inl (stay_full s q e st)
                 | inr co ↦ inr (came q f.0 co)
               ]
-          full_by s cell None e h = let l = left s cell h in inr (subst (Contains (numbers touching)) (sym l.number) (went s cell e l.was l.bit))
+          full_by s cell None e h = let l = loses s cell h in inr (subst (Contains (entry_numbers touching)) (sym l.number) (went s cell e l.was l.bit))
 
           empty_none : (s : Spot) → IsCellAt c s → (b : Bool) → is_occupied (content_at r.cells s).head ≡ b
               → is_occupied (settled_content c names r.cells r.entries.lists None s.stage s.place s.cell).head ≡ false → settled_number r.cells None s.stage s.place s.cell ≡ 0
@@ -355,25 +330,25 @@ module _ (p : Program) (m : Map) (c : Config) (names : Names) (program : IsProgr
       record IsTouched (s : Spot) : Type 0 where
         cell : IsCellAt c s
         taken : IsTaken (at s) s
-        among : Contains (numbers touching ++ numbers recent) (number_of (at s) s)
+        among : Contains (entry_numbers touching ++ entry_numbers recent) (number_of (at s) s)
 
       abbrev Changes : Option Placed → Spot → Type 0
       Changes o s = (content_at r.cells s ≢ settled_content c names r.cells r.entries.lists o s.stage s.place s.cell) ⊎ (number_at r.cells s ≢ settled_number r.cells o s.stage s.place s.cell)
 
-      touched_now : (n : ℕ) → Contains (numbers touching) n → Contains (numbers touching ++ numbers recent) n
-      touched_now n there = Contains-append_left (numbers touching) (numbers recent) n there
+      touched_now : (n : ℕ) → Contains (entry_numbers touching) n → Contains (entry_numbers touching ++ entry_numbers recent) n
+      touched_now n there = Contains-append_left (entry_numbers touching) (entry_numbers recent) n there
 
-      touched_before : (n : ℕ) → Contains (numbers recent) n → Contains (numbers touching ++ numbers recent) n
-      touched_before n there = Contains-append_right (numbers touching) (numbers recent) n there
+      touched_before : (n : ℕ) → Contains (entry_numbers recent) n → Contains (entry_numbers touching ++ entry_numbers recent) n
+      touched_before n there = Contains-append_right (entry_numbers touching) (entry_numbers recent) n there
 
       no_change : (o : Option Placed) (s : Spot) → content_at r.cells s ≡ settled_content c names r.cells r.entries.lists o s.stage s.place s.cell → number_at r.cells s ≡ settled_number r.cells o s.stage s.place s.cell → Changes o s → ⊥
       no_change o s content number (inl h) = h content
       no_change o s content number (inr h) = h number
 
-      is_touched : (s : Spot) → IsCellAt c s → (o : Option Placed) → at s ≡ o → Changes o s → IsTaken o s × Contains (numbers touching ++ numbers recent) (number_of o s)
+      is_touched : (s : Spot) → IsCellAt c s → (o : Option Placed) → at s ≡ o → Changes o s → IsTaken o s × Contains (entry_numbers touching ++ entry_numbers recent) (number_of o s)
       is_touched s cell (Some q) e change = (tt, by (placed_spot placed s q e))
         where
-          stayed : (f : Contains placed q × (spot q ≡ s)) → Stays c names r.cells r.entries.lists q → Contains (numbers touching ++ numbers recent) q.entry.number
+          stayed : (f : Contains placed q × (spot q ≡ s)) → Stays c names r.cells r.entries.lists q → Contains (entry_numbers touching ++ entry_numbers recent) q.entry.number
           stayed f st =
               let number : number_at r.cells s ≡ q.entry.number = ap (number_at r.cells) (sym f.1) ∙ st.number in
               let there : is_occupied (content_at r.cells s).head ≡ true = subst (λ (x : Spot). is_occupied (content_at r.cells x).head ≡ true) f.1 (was_there q st) in
@@ -382,17 +357,17 @@ module _ (p : Program) (m : Map) (c : Config) (names : Names) (program : IsProgr
                     let x = content_at r.cells s in
                     let same : staying_content (v + 1) x ≡ x = ap (λ h. record x { head = h }) (none_set (v + 1) x.head both) in
                     absurd (no_change (Some q) s (sym same ∙ sym (ap (λ b. cond b (staying_content (v + 1) x) (coming_content names (v + 1) q)) st.stood)) number change)
-                | inr old ↦ touched_before q.entry.number (subst (Contains (numbers recent)) number old)
+                | inr old ↦ touched_before q.entry.number (subst (Contains (entry_numbers recent)) number old)
               ]
 
-          by : Contains placed q × (spot q ≡ s) → Contains (numbers touching ++ numbers recent) q.entry.number
+          by : Contains placed q × (spot q ≡ s) → Contains (entry_numbers touching ++ entry_numbers recent) q.entry.number
           by f = elim (kept q f.0) [
             | inl st ↦ stayed f st
             | inr co ↦ touched_now q.entry.number (came q f.0 co)
           ]
       is_touched s cell None e change = by (is_occupied (content_at r.cells s).head) refl
         where
-          by : (b : Bool) → is_occupied (content_at r.cells s).head ≡ b → (is_occupied (content_at r.cells s).head ≡ true) × Contains (numbers touching ++ numbers recent) (number_at r.cells s)
+          by : (b : Bool) → is_occupied (content_at r.cells s).head ≡ b → (is_occupied (content_at r.cells s).head ≡ true) × Contains (entry_numbers touching ++ entry_numbers recent) (number_at r.cells s)
           by true there = (
             there,
             elim (tidy.full s cell there) [
@@ -413,12 +388,10 @@ module _ (p : Program) (m : Map) (c : Config) (names : Names) (program : IsProgr
 
       writes_few : (ws : List CellWrite) → AreWrites c r.cells next ws → length ws ≤ length touching + length recent
       writes_few ws are =
-          let most = at_most (map number_written ws) (numbers touching ++ numbers recent) (AllPairs-map ◌≢◌ number_written ws apart) (All-map (Contains (numbers touching ++ numbers recent)) number_written ws (λ i d lt. (each i d lt).among)) in
-          let one = length-map ws number_written in
-          let two = length-append (numbers touching) (numbers recent) in
+          let most = at_most (map number_written ws) (entry_numbers touching ++ entry_numbers recent) (AllPairs-map ◌≢◌ number_written ws apart) (All-map (Contains (entry_numbers touching ++ entry_numbers recent)) number_written ws (λ i d lt. (each i d lt).among)) in
           let three = length-map touching (λ (e : Entry). e.number) in
           let four = length-map recent (λ (e : Entry). e.number) in
-          omega (arith, most, one, two, three, four)
+          omega (arith, most, length-map ws number_written, length-append (entry_numbers touching) (entry_numbers recent), three, four)
         where
           number_written : CellWrite → ℕ
           number_written w = number_of (at (at_write w)) (at_write w)
@@ -435,18 +408,7 @@ module _ (p : Program) (m : Map) (c : Config) (names : Names) (program : IsProgr
               (λ a b ta tb before same. two_writes a b before (one_spot (at_write a) (at_write b) ta.cell tb.cell (at (at_write a)) (at (at_write b)) refl refl ta.taken tb.taken same)) ws each are.in_order
             where
               two_writes : (a b : CellWrite) → writes_before a b ≡ true → at_write a ≡ at_write b → ⊥
-              two_writes a b before same =
-                  let stage : a.stage ≡ b.stage = ap (λ (s : Spot). s.stage) same in
-                  let place : a.unit ≡ b.unit = ap (λ (s : Spot). s.place) same in
-                  let cell : a.cell ≡ b.cell = ap (λ (s : Spot). s.cell) same in
-                  elim (or_cases (nat_lt a.stage b.stage) ((a.stage == b.stage) && (nat_lt a.unit b.unit || ((a.unit == b.unit) && nat_lt a.cell b.cell))) before) [
-                    | inl lt ↦ (let less = ltb-true a.stage b.stage lt in omega (arith, less, stage))
-                    | inr more ↦
-                        elim (or_cases (nat_lt a.unit b.unit) ((a.unit == b.unit) && nat_lt a.cell b.cell) (and_parts (a.stage == b.stage) (nat_lt a.unit b.unit || ((a.unit == b.unit) && nat_lt a.cell b.cell)) more).1) [
-                          | inl lt ↦ (let less = ltb-true a.unit b.unit lt in omega (arith, less, place))
-                          | inr last ↦ (let less = ltb-true a.cell b.cell (and_parts (a.unit == b.unit) (nat_lt a.cell b.cell) last).1 in omega (arith, less, cell))
-                        ]
-                  ]
+              two_writes a b before same = writes_apart a b before (ap (λ (s : Spot). s.stage) same) (ap (λ (s : Spot). s.place) same) (ap (λ (s : Spot). s.cell) same)
 
     -- ---- where cells move
 
@@ -459,13 +421,6 @@ module _ (p : Program) (m : Map) (c : Config) (names : Names) (program : IsProgr
           let f = fills p m c names r.cells after.lists seed placed limits naming carries.units follows.entries are q there in
           ap (λ (o : Option Terms). (unwrap_or (option_map (λ t. entry_content t q.room.part 3 q.entry) o) (emptied q.room.part.slot)).head) f.named
 
-      none_there : (k place : ℕ) → is_occupied (filled_content c names None k place).head ≡ true → ⊥
-      none_there k place h = by (slot_at c k place) h
-        where
-          by : (o : Option SlotUnit) → is_occupied (unwrap_or (option_map emptied o) no_content).head ≡ true → ⊥
-          by None g = false≢true g
-          by (Some slot) g = false≢true g
-
       filled_tidy : IsTidy c touching moved_cells
       filled_tidy = record {
         full = λ s cell h. full_by s (placed_at placed s.stage s.place s.cell) refl h;
@@ -474,15 +429,15 @@ module _ (p : Program) (m : Map) (c : Config) (names : Names) (program : IsProgr
       }
         where
           full_by : (s : Spot) (o : Option Placed) → placed_at placed s.stage s.place s.cell ≡ o → is_occupied (filled_content c names o s.stage s.place).head ≡ true
-              → (visible_bits (filled_content c names o s.stage s.place).head ≡ 3) ⊎ Contains (numbers touching) (unwrap_or (option_map (λ (q : Placed). q.entry.number) o) 0)
+              → (visible_bits (filled_content c names o s.stage s.place).head ≡ 3) ⊎ Contains (entry_numbers touching) (unwrap_or (option_map (λ (q : Placed). q.entry.number) o) 0)
           full_by s (Some q) e h = let f = placed_spot placed s q e in inl (ap visible_bits (filled_head q f.0 s.stage s.place) ∙ full_bits (q.room.part.first + q.entry.action))
-          full_by s None e h = absurd (none_there s.stage s.place h)
+          full_by s None e h = absurd (not_filled c names s.stage s.place h)
 
           apart_by : (a b : Spot) (oa ob : Option Placed) → placed_at placed a.stage a.place a.cell ≡ oa → placed_at placed b.stage b.place b.cell ≡ ob
               → is_occupied (filled_content c names oa a.stage a.place).head ≡ true → is_occupied (filled_content c names ob b.stage b.place).head ≡ true
               → unwrap_or (option_map (λ (q : Placed). q.entry.number) oa) 0 ≡ unwrap_or (option_map (λ (q : Placed). q.entry.number) ob) 0 → a ≡ b
-          apart_by a b None ob ea eb ha hb same = absurd (none_there a.stage a.place ha)
-          apart_by a b (Some q) None ea eb ha hb same = absurd (none_there b.stage b.place hb)
+          apart_by a b None ob ea eb ha hb same = absurd (not_filled c names a.stage a.place ha)
+          apart_by a b (Some q) None ea eb ha hb same = absurd (not_filled c names b.stage b.place hb)
           apart_by a b (Some q) (Some u) ea eb ha hb same =
               let fa = placed_spot placed a q ea in
               let fb = placed_spot placed b u eb in
@@ -546,10 +501,9 @@ module _ (p : Program) (m : Map) (c : Config) (names : Names) (program : IsProgr
         let is_b = spot_of_part c ob.slot.node b.stage b.place b.cell ob.stage ob.slot ob.part ob.lt in
         let ea = ca.only a is_a ha in
         let eb = cb.only b is_b hb in
-        let na = (ca.holds ea.0 a oa.stage ea.1 is_a ea.2 oa.part.stage_is).number_is in
         let nb = (cb.holds eb.0 b ob.stage eb.1 is_b eb.2 ob.part.stage_is).number_is in
         let one = one_entry p first ea.0 eb.0 entries (listed_in first oa.slot.node (entries_at first oa.slot.node) ea.0 la.0 ea.1) (listed_in first ob.slot.node (entries_at first ob.slot.node) eb.0 lb.0 eb.1)
-        (sym na ∙ same ∙ nb) in
+        (sym ((ca.holds ea.0 a oa.stage ea.1 is_a ea.2 oa.part.stage_is).number_is) ∙ same ∙ nb) in
         let table_a = (All-contains (IsEntry oa.slot.node (terms_of p ta.table)) (entries_at first oa.slot.node) ea.0 (table_entries p first oa.slot.node ta.table (entries_at first oa.slot.node) entries ta.table_is la.0).each ea.1).table in
         let table_b = (All-contains (IsEntry ob.slot.node (terms_of p tb.table)) (entries_at first ob.slot.node) eb.0 (table_entries p first ob.slot.node tb.table (entries_at first ob.slot.node) entries tb.table_is lb.0).each eb.1).table in
         let node : ob.slot.node ≡ oa.slot.node = sym table_b ∙ ap (λ (e : Entry). e.table) (sym one) ∙ table_a in
@@ -598,8 +552,7 @@ module _ (p : Program) (m : Map) (c : Config) (names : Names) (program : IsProgr
         → (behind_commit r changes false seed ws next).cycle ≤ r.cycle + 1 + length (touched r.entries.lists (committed r.entries changes).lists) + length recent
     short recent r changes seed next ws h fit makes are gone =
         let now = reached recent r h in
-        let few = made_few recent r changes now.good fit now.tidy seed next ws makes are in
-        omega (arith, few, gone)
+        omega (arith, made_few recent r changes now.good fit now.tidy seed next ws makes are, gone)
 
 pub commits_short : CommitsAreShort
 commits_short p lists m c names recent r changes seed next ws program entries carries formed limits named h fit makes are gone =

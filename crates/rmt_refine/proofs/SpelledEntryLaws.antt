@@ -67,10 +67,8 @@ module _ (p : Program) (lists : List (List Entry)) (program : IsProgram p) (entr
 
   rank : (k : Kind) → t.kind ≡ k → rank_in k (table_named p n es t) x.mask e.number ≡ e.rank
   rank kind.Keyless keyless =
-      let key = subst (λ (k : Kind). HasKey p k t) keyless table_is.key in
-      let none : length t.actions ≡ 0 = ap length key.actions in
-      let lt = action_lt in
-      absurd (omega (arith, lt, none))
+      let none : length t.actions ≡ 0 = ap length (subst (λ (k : Kind). HasKey p k t) keyless table_is.key).actions in
+      absurd (omega (arith, action_lt, none))
   rank kind.Exact exact = sym (subst (λ (k : Kind). HasRank k (map (width_of p) t.key) e) exact is.rank).1
   rank kind.Prefix prefix = ap (λ o. unwrap_or o 0) (length_is prefix)
   rank kind.Ternary ternary = ap (λ (k : Kind). rank_told (ranks_of k es) e.number) ternary ∙ rank_is_told es i e are.rising at

@@ -48,8 +48,9 @@ use Rattle.rmt_refine.proofs.OutcomeLaws.{list_at}
 use Rattle.rmt_pack.proofs.PartLaws.{and_at, placed_has}
 use Rattle.rmt_refine.proofs.PartLaws.{part_of_spot, some_and, spot_of_part}
 use Rattle.rmt_pack.proofs.RoomLaws.{PartIs, part_at_place, stages_there}
-use Rattle.rmt_pack.proofs.RoomOrderLaws.{Rises, pairs_flat}
-use Rattle.rmt_refine.proofs.RoomOrderLaws.{pairs_with, parts_in_order}
+use Rattle.rmt_pack.proofs.PartOrderLaws.{Rises, parts_in_order}
+use Rattle.rmt_pack.proofs.RoomOrderLaws.{pairs_flat}
+use Rattle.rmt_refine.proofs.RoomOrderLaws.{pairs_with}
 use Rattle.rmt_pack.proofs.SortedLaws.{by_number_is}
 use Rattle.rmt_refine.proofs.SpelledEntryLaws.{entry_spelled}
 use Rattle.rmt_refine.proofs.TheLaw.{its_table, table_entries}
@@ -84,9 +85,8 @@ node_has : (xs : List Placed) (acc : ℕ) (x : Placed) → Contains xs x → nod
 node_has [] acc x there = absurd (let lt = there.1 in omega (arith, lt))
 node_has (y ∷ ys) acc x there = elim (Contains-split y ys x there) [
   | inl same ↦
-      let le = node_lower ys (max acc (node_of y.unit + 1)) in
       let is : node_of y.unit ≡ node_of x.unit = ap (λ (z : Placed). node_of z.unit) same in
-      omega (arith, le, is)
+      omega (arith, node_lower ys (max acc (node_of y.unit + 1)), is)
   | inr later ↦ node_has ys (max acc (node_of y.unit + 1)) x later
 ]
 
@@ -112,8 +112,7 @@ module _ (p : Program) (m : Map) (c : Config) (units : UnitsCarried p m.places m
       let n = some_and (slice_get nodes place) (λ n. UnitCarried p m.places m.placement.parts k n u) there in
       let own = Contains-unfilter (λ i. nat_lt 0 (quanta_in m.placement.parts i k)) (range_with_len 0 (length p.nodes)) n.0 (Contains-item nodes place n.0 n.1) in
       let lt : n.0 < length p.nodes = All-contains (λ i. i < length p.nodes) (range_with_len 0 (length p.nodes)) n.0 (All-between (λ i. i < length p.nodes) 0 (length p.nodes) (λ w le lt. omega (arith, lt))) own.0 in
-      let number = n.2.number in
-      omega (arith, lt, number)
+      omega (arith, lt, n.2.number)
 
   all_below : All (λ (x : Placed). node_of x.unit < length p.nodes) (placed_units c)
   all_below =
@@ -151,10 +150,7 @@ module _ (p : Program) (m : Map) (c : Config) (units : UnitsCarried p m.places m
       by zero e = (let le = upper in omega (arith, le, e))
       by (suc l) e =
           let x = node_placed l (omega (arith, e)) in
-          let lower = node_has (placed_units c) 0 x.0 x.1 in
-          let number = x.2 in
-          let le = upper in
-          omega (arith, le, lower, number, e)
+          omega (arith, upper, node_has (placed_units c) 0 x.0 x.1, x.2, e)
 
 -- ---- the entries of a table
 
@@ -336,11 +332,8 @@ module _ (p : Program) (lists : List (List Entry)) (m : Map) (c : Config) (visib
         by_key : (b : Bool) → has_key t.kind ≡ b → its here ≡ es
         by_key true key = keyed_table node t at (ap (applied p) does ∙ is) key
         by_key false key =
-            let own = its_table p (what.Apply i) t is program.tables in
-            let size = keyless_none t.kind t own.key key in
-            let le = are.within_size in
             none_named node at (ap (named_at p n own_list) does ∙ ap (option_and_then (if_keyed p n own_list)) is ∙ ap (λ b. cond b (Some (table_named p n own_list t)) None) key)
-            (no_entries es (omega (arith, le, size)))
+            (no_entries es (omega (arith, are.within_size, keyless_none t.kind t (its_table p (what.Apply i) t is program.tables).key key)))
 
     by_what : (node : Node) (w : What) → slice_get p.nodes n ≡ Some node → node.what ≡ w → AreEntriesAt n es (terms_at p w) → its here ≡ es
     by_what node (what.Gate field test) at does are = none_named node at (ap (named_at p n own_list) does) are
@@ -365,8 +358,7 @@ module _ (p : Program) (lists : List (List Entry)) (m : Map) (c : Config) (visib
       ap (λ k. map f (range_with_len 0 k)) (nodes_are p m c units ∙ sym long)
       ∙ range_spelled f 0 lists
       (λ i es at.
-      let lt = slice_get_within lists i es at in
-      let node = slice_get-item p.nodes i (omega (arith, lt, long)) in
+      let node = slice_get-item p.nodes i (omega (arith, slice_get_within lists i es at, long)) in
       ap f (let e : 0 + i ≡ i = omega arith in e) ∙ node_spelled i es at node.0 node.1)
 
 -- So where a configuration has the names of a program and its entries, it carries them with its names.

@@ -16,6 +16,7 @@ use Rattle.rmt_ast.specs.EntryLists.{IsPrefix}
 use Rattle.rmt_ast.specs.Naming.{rank_of, ranks_in, stands_first, with_rank}
 use Rattle.rmt_config.specs.NamesForm.{prefix_length, rank_told}
 use Rattle.rmt_config.specs.Rooms.{tests_as_one}
+use Rattle.rmt_pack.proofs.SortedLaws.{IsBelow}
 use Rattle.rmt_refine.specs.Types.{Test}
 
 -- ---- the length of a prefix
@@ -93,21 +94,18 @@ more-other os (e ∷ es) n others =
     more-other (with_rank os (rank_of e)) es n (All-tail (λ (x : Entry). x.number ≡ n → ⊥) e es others)
     ∙ with-other os (rank_of e) n (All-head (λ (x : Entry). x.number ≡ n → ⊥) e es others)
 
-abbrev Rises : Entry → Entry → Type 0
-Rises a b = a.number < b.number
-
-more-own : (os : List RankOf) (es : List Entry) (i : ℕ) (e : Entry) → AllPairs Rises es → slice_get es i ≡ Some e → told os e.number ≡ None
+more-own : (os : List RankOf) (es : List Entry) (i : ℕ) (e : Entry) → AllPairs IsBelow es → slice_get es i ≡ Some e → told os e.number ≡ None
     → told (ranks_with os es) e.number ≡ Some (rank_of e)
 more-own os [] i e rise at none = absurd (none-some e at)
 more-own os (a ∷ es) zero e rise at none =
     let same : a ≡ e = same_Some a e at in
     let later : All (λ (b : Entry). b.number ≡ a.number → ⊥) es =
-    All-weaker (Rises a) (λ (b : Entry). b.number ≡ a.number → ⊥) (λ b less eq. omega (arith, less, eq)) es (AllPairs-head Rises a es rise) in
+    All-weaker (IsBelow a) (λ (b : Entry). b.number ≡ a.number → ⊥) (λ b less eq. omega (arith, less, eq)) es (AllPairs-head IsBelow a es rise) in
     subst (λ (x : Entry). told (ranks_with os (a ∷ es)) x.number ≡ Some (rank_of x)) same
     (more-other (with_rank os (rank_of a)) es a.number later ∙ with-own os (rank_of a) (subst (λ (x : Entry). told os x.number ≡ None) (sym same) none))
 more-own os (a ∷ es) (suc i) e rise at none =
-    let less : a.number < e.number = All-slice_get (Rises a) es i e (AllPairs-head Rises a es rise) at in
-    more-own (with_rank os (rank_of a)) es i e (AllPairs-tail Rises a es rise) at (with-other os (rank_of a) e.number (λ eq. omega (arith, less, eq)) ∙ none)
+    let less : a.number < e.number = All-slice_get (IsBelow a) es i e (AllPairs-head IsBelow a es rise) at in
+    more-own (with_rank os (rank_of a)) es i e (AllPairs-tail IsBelow a es rise) at (with-other os (rank_of a) e.number (λ eq. omega (arith, less, eq)) ∙ none)
 
 -- the ranks of entries of rising numbers tell that of each
 pub rank_is_told : (es : List Entry) (i : ℕ) (e : Entry) → AllPairs (λ (a b : Entry). a.number < b.number) es → slice_get es i ≡ Some e → rank_told (ranks_in es) e.number ≡ e.rank

@@ -3,7 +3,7 @@ use Rattle.std.proofs.Common.{◌≡◌, ℕ, zero, suc, ◌+◌, ◌-◌, ◌/�
 use Rattle.std.specs.Prelude.{IfSome, filter, fold, nat_lt, option_and_then, option_map, slice_get, slice_index, slice_set, unwrap_or, ⊤}
 use Rattle.std.specs.List.{AllZip, range_with_len}
 use Rattle.std.proofs.Math.ListN.{length-set}
-use Rattle.std.proofs.lemmas.Bool.{both_ways, cases_lt, eq-eqb, eqb-true, false_from_ne_true, le-ltb, lt-ltb, ltb-true}
+use Rattle.std.proofs.lemmas.Bool.{both_ways, cases_eq, cases_lt, eq-eqb, eqb-true, false_from_ne_true, lt-ltb, ltb-true}
 use Rattle.std.proofs.lemmas.List.{get_or-set_other, get_or-set_same}
 use Rattle.std.proofs.lemmas.Option.{same_Some, slice_get_within}
 use Rattle.std.proofs.lemmas.List.Elements.{All-weaker, All-contains}
@@ -32,8 +32,8 @@ use Rattle.rmt_refine.specs.Outcomes.{IsSetIn, TableSetIn, hit_outcome, node_out
 use Rattle.rmt_refine.proofs.NodeLaws.{one_place, part_there, stands_in_last, within_last}
 use Rattle.rmt_pack.proofs.PartLaws.{IsPart, and_at}
 use Rattle.rmt_refine.proofs.PartLaws.{look_of_part, quanta_of_node, slot_of_part, some_and, unit_of_part}
-use Rattle.rmt_refine.proofs.RankLaws.{compare}
-use Rattle.std.proofs.Math.Bool.{and-false}
+use Rattle.std.proofs.lemmas.Bool.Decides.{nat_tests}
+use Rattle.std.proofs.Math.Nat.{eq-or-lt_of_le}
 
 -- ---- what one unit does to the outcomes
 
@@ -125,81 +125,48 @@ module _ (p : Program) (places : List (List Lane)) (parts : List Part) (starts :
   -- ---- which outcomes are set
 
   other_set : (k n j : ℕ) → (j ≡ n → ⊥) → is_set k n j ≡ is_set k (n + 1) j
-  other_set k n j ne =
-      let same : nat_lt j n ≡ nat_lt j (n + 1) = elim (compare j n) [
-        | inl lt ↦ lt-ltb j n lt ∙ sym (lt-ltb j (n + 1) (omega (arith, lt)))
-        | inr more ↦ elim more [
-          | inl gt ↦ le-ltb j n (omega (arith, gt)) ∙ sym (le-ltb j (n + 1) (omega (arith, gt)))
-          | inr e ↦ absurd (ne e)
-        ]
-      ] in
-      ap (λ b. nat_lt (set_in j) k || ((set_in j == k) && b)) same
+  other_set k n j ne = grind (arith, nat_tests)
 
   pub own_before : (k n : ℕ) → set_in n < k → (m : ℕ) → is_set k m n ≡ true
-  own_before k n lt m = ap (λ b. b || ((set_in n == k) && nat_lt n m)) (lt-ltb (set_in n) k lt)
+  own_before k n lt m = grind (arith, nat_tests)
 
   pub own_unset : (k n : ℕ) → k ≤ set_in n → is_set k n n ≡ false
-  own_unset k n le =
-      ap (λ b. b || ((set_in n == k) && nat_lt n n)) (le-ltb (set_in n) k le)
-      ∙ ap (λ b. (set_in n == k) && b) (le-ltb n n (omega arith)) ∙ and-false (set_in n == k)
+  own_unset k n le = grind (arith, nat_tests)
 
   own_now : (k n : ℕ) → set_in n ≡ k → is_set k (n + 1) n ≡ true
-  own_now k n e =
-      let here : nat_lt n (n + 1) ≡ true = lt-ltb n (n + 1) (omega arith) in
-      ap (λ b. b || ((set_in n == k) && nat_lt n (n + 1))) (le-ltb (set_in n) k (omega (arith, e)))
-      ∙ ap (λ b. b && nat_lt n (n + 1)) (eq-eqb (set_in n) k e) ∙ here
+  own_now k n e = grind (arith, nat_tests)
 
   own_later : (k n m : ℕ) → k < set_in n → is_set k m n ≡ false
-  own_later k n m lt =
-      ap (λ b. b || ((set_in n == k) && nat_lt n m)) (le-ltb (set_in n) k (omega (arith, lt)))
-      ∙ ap (λ b. b && nat_lt n m) (eqb_false (set_in n) k (λ e. omega (arith, e, lt)))
+  own_later k n m lt = grind (arith, nat_tests)
 
   stays : (k n : ℕ) (now : List ℕ) → AreSet k n now → slice_index now n ≡ cond (is_set k (n + 1) n) (slice_index outcomes n) 0 → AreSet k (n + 1) now
   stays k n now set own = record {
     room = set.room;
     each = λ j lt.
-        elim (compare j n) [
-          | inl less ↦ set.each j lt ∙ ap (λ b. cond b (slice_index outcomes j) 0) (other_set k n j (λ e. omega (arith, less, e)))
-          | inr rest ↦ elim rest [
-            | inl more ↦ set.each j lt ∙ ap (λ b. cond b (slice_index outcomes j) 0) (other_set k n j (λ e. omega (arith, more, e)))
-            | inr e ↦ subst (λ i. slice_index now i ≡ cond (is_set k (n + 1) i) (slice_index outcomes i) 0) (sym e) own
-          ]
+        elim (cases_eq j n) [
+          | inl e ↦ subst (λ i. slice_index now i ≡ cond (is_set k (n + 1) i) (slice_index outcomes i) 0) (sym e) own
+          | inr ne ↦ set.each j lt ∙ ap (λ b. cond b (slice_index outcomes j) 0) (other_set k n j ne)
         ];
   }
 
   sets_own : (k n : ℕ) (now : List ℕ) → n < length p.nodes → AreSet k n now → set_in n ≡ k → AreSet k (n + 1) (slice_set now n (slice_index outcomes n))
   sets_own k n now within set e =
       let x = slice_index outcomes n in
-      let room = set.room in
-      let others : (j : ℕ) → j < length p.nodes → (j ≡ n → ⊥) → slice_index (slice_set now n x) j ≡ cond (is_set k (n + 1) j) (slice_index outcomes j) 0 =
-      λ j lt ne. get_or-set_other now n j x 0 ne ∙ set.each j lt ∙ ap (λ b. cond b (slice_index outcomes j) 0) (other_set k n j ne) in
       record {
         room = subst (λ m. length p.nodes ≤ m) (sym (length-set now n x)) set.room;
         each = λ j lt.
-            elim (compare j n) [
-              | inl less ↦ others j lt (λ same. omega (arith, less, same))
-              | inr rest ↦ elim rest [
-                | inl more ↦ others j lt (λ same. omega (arith, more, same))
-                | inr same ↦
-                    subst (λ i. slice_index (slice_set now n x) i ≡ cond (is_set k (n + 1) i) (slice_index outcomes i) 0) (sym same)
-                    (get_or-set_same now n x 0 (omega (arith, within, room)) ∙ ap (λ b. cond b x 0) (sym (own_now k n e)))
-              ]
+            elim (cases_eq j n) [
+              | inl same ↦
+                  subst (λ i. slice_index (slice_set now n x) i ≡ cond (is_set k (n + 1) i) (slice_index outcomes i) 0) (sym same)
+                  (get_or-set_same now n x 0 (omega (arith, within, set.room)) ∙ ap (λ b. cond b x 0) (sym (own_now k n e)))
+              | inr ne ↦ get_or-set_other now n j x 0 ne ∙ set.each j lt ∙ ap (λ b. cond b (slice_index outcomes j) 0) (other_set k n j ne)
             ];
       }
 
   -- ---- one unit
 
   parent_set : (k n q : ℕ) → q < n → set_in q ≤ k → is_set k n q ≡ true
-  parent_set k n q less le =
-      elim (compare (set_in q) k) [
-        | inl lt ↦ own_before k q lt n
-        | inr more ↦ elim more [
-          | inl gt ↦ absurd (omega (arith, gt, le))
-          | inr e ↦
-              ap (λ b. b || ((set_in q == k) && nat_lt q n)) (le-ltb (set_in q) k (omega (arith, e)))
-              ∙ ap (λ b. b && nat_lt q n) (eq-eqb (set_in q) k e) ∙ lt-ltb q n less
-        ]
-      ]
+  parent_set k n q less le = grind (arith, nat_tests)
 
   either_same : (b : Bool) (x : ℕ) → cond b x x ≡ x
   either_same true x = refl
@@ -222,8 +189,7 @@ module _ (p : Program) (places : List (List Lane)) (parts : List Part) (starts :
       ∙ same_guard node.guard now outcomes (λ g is.
       let parent = run.parents n node g at.node_is is in
       let less = parent.0 in
-      let within = at.within in
-      let value = set.each g.parent (omega (arith, less, within)) in
+      let value = set.each g.parent (omega (arith, less, at.within)) in
       elim (parent.1 k (quanta_of_node p parts k place n at.number)) [
         | inl none ↦ value ∙ ap (λ o. cond (is_set k n g.parent) o 0) none ∙ either_same (is_set k n g.parent) 0 ∙ sym none
         | inr le ↦ value ∙ ap (λ b. cond b (slice_index outcomes g.parent) 0) (parent_set k n g.parent less le)
@@ -248,13 +214,9 @@ module _ (p : Program) (places : List (List Lane)) (parts : List Part) (starts :
       let does = subst (λ x. DoesAs p places parts k n x (Gate g)) is
       (and_at (slice_get p.nodes n) (λ (x : Node). DoesAs p places parts k n x.what (Gate g)) node at.node_is at.carried.does) in
       let sets = subst (λ x. IsSetIn p parts c v (entries n) (state n) n x (set_in n)) is (run.sets n node at.node_is goes) in
-      let stands = quanta_of_node p parts k place n at.number in
-      let same : set_in n ≡ k = elim (compare k (set_in n)) [
-        | inl lt ↦ absurd (let none = sets.1 k lt in omega (arith, none, stands))
-        | inr more ↦ elim more [
-          | inl gt ↦ absurd (omega (arith, gt, le))
-          | inr e ↦ sym e
-        ]
+      let same : set_in n ≡ k = elim (eq-or-lt_of_le le) [
+        | inl e ↦ sym e
+        | inr lt ↦ absurd (let none = sets.1 k lt in omega (arith, none, quanta_of_node p parts k place n at.number))
       ] in
       let value : cond (gate_passes words g.tests) 2 1 ≡ slice_index outcomes n =
       ap (λ ts. cond (gate_passes words ts) 2 1) does ∙ ap (λ b. cond b 2 1) reads
@@ -275,21 +237,17 @@ module _ (p : Program) (places : List (List Lane)) (parts : List Part) (starts :
       ∙ ap (λ m. slice_set a.outcomes m 1) number ∙ ap (slice_set a.outcomes n) (sym now.2) in
       subst (AreSet k (n + 1)) (sym done) (sets_own k n a.outcomes within set now.0)
   slot_miss k n stage s words a within number last set le acts none (inr later) =
-      let lt = later.1 in
       let done : (unit_acts (look_in c v) k stage words a (Slot s)).outcomes ≡ a.outcomes =
-      slot_on c v k stage words a s None acts none ∙ miss_more stage (first_code stage a.place) s a (last ∙ eqb_false k (last_stage parts n) (λ e. omega (arith, e, lt))) in
+      slot_on c v k stage words a s None acts none ∙ miss_more stage (first_code stage a.place) s a (last ∙ eqb_false k (last_stage parts n) (λ e. omega (arith, e, later.1))) in
       subst (AreSet k (n + 1)) (sym done)
       (stays k n a.outcomes set
       (set.each n within ∙ ap (λ b. cond b (slice_index outcomes n) 0) (own_unset k n le ∙ sym (own_later k n (n + 1) later.0))))
 
   -- a miss is told here, or by a later part
   pub miss_here : (k n : ℕ) → k ≤ set_in n → set_in n ≡ last_stage parts n → ((set_in n ≡ k) × (k ≡ last_stage parts n)) ⊎ ((k < set_in n) × (k < last_stage parts n))
-  miss_here k n le sets = elim (compare k (set_in n)) [
-    | inl lt ↦ inr (lt, subst (λ m. k < m) sets lt)
-    | inr more ↦ elim more [
-      | inl gt ↦ absurd (omega (arith, gt, le))
-      | inr e ↦ inl (sym e, e ∙ sets)
-    ]
+  miss_here k n le sets = elim (eq-or-lt_of_le le) [
+    | inl e ↦ inl (sym e, e ∙ sets)
+    | inr lt ↦ inr (lt, subst (λ m. k < m) sets lt)
   ]
 
   -- the slot that stands there is a part of its node
@@ -313,25 +271,21 @@ module _ (p : Program) (places : List (List Lane)) (parts : List Part) (starts :
       let f_part : IsPart c n f.k f.place f.stage f.slot = record { stage_is = f.stage_is; slot_is = f.slot_is; node_is = f.node_is } in
       let f_at = unit_of_part p places parts starts c n f.k f.place f.stage f.slot run.units f_part in
       let f_last = within_last parts n f.k (quanta_of_node p parts f.k f.place n f_at.0) in
-      elim (compare k (set_in n)) [
-        | inl lt ↦
+      elim (eq-or-lt_of_le le) [
+        | inl same ↦
+            let k_is : f.k ≡ k = set_there ∙ sym same in
+            let place_is : f.place ≡ place = one_place p parts k n f.place place (subst (λ j. slice_get (nodes_in p parts j) f.place ≡ Some n) k_is f_at.0) at.number in
+            let stage_is : f.stage ≡ stage = same_Some f.stage stage (sym f.stage_is ∙ ap (slice_get c.stages) k_is ∙ at.stage_is) in
+            inl (
+              sym same,
+              record {
+                found = f.found;
+                seen = ap (λ j. look_in c v j place key) (sym k_is) ∙ ap (λ i. look_in c v f.k i key) (sym place_is) ∙ f.looks;
+                is_entry = subst (λ first. IsEntryFound p t first e f.found) (ap (λ (x : Stage). first_code x f.place) stage_is ∙ ap (first_code stage) place_is) f.is_entry;
+              },
+            )
+        | inr lt ↦
             inr (lt, omega (arith, lt, set_there, f_last), f.none_before k place s (omega (arith, lt, set_there)) (slot_of_part c n k place stage s part) at.carried.number)
-        | inr more ↦ elim more [
-          | inl gt ↦ absurd (omega (arith, gt, le))
-          | inr same ↦
-              let k_is : f.k ≡ k = set_there ∙ sym same in
-              let place_is : f.place ≡ place = one_place p parts k n f.place place (subst (λ j. slice_get (nodes_in p parts j) f.place ≡ Some n) k_is f_at.0) at.number in
-              let stage_is : f.stage ≡ stage = same_Some f.stage stage (sym f.stage_is ∙ ap (slice_get c.stages) k_is ∙ at.stage_is) in
-              inl (
-                sym same,
-                record {
-                  found = f.found;
-                  seen = ap (λ j. look_in c v j place key) (sym k_is) ∙ ap (λ i. look_in c v f.k i key) (sym place_is) ∙ f.looks;
-                  is_entry =
-                      subst (λ first. IsEntryFound p t first e f.found) (ap (λ (x : Stage). first_code x f.place) stage_is ∙ ap (first_code stage) place_is) f.is_entry;
-                },
-              )
-        ]
       ]
 
   by_found : (k n place : ℕ) (stage : Stage) (s : SlotUnit) (node : Node) (words : Words) (a : Acts) (t : Table) (o : Option Entry) → IsRun → IsAt k n place stage (Slot s) node
@@ -347,9 +301,8 @@ module _ (p : Program) (places : List (List Lane)) (parts : List Part) (starts :
       elim (hit_here k n place stage s node t e (joined p t.key (state n)) run at le sets) [
         | inl now ↦
             let x = now.1 in
-            let code = x.is_entry.code in
             let first : first_code stage a.place ≡ first_code stage place = ap (first_code stage) here in
-            let action : 2 + (x.found.code - first_code stage a.place) ≡ 2 + e.action = omega (arith, code, first) in
+            let action : 2 + (x.found.code - first_code stage a.place) ≡ 2 + e.action = omega (arith, x.is_entry.code, first) in
             let done : (unit_acts (look_in c v) k stage words a (Slot s)).outcomes ≡ slice_set a.outcomes n (slice_index outcomes n) =
             slot_on c v k stage words a s (Some x.found) acts (looks_there ∙ x.seen)
             ∙ ap (λ m. slice_set a.outcomes m (2 + (x.found.code - first_code stage a.place))) at.carried.number
@@ -423,59 +376,59 @@ module _ (p : Program) (places : List (List Lane)) (parts : List Part) (starts :
   some_outcome n k (what.Gate field test) sets e =
       test_outcome (passes test (slice_index (state n) field)) (node_outcome p (entries n) (state n) (what.Gate field test)) refl e
 
+  -- a node that doesn't run has no outcome
+  no_outcome : (n : ℕ) (node : Node) → IsRun → slice_get p.nodes n ≡ Some node → runs node.guard outcomes ≡ false → slice_index outcomes n ≡ 0
+  no_outcome n node run is_node off = run.given n node is_node ∙ ap (λ b. cond b (node_outcome p (entries n) (state n) node.what) 0) off
+
+  none_before : (k n : ℕ) → slice_index outcomes n ≡ 0 → cond (is_set k n n) (slice_index outcomes n) 0 ≡ cond (is_set k (n + 1) n) (slice_index outcomes n) 0
+  none_before k n none =
+      ap (λ x. cond (is_set k n n) x 0) none ∙ either_same (is_set k n n) 0 ∙ sym (ap (λ x. cond (is_set k (n + 1) n) x 0) none ∙ either_same (is_set k (n + 1) n) 0)
+
+  -- a unit stops where its node doesn't run or has its outcome, and else it acts
+  pub record Stops (k n : ℕ) (u : Unit) (node : Node) (now : List ℕ) : Type 0 where
+    pub stopped : chip_runs (node_of u) (guard_in u) now ≡ false
+    pub why : (runs node.guard outcomes ≡ false) ⊎ (set_in n < k)
+
+  pub record Starts (k n : ℕ) (u : Unit) (node : Node) (now : List ℕ) : Type 0 where
+    pub goes : runs node.guard outcomes ≡ true
+    pub later : k ≤ set_in n
+    pub acts : chip_runs (node_of u) (guard_in u) now ≡ true
+
+  pub unit_turn : (k n place : ℕ) (stage : Stage) (u : Unit) (node : Node) (now : List ℕ) → IsRun → IsAt k n place stage u node → AreSet k n now → Stops k n u node now ⊎ Starts k n u node now
+  unit_turn k n place stage u node now run at set = by_run (runs node.guard outcomes) refl
+    where
+      tested : (r : Bool) (x : ℕ) → runs node.guard outcomes ≡ r → slice_index now n ≡ x → chip_runs (node_of u) (guard_in u) now ≡ (r && (x == 0))
+      tested r x is e =
+          ap (λ b. b && (slice_index now (node_of u) == 0)) (guard_right k n place stage u node now run at set ∙ is)
+          ∙ ap (λ m. r && (slice_index now m == 0)) at.carried.number ∙ ap (λ y. r && (y == 0)) e
+
+      by_run : (r : Bool) → runs node.guard outcomes ≡ r → Stops k n u node now ⊎ Starts k n u node now
+      by_run false off = inl (record { stopped = tested false (slice_index now n) off refl; why = inl off })
+      by_run true goes = elim (cases_lt (set_in n) k) [
+        | inl lt ↦
+            let value = set.each n at.within ∙ ap (λ b. cond b (slice_index outcomes n) 0) (own_before k n lt n) in
+            let some : (slice_index outcomes n ≡ 0) → ⊥ = λ e. some_outcome n (set_in n) node.what (run.sets n node at.node_is goes) (sym (run_outcome n node run at.node_is goes) ∙ e) in
+            inl (record { stopped = tested true (slice_index outcomes n) goes value ∙ eqb_false (slice_index outcomes n) 0 some; why = inr lt })
+        | inr le ↦ inr (record { goes = goes; later = le; acts = tested true 0 goes (set.each n at.within ∙ ap (λ b. cond b (slice_index outcomes n) 0) (own_unset k n le)) })
+      ]
+
+  acting : (k n place : ℕ) (stage : Stage) (u : Unit) (node : Node) (words : Words) (a : Acts) → IsRun → IsAt k n place stage u node → a.place ≡ place → AreSet k n a.outcomes
+      → Starts k n u node a.outcomes → ReadsAs words n node.what → AreSet k (n + 1) (unit_acts (look_in c v) k stage words a u).outcomes
+  acting k n place stage (Gate g) node words a run at here set on reads = gate_law k n place stage g node words a node.what run at refl set on.later on.goes on.acts reads
+  acting k n place stage (Slot s) node words a run at here set on reads = slot_law k n place stage s node words a node.what run at refl here set on.later on.goes on.acts reads
+
   -- a unit of stage k: after it the outcome of its node is set too, where that is set in this stage
   pub unit_law : (k n place : ℕ) (stage : Stage) (u : Unit) (node : Node) (words : Words) (a : Acts) → IsRun → IsAt k n place stage u node
       → a.place ≡ place → AreSet k n a.outcomes → (runs node.guard outcomes ≡ true → k ≤ set_in n → ReadsAs words n node.what)
       → AreSet k (n + 1) (unit_acts (look_in c v) k stage words a u).outcomes
-  unit_law k n place stage u node words a run at here set reads = by_run (runs node.guard outcomes) refl
+  unit_law k n place stage u node words a run at here set reads = elim (unit_turn k n place stage u node a.outcomes run at set) [
+    | inl off ↦ subst (AreSet k (n + 1)) (sym (unit_off k stage words a u off.stopped)) (stays k n a.outcomes set (set.each n at.within ∙ same off.why))
+    | inr on ↦ acting k n place stage u node words a run at here set on (reads on.goes on.later)
+  ]
     where
-      own : slice_index a.outcomes n ≡ cond (is_set k n n) (slice_index outcomes n) 0
-      own = set.each n at.within
-
-      guard : guarded (guard_in u) a.outcomes ≡ runs node.guard outcomes
-      guard = guard_right k n place stage u node a.outcomes run at set
-
-      unset_too : (m : ℕ) → m ≡ n → slice_index a.outcomes m ≡ slice_index a.outcomes n
-      unset_too m e = ap (slice_index a.outcomes) e
-
-      acting : (u' : Unit) → u ≡ u' → runs node.guard outcomes ≡ true → k ≤ set_in n → chip_runs (node_of u) (guard_in u) a.outcomes ≡ true → AreSet k (n + 1) (unit_acts (look_in c v) k stage words a u).outcomes
-      acting (Gate g) e goes le acts =
-          let P : Unit → Type 0 = λ x. IsAt k n place stage x node in
-          let Q : Unit → Type 0 = λ x. AreSet k (n + 1) (unit_acts (look_in c v) k stage words a x).outcomes in
-          subst Q (sym e) (gate_law k n place stage g node words a node.what run (subst P e at) refl set le goes
-          (subst (λ x. chip_runs (node_of x) (guard_in x) a.outcomes ≡ true) e acts) (reads goes le))
-      acting (Slot s) e goes le acts =
-          let P : Unit → Type 0 = λ x. IsAt k n place stage x node in
-          let Q : Unit → Type 0 = λ x. AreSet k (n + 1) (unit_acts (look_in c v) k stage words a x).outcomes in
-          subst Q (sym e) (slot_law k n place stage s node words a node.what run (subst P e at) refl here set le goes
-          (subst (λ x. chip_runs (node_of x) (guard_in x) a.outcomes ≡ true) e acts) (reads goes le))
-
-      by_run : (r : Bool) → runs node.guard outcomes ≡ r → AreSet k (n + 1) (unit_acts (look_in c v) k stage words a u).outcomes
-      by_run false off =
-          let stopped : chip_runs (node_of u) (guard_in u) a.outcomes ≡ false = ap (λ b. b && (slice_index a.outcomes (node_of u) == 0)) (guard ∙ off) in
-          let none : slice_index outcomes n ≡ 0 = run.given n node at.node_is ∙ ap (λ b. cond b (node_outcome p (entries n) (state n) node.what) 0) off in
-          let value : slice_index a.outcomes n ≡ cond (is_set k (n + 1) n) (slice_index outcomes n) 0 =
-          own ∙ ap (λ x. cond (is_set k n n) x 0) none ∙ either_same (is_set k n n) 0
-          ∙ sym (ap (λ x. cond (is_set k (n + 1) n) x 0) none ∙ either_same (is_set k (n + 1) n) 0) in
-          subst (AreSet k (n + 1)) (sym (unit_off k stage words a u stopped)) (stays k n a.outcomes set value)
-      by_run true goes =
-          elim (cases_lt (set_in n) k) [
-            | inl lt ↦
-                let value : slice_index a.outcomes n ≡ slice_index outcomes n = own ∙ ap (λ b. cond b (slice_index outcomes n) 0) (own_before k n lt n) in
-                let some : (slice_index outcomes n ≡ 0) → ⊥ =
-                λ e. some_outcome n (set_in n) node.what (run.sets n node at.node_is goes) (sym (run_outcome n node run at.node_is goes) ∙ e) in
-                let stopped : chip_runs (node_of u) (guard_in u) a.outcomes ≡ false =
-                ap (λ b. b && (slice_index a.outcomes (node_of u) == 0)) (guard ∙ goes)
-                ∙ ap (λ x. x == 0) (unset_too (node_of u) at.carried.number ∙ value) ∙ eqb_false (slice_index outcomes n) 0 some in
-                subst (AreSet k (n + 1)) (sym (unit_off k stage words a u stopped))
-                (stays k n a.outcomes set (value ∙ sym (ap (λ b. cond b (slice_index outcomes n) 0) (own_before k n lt (n + 1)))))
-            | inr le ↦
-                let value : slice_index a.outcomes n ≡ 0 = own ∙ ap (λ b. cond b (slice_index outcomes n) 0) (own_unset k n le) in
-                let acts : chip_runs (node_of u) (guard_in u) a.outcomes ≡ true =
-                ap (λ b. b && (slice_index a.outcomes (node_of u) == 0)) (guard ∙ goes)
-                ∙ ap (λ x. x == 0) (unset_too (node_of u) at.carried.number ∙ value) in
-                acting u refl goes le acts
-          ]
+      same : (runs node.guard outcomes ≡ false) ⊎ (set_in n < k) → cond (is_set k n n) (slice_index outcomes n) 0 ≡ cond (is_set k (n + 1) n) (slice_index outcomes n) 0
+      same (inl off) = none_before k n (no_outcome n node run at.node_is off)
+      same (inr lt) = ap (λ b. cond b (slice_index outcomes n) 0) (own_before k n lt n ∙ sym (own_before k n lt (n + 1)))
 
   -- ---- all units of a stage
 
@@ -502,10 +455,7 @@ module _ (p : Program) (places : List (List Lane)) (parts : List Part) (starts :
   not_there k n node now run is_node within off set = stays k n now set (set.each n within ∙ by_run (runs node.guard outcomes) refl)
     where
       by_run : (r : Bool) → runs node.guard outcomes ≡ r → cond (is_set k n n) (slice_index outcomes n) 0 ≡ cond (is_set k (n + 1) n) (slice_index outcomes n) 0
-      by_run false e =
-          let none : slice_index outcomes n ≡ 0 = run.given n node is_node ∙ ap (λ b. cond b (node_outcome p (entries n) (state n) node.what) 0) e in
-          ap (λ x. cond (is_set k n n) x 0) none ∙ either_same (is_set k n n) 0
-          ∙ sym (ap (λ x. cond (is_set k (n + 1) n) x 0) none ∙ either_same (is_set k (n + 1) n) 0)
+      by_run false e = none_before k n (no_outcome n node run is_node e)
       by_run true e =
           let other : (set_in n == k) ≡ false = eqb_false (set_in n) k (λ same.
           both_ways (nat_lt 0 (quanta_in parts n k)) off
@@ -575,17 +525,7 @@ module _ (p : Program) (places : List (List Lane)) (parts : List Part) (starts :
   }
     where
       same : (n : ℕ) → n < length p.nodes → is_set k (length p.nodes) n ≡ is_set (k + 1) 0 n
-      same n lt =
-          elim (compare (set_in n) k) [
-            | inl less ↦ own_before k n less (length p.nodes) ∙ sym (own_before (k + 1) n (omega (arith, less)) 0)
-            | inr more ↦ elim more [
-              | inl gt ↦
-                  own_later k n (length p.nodes) gt
-                  ∙ sym (ap (λ b. b || ((set_in n == k + 1) && nat_lt n 0)) (le-ltb (set_in n) (k + 1) (omega (arith, gt)))
-                  ∙ ap (λ b. (set_in n == k + 1) && b) (le-ltb n 0 (omega arith)) ∙ and-false (set_in n == k + 1))
-              | inr e ↦ parent_set k (length p.nodes) n lt (omega (arith, e)) ∙ sym (own_before (k + 1) n (omega (arith, e)) 0)
-            ]
-          ]
+      same n lt = grind (arith, nat_tests)
 
   -- After a stage the outcomes that are set in it are there too.
   pub stage_law : (k : ℕ) (stage : Stage) (words : Words) (now : List ℕ) → IsRun → slice_get c.stages k ≡ Some stage → StageReads k words → AreSet k 0 now
@@ -614,7 +554,7 @@ module _ (p : Program) (places : List (List Lane)) (parts : List Part) (starts :
 
       by_run : (r : Bool) → runs node.0.guard outcomes ≡ r → cond (is_set (length c.stages) 0 n) (slice_index outcomes n) 0 ≡ slice_index outcomes n
       by_run false e =
-          let none : slice_index outcomes n ≡ 0 = run.given n node.0 node.1 ∙ ap (λ b. cond b (node_outcome p (entries n) (state n) node.0.what) 0) e in
+          let none = no_outcome n node.0 run node.1 e in
           ap (λ x. cond (is_set (length c.stages) 0 n) x 0) none ∙ either_same (is_set (length c.stages) 0 n) 0 ∙ sym none
       by_run true e =
           let stands = stands_where_set n (set_in n) node.0.what run.units within (run.sets n node.0 node.1 e) in
@@ -631,6 +571,4 @@ module _ (p : Program) (places : List (List Lane)) (parts : List Part) (starts :
   }
     where
       unset : (n : ℕ) → is_set 0 0 n ≡ false
-      unset n =
-          ap (λ b. b || ((set_in n == 0) && nat_lt n 0)) (le-ltb (set_in n) 0 (omega arith))
-          ∙ ap (λ b. (set_in n == 0) && b) (le-ltb n 0 (omega arith)) ∙ and-false (set_in n == 0)
+      unset n = grind (arith, nat_tests)

@@ -1,10 +1,11 @@
 -- Entries in rooms: where each entry has a room of its own in which a view shows it, and the view shows nothing else, the cells hold the entries.
-use Rattle.std.proofs.Common.{◌≡◌, ◌≢◌, ℕ, ◌+◌, ◌*◌, ◌<◌, ◌≤◌, ◌==◌, Bool, true, false, not, ◌&&◌, ◌||◌, cond, List, [], map, length, Some, Contains, refl, sym, ap, subst, ◌∙◌, inl, inr, arith}
-use Rattle.std.specs.Prelude.{AllPairs, IsSomeAnd, nat_lt, slice_get, slice_index, slice_index_or, sum_by}
-use Rattle.std.proofs.lemmas.Bool.{and_from, and_parts, eq-eqb, eqb-true, false≢true, lt-ltb, ltb-true, or_cases, or_left, or_right}
+use Rattle.std.proofs.Common.{◌≡◌, ◌≢◌, ℕ, ◌+◌, ◌*◌, ◌<◌, ◌≤◌, Bool, true, false, cond, List, [], map, length, Some, Contains, refl, sym, ap, subst, ◌∙◌, inl, inr, arith, Option, None}
+use Rattle.std.specs.Prelude.{AllPairs, IsSomeAnd, slice_get, slice_index, slice_index_or, sum_by}
+use Rattle.std.proofs.lemmas.Bool.{false≢true}
 use Rattle.std.proofs.lemmas.List.Elements.{All-contains, All-contains_itself, All-map, All-weaker}
 use Rattle.std.proofs.lemmas.List.Sums.{sum_by-take-le}
 use Rattle.std.proofs.lemmas.Option.{get_or_from_slice_get, same_Some}
+use Rattle.std.proofs.lemmas.Bool.Decides.{nat_tests}
 use Rattle.rmt_bits.proofs.AllLaws.{All-find}
 use Rattle.rmt_bits.proofs.ListLaws.{find-passes}
 use Rattle.rmt_bits.proofs.MemberLaws.{Contains-map, Contains-unmap}
@@ -31,7 +32,6 @@ use Rattle.rmt_pack.proofs.PartLaws.{and_at, and_from as some_from, slot_is_unit
 use Rattle.rmt_refine.proofs.PartLaws.{candidates_within, kind_of_part, part_of_spot, slot_of_part, spot_of_part, unit_of_part}
 use Rattle.rmt_refine.proofs.EntryLaws.{IsListed, action_is, listed_in, one_entry, two_items}
 use Rattle.rmt_bits.specs.declared.lane.Lane.{Lane}
-use Rattle.rmt_ast.specs.declared.program.What.TheVariants as what
 use Rattle.rmt_config.specs.declared.config.Unit.TheVariants.{Slot}
 use Rattle.rmt_config.specs.Effects.{HasArguments}
 use Rattle.rmt_config.proofs.LimitLaws.{limits_kept}
@@ -42,35 +42,21 @@ use Rattle.rmt_pack.proofs.RankLaws.{goes_never}
 use Rattle.rmt_pack.proofs.RoomLaws.{RoomIs, at_is}
 use Rattle.rmt_pack.proofs.ContentLaws.{has_arguments}
 use Rattle.rmt_bits.proofs.FindLaws.{find-some}
+use Rattle.rmt_ast.specs.declared.program.What.TheVariants as what
 
 -- ---- general
-
--- what is so if a test is
-pub then_so : (x y : Bool) → (not x || y) ≡ true → x ≡ true → y ≡ true
-then_so true y h e = h
-then_so false y h e = absurd (false≢true e)
 
 abbrev pub spot : Placed → Spot
 spot q = record { stage = q.room.part.stage; place = q.room.part.place; cell = q.room.cell }
 
 pub before_from : (a b : Placed) → IsBefore (spot a) (spot b) → is_before a.room b.room ≡ true
-before_from a b (inl lt) = or_left (nat_lt a.room.part.stage b.room.part.stage) ((a.room.part.stage == b.room.part.stage) && nat_lt a.room.cell b.room.cell) (lt-ltb a.room.part.stage b.room.part.stage lt)
-before_from a b (inr e) =
-    or_right (nat_lt a.room.part.stage b.room.part.stage) ((a.room.part.stage == b.room.part.stage) && nat_lt a.room.cell b.room.cell)
-    (and_from (a.room.part.stage == b.room.part.stage) (nat_lt a.room.cell b.room.cell) (eq-eqb a.room.part.stage b.room.part.stage e.0) (lt-ltb a.room.cell b.room.cell e.1))
+before_from a b is = grind (arith, nat_tests, is)
 
 pub before_to : (a b : Placed) → is_before a.room b.room ≡ true → IsBefore (spot a) (spot b)
-before_to a b h = elim (or_cases (nat_lt a.room.part.stage b.room.part.stage) ((a.room.part.stage == b.room.part.stage) && nat_lt a.room.cell b.room.cell) h) [
-  | inl lt ↦ inl (ltb-true a.room.part.stage b.room.part.stage lt)
-  | inr more ↦
-      let parts = and_parts (a.room.part.stage == b.room.part.stage) (nat_lt a.room.cell b.room.cell) more in
-      inr (eqb-true a.room.part.stage b.room.part.stage parts.0, ltb-true a.room.cell b.room.cell parts.1)
-]
+before_to a b h = grind (arith, nat_tests, h)
 
 pub at_from : (k place n : ℕ) (r : Room) → r.part.stage ≡ k → r.part.place ≡ place → r.cell ≡ n → is_at k place n r ≡ true
-at_from k place n r a b d =
-    and_from ((r.part.stage == k) && (r.part.place == place)) (r.cell == n)
-    (and_from (r.part.stage == k) (r.part.place == place) (eq-eqb r.part.stage k a) (eq-eqb r.part.place place b)) (eq-eqb r.cell n d)
+at_from k place n r a b d = grind (arith, nat_tests, a, b, d)
 
 actions_done : (p : Program) (places : List (List Lane)) (parts : List Part) (k n : ℕ) (w : What) (t : Table) (slot : SlotUnit)
     → applied p w ≡ Some t → DoesAs p places parts k n w (Slot slot) → slot.actions ≡ length t.actions
@@ -103,6 +89,15 @@ seen_from v x h = by (sees true v x.head) refl
     by true e = e
     by false e = absurd (shown_unseen v x e h)
 
+-- where a cell without a placed entry isn't seen, one that is seen has one
+pub seen_placed : (v : ℕ) (placed : List Placed) (k place n : ℕ) (content : Option Placed → Content) → sees true v (content None).head ≡ false
+    → is_seen (shown v (content (placed_at placed k place n))).head ≡ true → (q : Placed) × (placed_at placed k place n ≡ Some q)
+seen_placed v placed k place n content none seen = by (placed_at placed k place n) refl seen
+  where
+    by : (o : Option Placed) → placed_at placed k place n ≡ o → is_seen (shown v (content o)).head ≡ true → (q : Placed) × (placed_at placed k place n ≡ Some q)
+    by None e h = absurd (shown_unseen v (content None) none h)
+    by (Some q) e h = (q, e)
+
 -- the placed entry at a cell has its room there
 pub placed_spot : (placed : List Placed) (at : Spot) (q : Placed) → placed_at placed at.stage at.place at.cell ≡ Some q → Contains placed q × (spot q ≡ at)
 placed_spot placed at q e =
@@ -115,10 +110,8 @@ pub same_placed : (placed : List Placed) → AllPairs (λ (a b : Placed). a.entr
     → a ≡ b
 same_placed placed differ a b in_a in_b same = elim (two_items (λ (x y : Placed). x.entry.number ≢ y.entry.number) placed a b differ in_a in_b) [
   | inl apart ↦ absurd (apart same)
-  | inr more ↦ elim more [
-    | inl apart ↦ absurd (apart (sym same))
-    | inr is ↦ is
-  ]
+  | inr (inl apart) ↦ absurd (apart (sym same))
+  | inr (inr is) ↦ is
 ]
 
 -- a spot of a node is a cell
@@ -230,12 +223,10 @@ module _ (p : Program) (m : Map) (c : Config) (v : View) (lists : List (List Ent
     same_room : (a b : Placed) → Contains placed a → Contains placed b → is_same a.room b.room ≡ true → a ≡ b
     same_room a b in_a in_b same = elim (two_items (Apart p c v lists) placed a b apart in_a in_b) [
       | inl apart ↦ absurd (false≢true (sym apart.rooms ∙ same))
-      | inr more ↦ elim more [
-        | inl apart ↦
-            let at = at_is a.room.part.stage a.room.part.place a.room.cell b.room same in
-            absurd (false≢true (sym apart.rooms ∙ at_from b.room.part.stage b.room.part.place b.room.cell a.room (sym at.0) (sym at.1) (sym at.2)))
-        | inr is ↦ is
-      ]
+      | inr (inl apart) ↦
+          let at = at_is a.room.part.stage a.room.part.place a.room.cell b.room same in
+          absurd (false≢true (sym apart.rooms ∙ at_from b.room.part.stage b.room.part.place b.room.cell a.room (sym at.0) (sym at.1) (sym at.2)))
+      | inr (inr is) ↦ is
     ]
 
     pub placed_there : (q : Placed) → Contains placed q → placed_at placed q.room.part.stage q.room.part.place q.room.cell ≡ Some q
@@ -351,20 +342,18 @@ module _ (p : Program) (m : Map) (c : Config) (v : View) (lists : List (List Ent
         table_holds e at stage r stage_is =
             let q = r.placed_one in
             let s = its q r.there in
-            let table = its_table q s r.table in
             let stages : s.room.part.stage ≡ stage =
             same_Some s.room.part.stage stage (sym s.room.part.part.stage_is ∙ ap (λ (x : Spot). slice_get c.stages x.stage) r.spot_is ∙ stage_is) in
             subst (λ (x : Table × Stage × Entry × Spot).
             HoldsEntry p x.0 (widths p c v lists x.0) (first_code x.1 x.3.place) x.2 (v.number x.3.stage x.3.place x.3.cell) (v.content x.3.stage x.3.place x.3.cell))
-            (λ i. (table i, stages i, r.entry i, r.spot_is i)) (holds q r.there)
+            (λ i. ((its_table q s r.table) i, stages i, r.entry i, r.spot_is i)) (holds q r.there)
 
         table_candidate : (e : Entry) (at : Spot) → At e at → IsCandidate c v (tests_as_one (λ u. u.value) (widths p c v lists t) e.tests) at
         table_candidate e at r =
             let q = r.placed_one in
             let s = its q r.there in
-            let table = its_table q s r.table in
             subst (λ (x : Table × Entry × Spot). IsCandidate c v (tests_as_one (λ u. u.value) (widths p c v lists x.0) x.1.tests) x.2)
-            (λ i. (table i, r.entry i, r.spot_is i)) (is_candidate q s)
+            (λ i. ((its_table q s r.table) i, r.entry i, r.spot_is i)) (is_candidate q s)
 
         table_order : (e f : Entry) (a b : Spot) → At e a → At f b → goes_first t.kind e f ≡ true → IsBefore a b
         table_order e f a b ra rb h =
@@ -376,10 +365,8 @@ module _ (p : Program) (m : Map) (c : Config) (v : View) (lists : List (List Ent
             λ order. subst (λ (x : Spot × Spot). IsBefore x.0 x.1) (λ i. (ra.spot_is i, rb.spot_is i)) (before_to qa qb (order t (ap (table_at p) ra.table ∙ table_is) same goes)) in
             elim (two_items (Apart p c v lists) placed qa qb apart ra.there rb.there) [
               | inl apart ↦ in_order apart.forth
-              | inr more ↦ elim more [
-                | inl apart ↦ in_order apart.back
-                | inr is ↦ absurd (goes_never t.kind qa.entry (ap (λ (q : Placed). goes_first t.kind qa.entry q.entry) is ∙ goes))
-              ]
+              | inr (inl apart) ↦ in_order apart.back
+              | inr (inr is) ↦ absurd (goes_never t.kind qa.entry (ap (λ (q : Placed). goes_first t.kind qa.entry q.entry) is ∙ goes))
             ]
 
         table_one : (e : Entry) (a b : Spot) → At e a → At e b → a ≡ b

@@ -10,9 +10,8 @@ use Rattle.rmt_bits.proofs.ListLaws.{find-passes}
 use Rattle.rmt_ast.specs.declared.entry.Entry.{Entry}
 use Rattle.rmt_ast.specs.declared.names.Names.{Names}
 use Rattle.rmt_ast.specs.EntryLists.{AreEntries}
-use Rattle.rmt_refine.specs.Types.{Config, Node, Program, SlotUnit, Stage, Table}
+use Rattle.rmt_refine.specs.Types.{Config, Program, SlotUnit, Stage, Table}
 use Rattle.rmt_config.specs.Instructions.{first_code}
-use Rattle.rmt_config.specs.declared.config.Unit.TheVariants.{Slot}
 use Rattle.rmt_config.specs.LaneForm.{bits_of_lanes}
 use Rattle.rmt_config.specs.CellForm.{Coded, SlotHolds, StageHolds, cells_of, content_is_formed}
 use Rattle.rmt_config.specs.Order.{rises_from}
@@ -24,15 +23,15 @@ use Rattle.rmt_refine.specs.declared.map.CellOf.{CellOf}
 use Rattle.rmt_refine.specs.declared.map.Map.{Map}
 use Rattle.rmt_refine.specs.View.{View, look_in, own_content, own_view}
 use Rattle.rmt_refine.specs.View as view
-use Rattle.rmt_refine.specs.Units.{DoesAs, TableCarried, UnitsCarried, applied, table_at}
+use Rattle.rmt_refine.specs.Units.{UnitsCarried}
 use Rattle.rmt_refine.specs.Cells.{CellsCarried, HoldsEntry, IsSpotOf, Spot, TableCellsCarried}
 use Rattle.rmt_refine.specs.Commits.{seen_by}
 use Rattle.rmt_refine.specs.Outcomes.{entries_at}
-use Rattle.rmt_refine.proofs.CellNumberLaws.{cells_listed, coded_slot, does_table}
+use Rattle.rmt_refine.proofs.CellNumberLaws.{cells_listed, coded_slot, part_table}
 use Rattle.rmt_refine.proofs.OutcomeLaws.{list_at}
 use Rattle.rmt_refine.proofs.EntryLaws.{listed_in}
 use Rattle.rmt_pack.proofs.PartLaws.{IsPart, part_of_slot}
-use Rattle.rmt_refine.proofs.PartLaws.{part_of_spot, some_and, spot_of_part, unit_of_part}
+use Rattle.rmt_refine.proofs.PartLaws.{part_of_spot, spot_of_part}
 use Rattle.rmt_refine.proofs.StandLaws.{seen_from, shown, shown_seen}
 use Rattle.rmt_refine.proofs.ViewLaws.{content_is}
 
@@ -101,29 +100,7 @@ both_bits h occupied bits = and_from (is_occupied h) (has_bit 0 h) occupied (eq-
     low : (x : ℕ) → x % 2 ^ 2 ≡ 3 → x % 2 ≡ 1
     low x e = omega (arith, e)
 
--- ---- the table of a part
-
-pub record PartTable (p : Program) (m : Map) (n k : ℕ) (slot : SlotUnit) : Type 0 where
-  pub node : Node
-  pub table : Table
-  pub node_is : slice_get p.nodes n ≡ Some node
-  pub applied_is : applied p node.what ≡ Some table
-  pub table_is : table_at p n ≡ Some table
-  pub carried : TableCarried m.places m.placement.parts n k table slot
-
-pub part_table : (p : Program) (m : Map) (c : Config) (n k place : ℕ) (stage : Stage) (slot : SlotUnit) → UnitsCarried p m.places m.placement.parts m.starts c → IsPart c n k place stage slot → PartTable p m n k slot
-part_table p m c n k place stage slot units part =
-    let unit = unit_of_part p m.places m.placement.parts m.starts c n k place stage slot units part in
-    let node = some_and (slice_get p.nodes n) (λ (x : Node). DoesAs p m.places m.placement.parts k n x.what (Slot slot)) unit.1.does in
-    let table = does_table p m k n node.0.what slot node.2 in
-    record {
-      node = node.0;
-      table = table.0;
-      node_is = node.1;
-      applied_is = table.1;
-      table_is = ap (option_and_then (λ (x : Node). applied p x.what)) node.1 ∙ table.1;
-      carried = table.2;
-    }
+-- ---- what is seen of a part
 
 -- a cell of a part that is seen in a view has the number of an entry of its table
 pub record SeenEntry (lists : List (List Entry)) (n number : ℕ) : Type 0 where
@@ -142,8 +119,7 @@ seen_entry p m c v told lists n k place cell stage slot units entries carried pa
     let at : Spot = record { stage = k; place = place; cell = cell } in
     let is = spot_of_part c n k place cell stage slot part lt in
     let e = own.only at is seen in
-    let holds = own.holds e.0 at stage e.1 is e.2 part.stage_is in
-    record { entry = e.0; list_is = list.0; there = e.1; number_is = holds.number_is }
+    record { entry = e.0; list_is = list.0; there = e.1; number_is = (own.holds e.0 at stage e.1 is e.2 part.stage_is).number_is }
 
 -- ---- the start of a run
 
@@ -180,6 +156,5 @@ pub own_used : (p : Program) (m : Map) (c : Config) (lists : List (List Entry)) 
 own_used p m c lists units entries told carried next below k place n slot at lt h =
     let part = part_of_slot c slot.node k place slot at refl in
     let e = seen_entry p m c (own_view c) told lists slot.node k place n part.0 slot units entries carried part.1 lt h in
-    let number = e.number_is in
     let less = All-contains (λ (x : Entry). x.number < next) (all_entries lists) e.entry below (listed_in lists slot.node (entries_at lists slot.node) e.entry e.list_is e.there) in
-    omega (arith, number, less)
+    omega (arith, e.number_is, less)

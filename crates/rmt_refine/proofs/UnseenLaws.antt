@@ -1,7 +1,7 @@
 -- While a commit that moves no cell changes cells, a packet of the current version finds in them what it found before.
-use Rattle.std.proofs.Common.{◌≡◌, ◌⊎◌, ℕ, zero, suc, ◌+◌, ◌*◌, ◌^◌, ◌%◌, ◌==◌, Bool, true, false, ◌&&◌, ◌||◌, cond, List, [], ◌∷◌, fold, take, Option, Some, None, All, refl, sym, ap, subst, ◌∙◌, inl, inr, arith}
-use Rattle.std.specs.Prelude.{AllPairs, bit_and, find, is_some, nat_lt, option_and_then, option_map, unwrap_or}
-use Rattle.std.proofs.lemmas.Bool.{and_left, and_parts, and_right, eqb-true, false≢true, false_from_ne_true, ltb-true, or_cases}
+use Rattle.std.proofs.Common.{◌≡◌, ◌⊎◌, ℕ, zero, suc, ◌+◌, ◌*◌, ◌^◌, ◌%◌, ◌==◌, Bool, true, false, ◌&&◌, cond, List, [], ◌∷◌, fold, take, Option, Some, None, All, refl, sym, ap, subst, ◌∙◌, inl, inr}
+use Rattle.std.specs.Prelude.{AllPairs, bit_and, find, is_some, option_and_then, option_map, unwrap_or}
+use Rattle.std.proofs.lemmas.Bool.{and_left, and_parts, and_right, eqb-true, false≢true, false_from_ne_true}
 use Rattle.std.proofs.lemmas.List.Elements.{All-head, All-tail, All-take, All-weaker}
 use Rattle.rmt_bits.proofs.AllLaws.{All-find}
 use Rattle.rmt_bits.proofs.FunctionLaws.{funext}
@@ -18,6 +18,7 @@ use Rattle.rmt_config.specs.declared.cell_write.CellWrite.{CellWrite}
 use Rattle.rmt_config.specs.RunCells.{RunCells, emptied, found_at, found_in_slot, has_bit, is_changed, is_hit, look_in, no_content, sees, slot_at, with_write, written_content}
 use Rattle.rmt_config.specs.Rooms.{content_in, entry_content, is_at, number_in}
 use Rattle.rmt_config.specs.Commits.{all_entries, AreWrites, IsCell, Placed, coming_content, leaving_content, placed_after, placed_at, settled, settled_content, settled_number, stays, staying_content, with_bit, without_bit, writes_before}
+use Rattle.rmt_config.proofs.CommitLaws.{writes_apart}
 use Rattle.rmt_refine.specs.Commits.{ChangesAreUnseen}
 use Rattle.rmt_refine.proofs.VisibleBitLaws.{AreSeenAlike, clear-alike, set-alike, unseen_coming, unseen_without}
 use Rattle.rmt_pack.proofs.PlacedLaws.{Comes, HasItsRoom, Stays, each_has_its_room}
@@ -57,12 +58,11 @@ module _ (v : ℕ) (cells others : RunCells) (k place : ℕ) (seeds : cells.seed
 
   found_alike : (key : ℕ) (slot : SlotUnit) → found_in_slot true v others k place key slot ≡ found_in_slot true v cells k place key slot
   found_alike key slot =
-      let among = candidates cells.seed (bits_of_lanes slot.keys) slot.memory key in
       let tests = funext (hit_by others key) (hit_by cells key)
       (λ n. sym (alike_hit v key (cells.content k place n) (others.content k place n) (cells.number k place n) (others.number k place n) (each n))) in
       ap (λ test. option_map (found_at others k place) (find test (candidates others.seed (bits_of_lanes slot.keys) slot.memory key))) tests
       ∙ ap (λ seed. option_map (found_at others k place) (find (hit_by cells key) (candidates seed (bits_of_lanes slot.keys) slot.memory key))) (sym seeds)
-      ∙ by (find (hit_by cells key) among) refl
+      ∙ by (find (hit_by cells key) (candidates cells.seed (bits_of_lanes slot.keys) slot.memory key)) refl
     where
       by : (o : Option ℕ) → find (hit_by cells key) (candidates cells.seed (bits_of_lanes slot.keys) slot.memory key) ≡ o → option_map (found_at others k place) o ≡ option_map (found_at cells k place) o
       by None e = refl
@@ -203,17 +203,10 @@ module _ (c : Config) (k place n : ℕ) where
 
   -- a cell changes once
   pub not_again : (w x : CellWrite) → changed_by w ≡ true → writes_before w x ≡ true → changed_by x ≡ false
-  not_again w x e o = false_from_ne_true (changed_by x) (λ f. twice (where_is w e) (where_is x f) o)
-    where
-      twice : (w.stage ≡ k) × (w.unit ≡ place) × (w.cell ≡ n) → (x.stage ≡ k) × (x.unit ≡ place) × (x.cell ≡ n) → writes_before w x ≡ true → ⊥
-      twice a b t = elim (or_cases (nat_lt w.stage x.stage) ((w.stage == x.stage) && (nat_lt w.unit x.unit || ((w.unit == x.unit) && nat_lt w.cell x.cell))) t) [
-        | inl lt ↦ omega (arith, ltb-true w.stage x.stage lt, a.0, b.0)
-        | inr more ↦
-            elim (or_cases (nat_lt w.unit x.unit) ((w.unit == x.unit) && nat_lt w.cell x.cell) (and_parts (w.stage == x.stage) (nat_lt w.unit x.unit || ((w.unit == x.unit) && nat_lt w.cell x.cell)) more).1) [
-              | inl lt ↦ omega (arith, ltb-true w.unit x.unit lt, a.1, b.1)
-              | inr cell ↦ omega (arith, ltb-true w.cell x.cell (and_parts (w.unit == x.unit) (nat_lt w.cell x.cell) cell).1, a.2, b.2)
-            ]
-      ]
+  not_again w x e o = false_from_ne_true (changed_by x) (λ f.
+      let a = where_is w e in
+      let b = where_is x f in
+      writes_apart w x o (a.0 ∙ sym b.0) (a.1 ∙ sym b.1) (a.2 ∙ sym b.2))
 
   pub is_cell : (w : CellWrite) → changed_by w ≡ true → IsCell c w.stage w.unit w.cell → IsCell c k place n
   is_cell w e h = let at_w = where_is w e in subst (λ m. IsCell c k place m) at_w.2 (subst (λ m. IsCell c k m w.cell) at_w.1 (subst (λ m. IsCell c m w.unit w.cell) at_w.0 h))

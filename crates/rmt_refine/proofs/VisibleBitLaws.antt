@@ -1,6 +1,7 @@
 -- Heads of cells of which one visible bit is set or cleared: the other one, and all else, stays.
 use Rattle.std.proofs.Common.{◌≡◌, ◌≢◌, ◌⊎◌, ℕ, ◌+◌, ◌-◌, ◌*◌, ◌/◌, ◌%◌, ◌^◌, ◌<◌, ◌==◌, ◌&&◌, Bool, true, false, cond, refl, sym, ap, subst, ◌∙◌, inl, inr, arith}
-use Rattle.std.proofs.lemmas.Bool.{and_from, and_parts, and_right, cases_eq, eq-eqb, eqb-false, eqb-true, ne_eqb}
+use Rattle.std.proofs.lemmas.Bool.{and_from, and_parts, and_right, cases_eq, eq-eqb, eqb-false, eqb-true}
+use Rattle.std.proofs.lemmas.Bool.Decides.{nat_tests}
 use Rattle.rmt_config.specs.Cells.{code_of, is_occupied, visible_bits}
 use Rattle.rmt_config.specs.RunCells.{has_bit, sees}
 use Rattle.rmt_config.specs.Commits.{with_bit, without_bit}
@@ -72,66 +73,30 @@ set-alike v h = at_parities (λ m n. KeptAt m h (cond (bit n h) h (h + 2 ^ (1 + 
 pub clear-alike : (v h : ℕ) → AreSeenAlike v h (without_bit (v + 1) h)
 clear-alike v h = at_parities (λ m n. KeptAt m h (cond (bit n h) (h - 2 ^ (1 + n)) h)) v (clear_one h) (clear_zero h)
 
-kept_zero : (h : ℕ) → visible_bits (cond (bit 1 h) (h - 4) h) ≢ 0 → bit 0 h ≡ true
-kept_zero h = by_test (λ g. visible_bits g ≢ 0 → bit 0 h ≡ true) (bit 1 h) (h - 4) h (λ e g. (let yes = eqb-true (h / 4 % 2) 1 e in eq-eqb (h / 2 % 2) 1 (omega (arith, yes, g))))
-    (λ e g. (let no = eqb-false (h / 4 % 2) 1 e in eq-eqb (h / 2 % 2) 1 (omega (arith, no, g))))
-
-kept_one : (h : ℕ) → visible_bits (cond (bit 0 h) (h - 2) h) ≢ 0 → bit 1 h ≡ true
-kept_one h = by_test (λ g. visible_bits g ≢ 0 → bit 1 h ≡ true) (bit 0 h) (h - 2) h (λ e g. (let yes = eqb-true (h / 2 % 2) 1 e in eq-eqb (h / 4 % 2) 1 (omega (arith, yes, g))))
-    (λ e g. (let no = eqb-false (h / 2 % 2) 1 e in eq-eqb (h / 4 % 2) 1 (omega (arith, no, g))))
-
-set_both_one : (h : ℕ) → bit 0 h ≡ true → visible_bits (cond (bit 1 h) h (h + 4)) ≡ 3
-set_both_one h low =
-    let own = eqb-true (h / 2 % 2) 1 low in
-    by_test (λ g. visible_bits g ≡ 3) (bit 1 h) h (h + 4) (λ e. (let yes = eqb-true (h / 4 % 2) 1 e in omega (arith, yes, own))) (λ e. (let no = eqb-false (h / 4 % 2) 1 e in omega (arith, no, own)))
-
-set_both_zero : (h : ℕ) → bit 1 h ≡ true → visible_bits (cond (bit 0 h) h (h + 2)) ≡ 3
-set_both_zero h high =
-    let own = eqb-true (h / 4 % 2) 1 high in
-    by_test (λ g. visible_bits g ≡ 3) (bit 0 h) h (h + 2) (λ e. (let yes = eqb-true (h / 2 % 2) 1 e in omega (arith, yes, own))) (λ e. (let no = eqb-false (h / 2 % 2) 1 e in omega (arith, no, own)))
-
 -- without a visible bit a head shows none
 pub unseen_without : (v h : ℕ) → visible_bits h ≡ 0 → has_bit v h ≡ false
 unseen_without v h none =
-    at_parities (λ m n. bit m h ≡ false) v
-    (ne_eqb (h / 2 % 2) 1 (λ e. omega (arith, none, e)))
-    (ne_eqb (h / 4 % 2) 1 (λ e. omega (arith, none, e)))
+    at_parities (λ m n. bit m h ≡ false) v (grind (arith, nat_tests, none)) (grind (arith, nat_tests, none))
 
 -- the head of an entry that comes has the next version's bit alone
 pub unseen_coming : (v i : ℕ) → has_bit v (1 + 2 * 2 ^ ((v + 1) % 2) + 8 * i) ≡ false
 unseen_coming v i =
-    at_parities (λ m n. bit m (1 + 2 * 2 ^ n + 8 * i) ≡ false) v
-    (ne_eqb ((1 + 2 * 2 + 8 * i) / 2 % 2) 1 (λ e. omega (arith, e)))
-    (ne_eqb ((1 + 2 * 1 + 8 * i) / 4 % 2) 1 (λ e. omega (arith, e)))
+    at_parities (λ m n. bit m (1 + 2 * 2 ^ n + 8 * i) ≡ false) v (grind (arith, nat_tests)) (grind (arith, nat_tests))
 
 -- ---- what the next version sees
-
-bit_set_zero : (h : ℕ) → bit 0 (cond (bit 0 h) h (h + 2)) ≡ true
-bit_set_zero h = by_test (λ g. bit 0 g ≡ true) (bit 0 h) h (h + 2) (λ e. e) (λ e. (let none = eqb-false (h / 2 % 2) 1 e in eq-eqb ((h + 2) / 2 % 2) 1 (omega (arith, none))))
-
-bit_set_one : (h : ℕ) → bit 1 (cond (bit 1 h) h (h + 4)) ≡ true
-bit_set_one h = by_test (λ g. bit 1 g ≡ true) (bit 1 h) h (h + 4) (λ e. e) (λ e. (let none = eqb-false (h / 4 % 2) 1 e in eq-eqb ((h + 4) / 4 % 2) 1 (omega (arith, none))))
-
-bit_clear_zero : (h : ℕ) → bit 0 (cond (bit 0 h) (h - 2) h) ≡ false
-bit_clear_zero h =
-    by_test (λ g. bit 0 g ≡ false) (bit 0 h) (h - 2) h (λ e. (let some = eqb-true (h / 2 % 2) 1 e in ne_eqb ((h - 2) / 2 % 2) 1 (λ f. omega (arith, some, f)))) (λ e. e)
-
-bit_clear_one : (h : ℕ) → bit 1 (cond (bit 1 h) (h - 4) h) ≡ false
-bit_clear_one h =
-    by_test (λ g. bit 1 g ≡ false) (bit 1 h) (h - 4) h (λ e. (let some = eqb-true (h / 4 % 2) 1 e in ne_eqb ((h - 4) / 4 % 2) 1 (λ f. omega (arith, some, f)))) (λ e. e)
 
 -- a cell that keeps its entry is seen by the next version too
 pub seen_next : (v h : ℕ) → sees true v h ≡ true → sees true (v + 1) (with_bit (v + 1) h) ≡ true
 seen_next v h seen =
     let occupied = (and_parts (is_occupied h) (has_bit v h) seen).0 in
     and_from (is_occupied (with_bit (v + 1) h)) (has_bit (v + 1) (with_bit (v + 1) h)) (sym (set-alike v h).occupied ∙ occupied)
-    (at_parities (λ m n. bit n (cond (bit n h) h (h + 2 ^ (1 + n))) ≡ true) v (bit_set_one h) (bit_set_zero h))
+    (at_parities (λ m n. bit n (cond (bit n h) h (h + 2 ^ (1 + n))) ≡ true) v (grind (arith, nat_tests)) (grind (arith, nat_tests)))
 
 -- one that loses it isn't
 pub unseen_next : (v h : ℕ) → sees true (v + 1) (without_bit (v + 1) h) ≡ false
 unseen_next v h =
     and_right (is_occupied (without_bit (v + 1) h)) (has_bit (v + 1) (without_bit (v + 1) h))
-    (at_parities (λ m n. bit n (cond (bit n h) (h - 2 ^ (1 + n)) h) ≡ false) v (bit_clear_one h) (bit_clear_zero h))
+    (at_parities (λ m n. bit n (cond (bit n h) (h - 2 ^ (1 + n)) h) ≡ false) v (grind (arith, nat_tests)) (grind (arith, nat_tests)))
 
 -- the head of an entry that comes is seen, with its code
 pub seen_coming : (v i : ℕ) → i < 32 → (sees true (v + 1) (1 + 2 * 2 ^ ((v + 1) % 2) + 8 * i) ≡ true) × (code_of (1 + 2 * 2 ^ ((v + 1) % 2) + 8 * i) ≡ i)
@@ -145,26 +110,12 @@ seen_coming v i lt =
 
 -- a head that keeps a visible bit without the next version's has the version's
 pub bit_kept : (v h : ℕ) → visible_bits (without_bit (v + 1) h) ≢ 0 → has_bit v h ≡ true
-bit_kept v h = at_parities (λ m n. visible_bits (cond (bit n h) (h - 2 ^ (1 + n)) h) ≢ 0 → bit m h ≡ true) v (kept_zero h) (kept_one h)
+bit_kept v h = at_parities (λ m n. visible_bits (cond (bit n h) (h - 2 ^ (1 + n)) h) ≢ 0 → bit m h ≡ true) v (λ some. grind (arith, nat_tests, some)) (λ some. grind (arith, nat_tests, some))
 
 -- a head that has a version's visible bit and gets the next one's has both
 pub both_set : (v h : ℕ) → has_bit v h ≡ true → visible_bits (with_bit (v + 1) h) ≡ 3
-both_set v h = at_parities (λ m n. bit m h ≡ true → visible_bits (cond (bit n h) h (h + 2 ^ (1 + n))) ≡ 3) v (set_both_one h) (set_both_zero h)
+both_set v h = at_parities (λ m n. bit m h ≡ true → visible_bits (cond (bit n h) h (h + 2 ^ (1 + n))) ≡ 3) v (λ own. grind (arith, nat_tests, own)) (λ own. grind (arith, nat_tests, own))
 
 -- and one that has both gets none
 pub none_set : (v h : ℕ) → visible_bits h ≡ 3 → with_bit v h ≡ h
-none_set v h both = elim (cases_eq (v % 2) 0) [
-  | inl e ↦ subst (λ m. cond (bit m h) h (h + 2 ^ (1 + m)) ≡ h) (sym e) (ap (λ b. cond b h (h + 2)) (eq-eqb (h / 2 % 2) 1 (omega (arith, both))))
-  | inr ne ↦
-      let one : v % 2 ≡ 1 = omega (arith, ne) in
-      subst (λ m. cond (bit m h) h (h + 2 ^ (1 + m)) ≡ h) (sym one) (ap (λ b. cond b h (h + 4)) (eq-eqb (h / 4 % 2) 1 (omega (arith, both))))
-]
-
--- it shows every version its bit
-pub both_show : (v h : ℕ) → visible_bits h ≡ 3 → has_bit v h ≡ true
-both_show v h both = elim (cases_eq (v % 2) 0) [
-  | inl e ↦ subst (λ m. bit m h ≡ true) (sym e) (eq-eqb (h / 2 % 2) 1 (omega (arith, both)))
-  | inr ne ↦
-      let one : v % 2 ≡ 1 = omega (arith, ne) in
-      subst (λ m. bit m h ≡ true) (sym one) (eq-eqb (h / 4 % 2) 1 (omega (arith, both)))
-]
+none_set v h both = at_parities (λ m n. cond (bit m h) h (h + 2 ^ (1 + m)) ≡ h) v (grind (arith, nat_tests, both)) (grind (arith, nat_tests, both))

@@ -83,22 +83,20 @@ pub record KeepsPort (p : Program) (port : ℕ) (r : walks.Reached) : Type 0 whe
 
 pub walk_keeps_port : (p : Program) (port : ℕ) (frame : List ℕ) → IsProgram p → WalkLeaves (KeepsPort p port) (walk p port frame)
 walk_keeps_port p port frame program =
-    let fields = program.fields.all_there in
     let zeros : List ℕ = replicate (length p.fields) 0 in
     let long : length zeros ≡ length p.fields = length-replicate {A = ℕ} (length p.fields) 0 in
     walk_leaves_from p frame (KeepsPort p port)
     (λ n h r at here.
     let low = header_fields_low p n h program.fields at in
-    let valid = low.0 in
     let s = set_fields p h.fields (number_of (take h.bytes (drop r.at frame))) r.state in
     record {
-      port_is = get_or-set_other s h.valid 0 1 0 (λ e. omega (arith, e, valid)) ∙ kept_low p h.fields (number_of (take h.bytes (drop r.at frame))) r.state low.1 ∙ here.port_is;
+      port_is = get_or-set_other s h.valid 0 1 0 (λ e. omega (arith, e, low.0)) ∙ kept_low p h.fields (number_of (take h.bytes (drop r.at frame))) r.state low.1 ∙ here.port_is;
       tails = here.tails;
     })
     (λ n len r here. record { port_is = here.port_is; tails = length-set r.tails n (take len (drop r.at frame)) ∙ here.tails })
     (length p.headers) 0 (walks.begin p port)
     (record {
-      port_is = get_or-set_same zeros 0 port 0 (omega (arith, fields, long));
+      port_is = get_or-set_same zeros 0 port 0 (omega (arith, program.fields.all_there, long));
       tails = length-replicate (length p.headers) [];
     })
 

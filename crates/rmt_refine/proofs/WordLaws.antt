@@ -45,8 +45,7 @@ seen_last (x ∷ []) zero rise lt = omega arith
 seen_last (x ∷ []) (suc k) rise lt = absurd (omega (arith, lt))
 seen_last (x ∷ y ∷ stages) zero rise lt =
     let next = seen_last (y ∷ stages) zero (λ i j less within. rise (suc i) (suc j) (omega (arith, less)) (omega (arith, within))) (omega arith) in
-    let less = rise 0 1 (omega arith) (omega arith) in
-    omega (arith, next, less)
+    omega (arith, next, rise 0 1 (omega arith) (omega arith))
 seen_last (x ∷ y ∷ stages) (suc k) rise lt =
     seen_last (y ∷ stages) k (λ i j less within. rise (suc i) (suc j) (omega (arith, less)) (omega (arith, within))) (omega (arith, lt))
 
@@ -150,8 +149,7 @@ module _ (p : Program) (lists : List (List Entry)) (m : Map) (c : Config) (v : V
       first.holds t f ∙ ap (λ x. slice_index x f) (sym first_state)
       ∙ sym (kept_over p lists s f program entries n 0 (omega (arith, within)) (λ j low high goes writes.
       let seen = cut.earlier j (record { goes = goes; writes = writes }) (omega (arith, high)) in
-      let before = seen.before in
-      omega (arith, before)))
+      omega (arith, seen.before)))
       ∙ ap (λ q. slice_index (at_node q) f) e
 
   all_through : (life : Life) → IsStart life → AreRead 0 c.stages life × HoldBefore (0 + length c.stages) (through_from (look_in c v) 0 c.stages life).word

@@ -3,6 +3,7 @@ use Rattle.std.proofs.Common.{◌≡◌, ℕ, zero, suc, ◌+◌, ◌-◌, ◌<�
 use Rattle.std.specs.Prelude.{All, Contains, nat_le, option_map, slice_index, unwrap_or}
 use Rattle.std.proofs.lemmas.Bool.{cases_eq, cases_lt, le-leb, lt-leb}
 use Rattle.std.proofs.lemmas.List.Elements.{All-contains}
+use Rattle.std.specs.Option.{option_or}
 use Rattle.rmt_bits.proofs.AllLaws.{All-flat_map}
 use Rattle.rmt_bits.specs.Bits.{slice}
 use Rattle.rmt_bits.specs.declared.lane.Lane.{Lane}
@@ -14,8 +15,8 @@ use Rattle.rmt_ast.specs.Places.{lanes_of}
 use Rattle.rmt_ast.specs.State.{IsState}
 use Rattle.rmt_ast.specs.WellFormed.{IsProgram}
 use Rattle.rmt_phv.specs.Places.{written_by, AreApart}
-use Rattle.rmt_deps.specs.Edges.{of_action, read_by, reads_of, words_of, writes_of}
-use Rattle.rmt_config.specs.Life.{Ages, Running, Words, op_on, or_else, word_after, written}
+use Rattle.rmt_deps.specs.Edges.{of_action, read_by, reads_of, words_of_fields, writes_of}
+use Rattle.rmt_config.specs.Life.{Ages, Running, Words, op_on, word_after, written}
 use Rattle.rmt_refine.specs.declared.map.Map.{Map}
 use Rattle.rmt_refine.specs.View.{View}
 use Rattle.rmt_refine.specs.Carries.{CarriesIn}
@@ -34,6 +35,7 @@ use Rattle.rmt_refine.proofs.ReadLaws.{state_of_words, words_hold, words_state}
 use Rattle.rmt_refine.proofs.RunningLaws.{Adds, RanBefore}
 use Rattle.rmt_refine.proofs.SeenLaws.{HoldAtCuts, IsCut, IsWriter, cut_before, none_between, operand_cut, own_before, own_cut, stage_of, stands, start, table_of_writer, table_within, writer_within}
 use Rattle.rmt_bits.proofs.MemberLaws.{Contains-first, Contains-later, Contains-split}
+use Rattle.rmt_bits.proofs.OptionLaws.{option_or-none}
 use Rattle.rmt_pack.proofs.FindLaws.{all_at}
 
 -- ---- lists and options
@@ -48,10 +50,6 @@ contains_or (y ∷ ys) x = elim (cases_eq y x) [
     | inr none ↦ inr (λ there. elim (Contains-split y ys x there) [ inl e ↦ ne e | inr later ↦ none later ])
   ]
 ]
-
-or_none : {X : Type 0} (o : Option X) → or_else o None ≡ o
-or_none None = refl
-or_none (Some x) = refl
 
 module _ (p : Program) (lists : List (List Entry)) (m : Map) (c : Config) (v : View) (s : List ℕ) (program : IsProgram p) (entries : AreEntries p lists) (state : IsState p s)
     (carries : CarriesIn p lists m c v) where
@@ -87,7 +85,7 @@ module _ (p : Program) (lists : List (List Entry)) (m : Map) (c : Config) (v : V
   AddsAt = Adds p m.places m.placement.parts m.starts c v (entries_at lists) at_node (run p lists s).outcomes (set_in p lists m c v s program entries state carries)
 
   abbrev Touches : ℕ → ℕ → Type 0
-  Touches n w = Contains (words_of m.places (writes_of p n)) w
+  Touches n w = Contains (words_of_fields m.places (writes_of p n)) w
 
   touched_by : (k n w : ℕ) (r : Running) (op : Operation) → RunsAt k n r → op_on w r.ops ≡ Some op → Touches n w
   touched_by k n w r op runs on =
@@ -111,7 +109,7 @@ module _ (p : Program) (lists : List (List Entry)) (m : Map) (c : Config) (v : V
         | inl same ↦ ap (λ (rs : List Running). word_after rs old w) same.0 ∙ rest
         | inr more ↦
             ap (λ (rs : List Running). word_after rs old w) more.1
-            ∙ ap (λ o. or_else o (word_after ran.0 old w)) (untouched k b w more.0 old more.2 (none b more.2.table (omega arith) more.2.acts)) ∙ rest
+            ∙ ap (λ o. option_or o (word_after ran.0 old w)) (untouched k b w more.0 old more.2 (none b more.2.table (omega arith) more.2.acts)) ∙ rest
       ]
 
   -- the nodes that act and touch a word are node i alone
@@ -135,7 +133,7 @@ module _ (p : Program) (lists : List (List Entry)) (m : Map) (c : Config) (v : V
     runs = a.runs;
     word = λ w old only.
         ap (λ (rs : List Running). word_after rs old w) more.1
-        ∙ ap (λ o. or_else o (word_after old_rs old w)) (untouched k b w more.0 old more.2 (λ there. ne (only b more.2.table more.2.acts there)))
+        ∙ ap (λ o. option_or o (word_after old_rs old w)) (untouched k b w more.0 old more.2 (λ there. ne (only b more.2.table more.2.acts there)))
         ∙ a.word w old only;
   }
 
@@ -147,7 +145,7 @@ module _ (p : Program) (lists : List (List Entry)) (m : Map) (c : Config) (v : V
     word = λ w old only.
         let own = option_map (written old more.0.held) (op_on w more.0.ops) in
         ap (λ (rs : List Running). word_after rs old w) more.1
-        ∙ ap (or_else own) (quiet k i old_rs w old ran (λ j u lt does there. let e = only j u does there in omega (arith, e, lt))) ∙ or_none own;
+        ∙ ap (option_or own) (quiet k i old_rs w old ran (λ j u lt does there. let e = only j u does there in omega (arith, e, lt))) ∙ option_or-none own;
   }
 
   -- a node that acts has an instruction that runs, and where it alone touches a word, that is what is written there
@@ -173,8 +171,8 @@ module _ (p : Program) (lists : List (List Entry)) (m : Map) (c : Config) (v : V
   last_more : (k b w : ℕ) (old : Words) (rs : List Running) (r : Running) (o : Option Operation) → op_on w r.ops ≡ o → RunsAt k b r → (word_after rs old w ≡ None) ⊎ Last k rs old w
       → (word_after (r ∷ rs) old w ≡ None) ⊎ Last k (r ∷ rs) old w
   last_more k b w old rs r (Some op) on runs rest =
-      inr (record { i = b; r = r; runs = runs; op = op; on = on; word = ap (λ o. or_else (option_map (written old r.held) o) (word_after rs old w)) on })
-  last_more k b w old rs r None on runs (inl none) = inl (ap (λ o. or_else (option_map (written old r.held) o) (word_after rs old w)) on ∙ none)
+      inr (record { i = b; r = r; runs = runs; op = op; on = on; word = ap (λ o. option_or (option_map (written old r.held) o) (word_after rs old w)) on })
+  last_more k b w old rs r None on runs (inl none) = inl (ap (λ o. option_or (option_map (written old r.held) o) (word_after rs old w)) on ∙ none)
   last_more k b w old rs r None on runs (inr last) =
       inr (record {
         i = last.i;
@@ -182,7 +180,7 @@ module _ (p : Program) (lists : List (List Entry)) (m : Map) (c : Config) (v : V
         runs = last.runs;
         op = last.op;
         on = last.on;
-        word = ap (λ o. or_else (option_map (written old r.held) o) (word_after rs old w)) on ∙ last.word;
+        word = ap (λ o. option_or (option_map (written old r.held) o) (word_after rs old w)) on ∙ last.word;
       })
 
   -- either nothing is written in a word, or what one instruction writes there
@@ -243,15 +241,11 @@ module _ (p : Program) (lists : List (List Entry)) (m : Map) (c : Config) (v : V
       elim (compare j i) [
         | inl lt ↦
             let o = word_order p lists m c v s program entries state carries j i (stage_at j) (stage_at i) w lt within_i acts_j.goes acts.goes stands_j stands_i there_j there in
-            let before = o.0 in
-            absurd (omega (arith, before, here_i, here_j))
-        | inr more ↦ elim more [
-          | inl gt ↦
-              let o = word_order p lists m c v s program entries state carries i j (stage_at i) (stage_at j) w gt within_j acts.goes acts_j.goes stands_i stands_j there there_j in
-              let before = o.0 in
-              absurd (omega (arith, before, here_i, here_j))
-          | inr e ↦ e
-        ]
+            absurd (omega (arith, o.0, here_i, here_j))
+        | inr (inl gt) ↦
+            let o = word_order p lists m c v s program entries state carries i j (stage_at i) (stage_at j) w gt within_j acts.goes acts_j.goes stands_i stands_j there there_j in
+            absurd (omega (arith, o.0, here_i, here_j))
+        | inr (inr e) ↦ e
       ]
 
   -- ---- a field that a node writes in the stage
@@ -278,13 +272,11 @@ module _ (p : Program) (lists : List (List Entry)) (m : Map) (c : Config) (v : V
       let x = state_of_words p m.places words in
       let is = words_state p m.places words carries.places.apart.cut in
       let hold = words_hold p m.places words carries.places.apart.cut in
-      let before = state_before p lists s i program entries state in
-      let does = does_for p lists m c v s program entries state carries k i r runs in
       let agree : Agree (Contains (of_action p read_by (action_run t hit))) x (at_node i) = record {
-        long = is.one_each ∙ sym before.one_each;
+        long = is.one_each ∙ sym (state_before p lists s i program entries state).one_each;
         same = λ g there. sym (hold g) ∙ reads g (read_listed p lists m c v s program entries state carries i t g runs.acts.table_is there);
       } in
-      does.acts x words is hold f
+      (does_for p lists m c v s program entries state carries k i r runs).acts x words is hold f
       ∙ same_left (action_run t hit) (args_run t hit) x (at_node i) f agree (sym (hold f) ∙ own)
       ∙ ap (λ y. slice_index y f) (sym (state_after p lists m c v s program entries state carries k i t runs.acts))
 
@@ -316,8 +308,7 @@ module _ (p : Program) (lists : List (List Entry)) (m : Map) (c : Config) (v : V
       let read_at : (g : ℕ) → Contains (reads_of p i) g → Cut k (start_at k + 9) g i =
       λ g reads. subst (λ q. Cut q (start_at q + 9) g i) here (operand_cut p lists m c v s program entries state carries i g lt own.goes reads) in
       let held_old = holds (start_at k + 9) f i (omega (arith, lt)) (own_at (start_at k + 9) (omega arith)) in
-      let held_now = holds t f i (omega (arith, lt)) (own_at t (omega (arith, late))) in
-      let same = lanes_same (word t) old ls (held_now ∙ sym held_old) in
+      let same = lanes_same (word t) old ls ((holds t f i (omega (arith, lt)) (own_at t (omega (arith, late)))) ∙ sym held_old) in
       held_same (over running old (word t)) (words_after one.r.ops one.r.held old) ls
       (all_at (SameIn (over running old (word t)) (words_after one.r.ops one.r.held old)) ls (λ l in_l.
       let only = one_toucher k i l.word w.table w.acts (lane_touched m.places (writes_of p i) f l w.writes in_l) in
@@ -337,8 +328,7 @@ module _ (p : Program) (lists : List (List Entry)) (m : Map) (c : Config) (v : V
       let stands_i = stands p lists m c v s program entries state carries i within_i acts.goes in
       record {
         earlier = λ j w lt.
-            let seen = cut.earlier j w lt in
-            let before = seen.before in
+            let before = (cut.earlier j w lt).before in
             let within_j = writer_within p j f w.writes in
             let stands_j = stands p lists m c v s program entries state carries j within_j w.goes in
             let there_j = lane_touched m.places (writes_of p j) f l w.writes in_l in
@@ -347,17 +337,13 @@ module _ (p : Program) (lists : List (List Entry)) (m : Map) (c : Config) (v : V
                   let o = word_order p lists m c v s program entries state carries j i (stage_at j) (stage_at i) l.word less within_i w.goes acts.goes stands_j stands_i there_j there in
                   let far = subst (λ q. start_at (stage_at j) + 3 ≤ start_at q) here o.1 in
                   record { before = before; in_time = omega (arith, far) }
-              | inr more ↦ elim more [
-                | inl gt ↦
-                    let o = word_order p lists m c v s program entries state carries i j (stage_at i) (stage_at j) l.word gt within_j acts.goes w.goes stands_i stands_j there there_j in
-                    let behind = o.0 in
-                    absurd (omega (arith, behind, here, before))
-                | inr e ↦ let same : stage_at j ≡ stage_at i = ap stage_at e in absurd (omega (arith, same, here, before))
-              ]
+              | inr (inl gt) ↦
+                  let o = word_order p lists m c v s program entries state carries i j (stage_at i) (stage_at j) l.word gt within_j acts.goes w.goes stands_i stands_j there there_j in
+                  absurd (omega (arith, o.0, here, before))
+              | inr (inr e) ↦ let same : stage_at j ≡ stage_at i = ap stage_at e in absurd (omega (arith, same, here, before))
             ];
         later = λ j w ge seen.
-            let time = seen.in_time in
-            cut.later j w ge (record { before = seen.before; in_time = omega (arith, time, late) });
+            cut.later j w ge (record { before = seen.before; in_time = omega (arith, seen.in_time, late) });
       }
 
   -- the lanes that an instruction changes stand apart from those of a field that its node doesn't write
@@ -384,13 +370,12 @@ module _ (p : Program) (lists : List (List Entry)) (m : Map) (c : Config) (v : V
       let r = last.r in
       let there = touched_by k last.i l.word r last.op last.runs last.on in
       let held_old = holds (start_at k + 9) f n within (cut_read k t f n last.i last.runs.table l late cut last.runs.acts there in_l) in
-      let same = lanes_same old (word t) ls (held_old ∙ sym (holds t f n within cut)) in
       let does = does_for p lists m c v s program entries state carries k last.i r last.runs in
       let hit = hit_at p lists m c v s program entries state carries last.i last.runs.table in
       ap (λ o. slice (unwrap_or o (word t l.word)) l.low l.len) last.word
       ∙ sym (ap (λ o. slice (unwrap_or (option_map (written old r.held) o) (old l.word)) l.low l.len) last.on)
       ∙ lane_stays l (assigned_lanes p m.places (action_run last.runs.table hit)) r.ops r.held old (apart_from k f last.i r l last.runs none in_l) does.others
-      ∙ All-contains (SameIn old (word t)) ls l same in_l
+      ∙ All-contains (SameIn old (word t)) ls l (lanes_same old (word t) ls (held_old ∙ sym (holds t f n within cut))) in_l
 
   -- A field that no node writes in the stage stays as it stands.
   other_in : (k t f n : ℕ) (word : Ages) (running : List Running) → HoldBefore k word → Ran k (length p.nodes) running → start_at k + 12 ≤ t → n ≤ length p.nodes → Cut (k + 1) t f n

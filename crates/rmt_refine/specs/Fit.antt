@@ -1,21 +1,13 @@
 -- Which lists of packets and commits may come to a program's entries: each change can be made where it stands.
 use Rattle.std.specs.Prelude.{◌≡◌, ◌<◌, List, [], ◌∷◌, Bool, true, false, ◌&&◌, ⊤, IsSomeAnd, length}
-use Rattle.std.specs.List.{list_any}
 use Rattle.rmt_bits.specs.Packet.{IsPacket}
 use Rattle.rmt_ast.specs.declared.program.Kind.TheVariants as kind
 use Rattle.rmt_ast.specs.declared.entry.Entry.{Entry}
 use Rattle.rmt_ast.specs.EntryLists.{IsEntry, Terms, terms_of}
-use Rattle.rmt_ast.specs.Changes.{Adds, Change, EntryKey, Installed, Removes, changed, committed, is_keyed_by, list_of}
+use Rattle.rmt_ast.specs.Changes.{Adds, Change, Installed, Removes, changed, committed, list_of, is_held, key_of_entry}
 use Rattle.rmt_ast.specs.Events.{Arrives, Commits, Event}
 use Rattle.rmt_refine.specs.Types.{Kind, Program, Table}
 use Rattle.rmt_refine.specs.Units.{table_at}
-
--- some entry has a key
-abbrev pub is_held : EntryKey → List Entry → Bool
-is_held key es = list_any (is_keyed_by key) es
-
-abbrev pub key_of_entry : Entry → EntryKey
-key_of_entry e = record { tests = e.tests; rank = e.rank }
 
 -- a table of this kind has a key once
 abbrev pub has_once : Kind → Bool

@@ -4,8 +4,8 @@ use Rattle.rmt_refine.specs.Types.{Config, Stage, SlotUnit}
 use Rattle.rmt_config.specs.LaneForm.{bits_of_lanes}
 use Rattle.rmt_config.specs.Cells.{Content, Found, candidates, code_of, content_of, has_key, number_of_cell}
 use Rattle.rmt_config.specs.Life.{Look}
-pub use Rattle.rmt_config.specs.RunCells.{no_content}
-pub use Rattle.rmt_pack.specs.Slots.{as_slot, slot_at, slot_of}
+pub use Rattle.rmt_config.specs.RunCells.{as_slot, no_content, slot_at}
+pub use Rattle.rmt_pack.specs.Slots.{slot_of}
 
 -- a seed, and of each cell, by stage, place of the slot in the stage and number in the slot, what it holds and the number of its entry
 pub record View : Type 0 where

@@ -14,9 +14,10 @@ use Rattle.rmt_config.specs.declared.config.Stage.{Stage}
 use Rattle.rmt_config.specs.declared.config.Unit.{Unit as ChipUnit}
 use Rattle.rmt_config.specs.declared.limits.total.Resource.{Resource}
 use Rattle.rmt_config.specs.LimitSteps.{taken_by}
-use Rattle.rmt_config.specs.Resources.{is_slot, is_gate, unit_data, unit_sram, unit_tcam}
+use Rattle.rmt_config.specs.Resources.{is_slot, is_gate, unit_data, unit_sram}
 use Rattle.rmt_config.specs.Limits.{told, IsWithinLimits}
 use Rattle.rmt_config.proofs.LimitLaws.{KeepsLimits, limits_kept}
+use Rattle.rmt_config.specs.StageForm.{tcam_blocks}
 use Rattle.rmt_report.specs.StageUse.{use_of}
 use Rattle.rmt_report.specs.Report.{stage_report, report_of}
 use Rattle.rmt_report.specs.Fits.{StageFits}
@@ -29,7 +30,7 @@ told_exactly sum most fits small = omega (arith, fits, small)
 -- each sum of each stage is within its limit
 fit_together : (stages : List Stage)
     → AllByRecursion (λ (s : Stage). length (flat_map unit_sram s.units) ≤ 106) stages
-    → AllByRecursion (λ (s : Stage). length (flat_map unit_tcam s.units) ≤ 16) stages
+    → AllByRecursion (λ (s : Stage). length (flat_map tcam_blocks s.units) ≤ 16) stages
     → AllByRecursion (λ (s : Stage). count_by is_slot s.units ≤ 16) stages
     → AllByRecursion (λ (s : Stage). sum_by unit_instructions s.units ≤ 32) stages
     → AllByRecursion (λ (s : Stage). sum_by unit_data s.units ≤ 1280) stages

@@ -3,7 +3,8 @@ use Rattle.std.specs.Prelude.{length}
 use Rattle.std.specs.List.{flat_map, count_by, sum_by}
 use Rattle.rmt_config.specs.Instructions.{unit_instructions}
 use Rattle.rmt_config.specs.declared.config.Stage.{Stage}
-use Rattle.rmt_config.specs.Resources.{is_slot, is_gate, unit_data, unit_sram, unit_tcam, exact_words, ternary_words, crossbar_bits}
+use Rattle.rmt_config.specs.Resources.{is_slot, is_gate, unit_data, unit_sram, exact_words, ternary_words, crossbar_bits}
+use Rattle.rmt_config.specs.StageForm.{tcam_blocks}
 use Rattle.rmt_report.specs.declared.stage_use.StageUse.{StageUse}
 
 -- blocks as often as units list them, crossbar words each once, and the sums of units, instructions and data bits
@@ -16,6 +17,6 @@ use_of stage = record {
   slots = count_by is_slot stage.units;
   sram = length (flat_map unit_sram stage.units);
   start = stage.start;
-  tcam = length (flat_map unit_tcam stage.units);
+  tcam = length (flat_map tcam_blocks stage.units);
   ternary_bits = crossbar_bits ternary_words stage.units;
 }

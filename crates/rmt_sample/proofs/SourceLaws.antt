@@ -1,5 +1,5 @@
 -- What is read from the trees of a sample's program.
-use Rattle.std.proofs.Common.{◌≡◌, ◌∙◌, ℕ, List, [], ◌∷◌, map, Some, None}
+use Rattle.std.proofs.Common.{◌≡◌, ◌∙◌, ℕ, List, [], ◌∷◌, Some}
 use Rattle.rmt_syntax.specs.declared.tree.Tree.{Tree, One, Many}
 use Rattle.rmt_syntax.specs.declared.tree.Rule.TheVariants as rule
 use Rattle.rmt_check.specs.declared.source.ActionText.{ActionText}
@@ -7,7 +7,7 @@ use Rattle.rmt_check.specs.declared.source.HeaderText.{HeaderText}
 use Rattle.rmt_check.specs.declared.source.NodeText.{NodeText}
 use Rattle.rmt_check.specs.declared.source.Source.{Source}
 use Rattle.rmt_check.specs.declared.source.TableText.{TableText}
-use Rattle.rmt_check.specs.Reading.{action_text, added, all_added, header_text, source_of, table_text}
+use Rattle.rmt_check.specs.Reading.{action_text, header_text, source_of, table_text, control_text}
 use Rattle.rmt_check.proofs.ReadingLaws.{added_is, added_one, many, one}
 use Rattle.rmt_sample.proofs.Forests.{trees}
 use Rattle.rmt_sample.proofs.ProgramForest.{sign, tree}
@@ -32,10 +32,7 @@ table_macs_is n column = simp (many, one)
 table_hosts_is : (n column : ℕ) → table_text (trees (forest.table_hosts n column)) ≡ text.table_hosts n column
 table_hosts_is n column = simp (many, one)
 
-abbrev nodes_text : List Tree → List NodeText
-nodes_text ts = all_added (map added ts) None []
-
-nodes_are : nodes_text (trees forest.control) ≡ text.nodes
+nodes_are : control_text (trees forest.control) ≡ text.nodes
 nodes_are = simp (many, one, added_is, added_one)
 
 -- of two headers, two actions, two tables and a control
@@ -44,7 +41,7 @@ source_with a b c d e f nodes = record { headers = a ∷ b ∷ []; metas = []; a
 
 parts_are : (a b c d e f g : List Tree)
     → source_of (Many rule.Program (Many rule.Header a ∷ Many rule.Header b ∷ Many rule.Action c ∷ Many rule.Action d ∷ Many rule.Table e ∷ Many rule.Table f ∷ Many rule.Control g ∷ One (sign 8 1 []) ∷ []))
-    ≡ source_with (header_text a) (header_text b) (action_text c) (action_text d) (table_text e) (table_text f) (nodes_text g)
+    ≡ source_with (header_text a) (header_text b) (action_text c) (action_text d) (table_text e) (table_text f) (control_text g)
 parts_are a b c d e f g = simp (many, one)
 
 same : {a b c d e f g h i j k l m n : _} → a ≡ b → c ≡ d → e ≡ f → g ≡ h → i ≡ j → k ≡ l → m ≡ n → source_with a c e g i k m ≡ source_with b d f h j l n

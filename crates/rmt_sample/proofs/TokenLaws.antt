@@ -4,10 +4,11 @@ use Rattle.std.specs.Prelude.{◌==◌, ◌&&◌, ◌||◌, nat_lt, slice_index,
 use Rattle.std.specs.Fmt.{decimal}
 use Rattle.std.specs.List.{list_all, take_while}
 use Rattle.std.proofs.lemmas.Bool.{and_left, and_parts, and_right, cond-false, cond-true, lt-leb, lt-ltb, ne_eqb, or_from}
+use Rattle.rmt_ast.specs.NameForm.{is_letter, is_name_byte}
 use Rattle.rmt_lexer.specs.declared.item.Item.TheVariants as item
 use Rattle.rmt_lexer.specs.declared.position.Position.{Position}
 use Rattle.rmt_lexer.specs.declared.token.TokenKind.TheVariants as kind
-use Rattle.rmt_lexer.specs.Text.{behind, first_place, is_comment, is_letter, is_space, item_of, is_name_byte, number_item, read_item, reading, tokens_of, with_front}
+use Rattle.rmt_lexer.specs.Text.{behind, first_place, is_comment, is_space, item_of, number_item, read_item, reading, tokens_of, with_front}
 use Rattle.rmt_sample.specs.Texts.{before_size, behind_sizes, between_sizes, program_text}
 use Rattle.rmt_bits.specs.Digits.{is_digit, is_hex_number, number_of_digits}
 use Rattle.rmt_bits.proofs.DigitLaws.{IsDigit-from, Says, Says-decimal}

@@ -6,7 +6,7 @@ mod Faults
 mod Forests
 mod Frames
 mod Fronts
-mod Machine
+pub mod Machine
 pub mod MarkLaws
 mod Operands
 mod Produce

@@ -11,26 +11,21 @@ use Rattle.std.proofs.lemmas.List.Kept.{AllPairs-cons}
 use Rattle.std.proofs.lemmas.Option.{same_Some, slice_get_within}
 use Rattle.rmt_bits.proofs.ListLaws.{slice_get-front, slice_get-more, slice_get-pushed, slice_get-set_other, slice_get-set_same}
 use Rattle.rmt_bits.proofs.PairLaws.{AllPairs-head, AllPairs-none, AllPairs-tail}
+use Rattle.rmt_bits.specs.Members.{is_among}
 use Rattle.rmt_ast.specs.declared.entry.Entry.{Entry}
 use Rattle.rmt_ast.specs.declared.names.Names.{Names}
 use Rattle.rmt_ast.specs.Changes.{list_of}
 use Rattle.rmt_ast.specs.EntryLists.{AreEntriesAt, Terms}
 use Rattle.rmt_ast.specs.NameRules.{AreEntriesOf, terms_named}
 use Rattle.rmt_config.specs.NamesForm.{by_number, with_entry}
+use Rattle.rmt_pack.proofs.SortedLaws.{IsBelow, Differ}
 use Rattle.rmt_lists.specs.declared.lists.Changes.{Changes}
 use Rattle.rmt_update.specs.After.{AreOrders, left_of, with_come, without_gone}
 use Rattle.rmt_book.specs.Numbered.{IsNew, IsOrder}
 use Rattle.rmt_update.specs.Planned.{changed_list, changed_lists}
-use Rattle.rmt_lists.specs.Running.{is_among}
 use Rattle.rmt_book.specs.Seen.{HaveNumbers}
 use Rattle.rmt_update.proofs.SeenLaws.{number-new, numbers-front}
 use Rattle.rmt_update.proofs.TableRules.{entries-at}
-
-abbrev Differ : Entry → Entry → Type 0
-Differ a b = a.number ≢ b.number
-
-abbrev Below : Entry → Entry → Type 0
-Below a b = a.number < b.number
 
 -- ---- entries that rise by number have numbers of their own
 
@@ -42,24 +37,24 @@ above-all P e (o ∷ os) all = by (nat_lt o.number e.number) all (above-all P e 
     by true h rest = let r = rest (All-tail P o (with_entry e os) h) in (r.0, All-cons P o os (All-head P o (with_entry e os) h) r.1)
     by false h rest = (All-head P e (o ∷ os) h, All-tail P e (o ∷ os) h)
 
-with-rises : (e : Entry) (os : List Entry) → AllPairs Below (with_entry e os) → AllPairs Below os × IsNew e.number os
-with-rises e [] rise = (AllPairs-none Below, All-nil (λ (x : Entry). e.number ≢ x.number))
+with-rises : (e : Entry) (os : List Entry) → AllPairs IsBelow (with_entry e os) → AllPairs IsBelow os × IsNew e.number os
+with-rises e [] rise = (AllPairs-none IsBelow, All-nil (λ (x : Entry). e.number ≢ x.number))
 with-rises e (o ∷ os) rise = by (nat_lt o.number e.number) rise (with-rises e os)
   where
-    by : (b : Bool) → AllPairs Below (cond b (o ∷ with_entry e os) (e ∷ o ∷ os)) → (AllPairs Below (with_entry e os) → AllPairs Below os × IsNew e.number os)
-        → AllPairs Below (o ∷ os) × IsNew e.number (o ∷ os)
+    by : (b : Bool) → AllPairs IsBelow (cond b (o ∷ with_entry e os) (e ∷ o ∷ os)) → (AllPairs IsBelow (with_entry e os) → AllPairs IsBelow os × IsNew e.number os)
+        → AllPairs IsBelow (o ∷ os) × IsNew e.number (o ∷ os)
     by true h rest =
-        let r = rest (AllPairs-tail Below o (with_entry e os) h) in
-        let above = above-all (Below o) e os (AllPairs-head Below o (with_entry e os) h) in
+        let r = rest (AllPairs-tail IsBelow o (with_entry e os) h) in
+        let above = above-all (IsBelow o) e os (AllPairs-head IsBelow o (with_entry e os) h) in
         let less = above.0 in
-        (AllPairs-cons Below o os above.1 r.0, All-cons (λ (x : Entry). e.number ≢ x.number) o os (λ same. absurd (omega (arith, same, less))) r.1)
+        (AllPairs-cons IsBelow o os above.1 r.0, All-cons (λ (x : Entry). e.number ≢ x.number) o os (λ same. absurd (omega (arith, same, less))) r.1)
     by false h rest = (
-      AllPairs-tail Below e (o ∷ os) h,
-      All-weaker (Below e) (λ (x : Entry). e.number ≢ x.number) (λ x less same. absurd (omega (arith, less, same))) (o ∷ os) (AllPairs-head Below e (o ∷ os) h),
+      AllPairs-tail IsBelow e (o ∷ os) h,
+      All-weaker (IsBelow e) (λ (x : Entry). e.number ≢ x.number) (λ x less same. absurd (omega (arith, less, same))) (o ∷ os) (AllPairs-head IsBelow e (o ∷ os) h),
     )
 
-fold-have : (es acc : List Entry) → AllPairs Below (fold (λ sorted e. with_entry e sorted) acc es)
-    → AllPairs Below acc × HaveNumbers es × All (λ (x : Entry). IsNew x.number acc) es
+fold-have : (es acc : List Entry) → AllPairs IsBelow (fold (λ sorted e. with_entry e sorted) acc es)
+    → AllPairs IsBelow acc × HaveNumbers es × All (λ (x : Entry). IsNew x.number acc) es
 fold-have [] acc rise = (rise, AllPairs-none Differ, All-nil (λ (x : Entry). IsNew x.number acc))
 fold-have (e ∷ es) acc rise =
     let r = fold-have es (with_entry e acc) rise in
@@ -71,7 +66,7 @@ fold-have (e ∷ es) acc rise =
           (All-weaker (λ (x : Entry). IsNew x.number (with_entry e acc)) (λ (x : Entry). IsNew x.number acc) (λ x new. (above-all (λ (y : Entry). x.number ≢ y.number) e acc new).1) es r.2),
     )
 
-pub numbers-from-rising : (es : List Entry) → AllPairs Below (by_number es) → HaveNumbers es
+pub numbers-from-rising : (es : List Entry) → AllPairs IsBelow (by_number es) → HaveNumbers es
 numbers-from-rising es rise = (fold-have es [] rise).1
 
 -- ---- the lists behind a commit
@@ -101,8 +96,8 @@ after-have names lists ch formed n lt =
     (by (terms_named names n)
     (subst (λ es. AreEntriesAt n es (terms_named names n)) (changed-list lists ch n lt) (entries-at names (changed_lists lists ch) n formed (omega (arith, lt, long)))))
   where
-    by : (o : Option Terms) → AreEntriesAt n (by_number (with_come (left_of ch.gone lists) ch.come n)) o → AllPairs Below (by_number (with_come (left_of ch.gone lists) ch.come n))
-    by None none = subst (AllPairs Below) (sym none) (AllPairs-none Below)
+    by : (o : Option Terms) → AreEntriesAt n (by_number (with_come (left_of ch.gone lists) ch.come n)) o → AllPairs IsBelow (by_number (with_come (left_of ch.gone lists) ch.come n))
+    by None none = subst (AllPairs IsBelow) (sym none) (AllPairs-none IsBelow)
     by (Some t) are = are.rising
 
 map-from : (ch : Changes) (all : List (List Entry)) (k : ℕ) (xs : List (List Entry)) → ((i : ℕ) → list_of all (k + i) ≡ list_of xs i)

@@ -4,10 +4,10 @@ use Rattle.std.specs.Prelude.{All, AllPairs, IfSome, Vec, find, slice_get}
 use Rattle.std.specs.Global.{Global}
 use Rattle.std.specs.List.{AllZip, range_with_len}
 use Rattle.std.proofs.lemmas.Bool.{eq-eqb, eqb-true, false≢true, ne_eqb}
-use Rattle.std.proofs.lemmas.List.Elements.{All-cons, All-nil}
 use Rattle.std.proofs.lemmas.Option.{none-some, same_Some}
 use Rattle.rmt_bits.proofs.FunctionLaws.{funext}
 use Rattle.rmt_bits.proofs.ListLaws.{AllZip-slice_get, find-passes}
+use Rattle.rmt_bits.proofs.AllLaws.{All-from_items}
 use Rattle.rmt_ast.specs.declared.entry.Entry.{Entry}
 use Rattle.rmt_ast.specs.declared.names.Names.{Names}
 use Rattle.rmt_ast.specs.declared.names.TableName.{TableName}
@@ -42,10 +42,6 @@ use Rattle.rmt_update.proofs.TableRules.{entries-at, own-table, terms-found}
 use Rattle.rmt_update.proofs.ZipLaws.{zip-length, zip-made}
 
 -- ---- tables with other parts
-
-pub all-at : {X : Type 0} (P : X → Type 0) (xs : List X) → ((i : ℕ) (x : X) → slice_get xs i ≡ Some x → P x) → All P xs
-all-at P [] each = All-nil P
-all-at P (x ∷ xs) each = All-cons P x xs (each 0 x refl) (all-at P xs (λ i y at. each (suc i) y at))
 
 pub with-names : (ts : List TableCells) (vs : List (Vec PartCells Global)) → map (λ (t : TableCells). t.name) (with_parts ts vs) ≡ map (λ (t : TableCells). t.name) ts
 with-names [] vs = refl
@@ -162,14 +158,14 @@ module _ (c : Config) (names : Names) (cells : RunCells) (before : List (List En
       (λ i t v at_t at_v. table-holds c names cells seed after spots many filled_so b.tables.items own-tables formed t (table-at i t at_t) (was-holds c cells before b stands i t at_t) v.items (moved-at i t v at_t at_v))
 
   holds-all : All (HoldsTable c (with_version next seed)) (with_parts b.tables.items moved)
-  holds-all = all-at (HoldsTable c (with_version next seed)) (with_parts b.tables.items moved) (λ i u at.
+  holds-all = All-from_items (HoldsTable c (with_version next seed)) (with_parts b.tables.items moved) (λ i u at.
       let w = with-at (λ t (v : Vec PartCells Global). IsMoved after spots t v.items) b.tables.items moved i u all at in
       subst (HoldsTable c (with_version next seed)) (sym w.is)
       (table-holds c names cells seed after spots many filled_so b.tables.items own-tables formed w.table (table-at i w.table w.in_tables) (was-holds c cells before b stands i w.table w.in_tables) w.parts.items
       (moved-at i w.table w.parts w.in_tables w.in_parts)))
 
   readable-all : (odd : Bool) → All (IsReadable odd) (with_parts b.tables.items moved)
-  readable-all odd = all-at (IsReadable odd) (with_parts b.tables.items moved) (λ i u at.
+  readable-all odd = All-from_items (IsReadable odd) (with_parts b.tables.items moved) (λ i u at.
       let w = with-at (λ t (v : Vec PartCells Global). IsMoved after spots t v.items) b.tables.items moved i u all at in
       let f = table-at i w.table w.in_tables in
       let h = was-holds c cells before b stands i w.table w.in_tables in

@@ -4,6 +4,7 @@ use Rattle.std.specs.Prelude.{Contains, sum}
 use Rattle.std.proofs.lemmas.Bool.{false≢true}
 use Rattle.std.proofs.lemmas.Option.{none-some, same_Some}
 use Rattle.rmt_bits.proofs.MemberLaws.{Contains-first, Contains-later}
+use Rattle.rmt_bits.specs.Members.{is_among}
 use Rattle.rmt_ast.specs.declared.names.TableName.{TableName}
 use Rattle.rmt_ast.specs.declared.program.Kind.{Kind}
 use Rattle.rmt_ast.specs.declared.program.Kind.TheVariants as kind
@@ -20,7 +21,6 @@ use Rattle.rmt_book.specs.declared.spot.BookSpot.{BookSpot}
 use Rattle.rmt_book.specs.Coming.{HasSizes}
 use Rattle.rmt_book.specs.Kept.{HasBytes, mask_bytes}
 use Rattle.rmt_update.specs.NextKept.{bit_of}
-use Rattle.rmt_lists.specs.Running.{is_among}
 use Rattle.rmt_book.specs.Seen.{is_seen}
 use Rattle.rmt_book.specs.Told.{is_whole}
 use Rattle.rmt_update.specs.Turning.{AreLike, come_to, is_spot, left_kept}

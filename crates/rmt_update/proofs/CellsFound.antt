@@ -14,19 +14,17 @@ use Rattle.rmt_ast.specs.declared.names.Names.{Names}
 use Rattle.rmt_ast.specs.declared.names.TableName.{TableName}
 use Rattle.rmt_ast.specs.NameRules.{rise}
 use Rattle.rmt_config.specs.declared.config.Config.{Config}
-use Rattle.rmt_config.specs.declared.config.Memory.{Memory}
-use Rattle.rmt_config.specs.declared.config.Memory.TheVariants.{Without, Exact, Ternary}
 use Rattle.rmt_config.specs.declared.config.SlotUnit.{SlotUnit}
 use Rattle.rmt_config.specs.declared.config.Stage.{Stage}
 use Rattle.rmt_config.specs.declared.config.Unit.{Unit}
 use Rattle.rmt_config.specs.declared.config.Unit.TheVariants.{Slot}
 use Rattle.rmt_config.specs.Cells.{cells_in}
 use Rattle.rmt_config.specs.Commits.{IsCell}
-use Rattle.rmt_config.specs.Life.{has_memory}
 use Rattle.rmt_config.specs.NamesForm.{is_named}
 use Rattle.rmt_config.specs.Rooms.{PartAt, parts_of}
 use Rattle.rmt_config.specs.RunCells.{RunCells, slot_at}
 use Rattle.rmt_config.specs.TableForm.{Placed, placed_from, placed_units}
+use Rattle.rmt_config.proofs.MemoryLaws.{has_cells}
 use Rattle.rmt_pack.proofs.PartLaws.{part_of_slot}
 use Rattle.rmt_pack.proofs.RoomLaws.{PartAtPlace, part_at_place}
 use Rattle.rmt_update.specs.declared.book.Book.{Book}
@@ -99,11 +97,6 @@ units-there (x ∷ stages) a (suc i) stage u is there =
     let one : a + 1 + i ≡ a + suc i = omega arith in
     subst (λ n. Contains (placed_from a (x ∷ stages)) (record { stage = n; unit = u })) one
     (Contains-append_right (map (λ (v : Unit). record { stage = a; unit = v }) x.units) (placed_from (a + 1) stages) (record { stage = a + 1 + i; unit = u }) (units-there stages (a + 1) i stage u is there))
-
-pub has-cells : (m : Memory) (n : ℕ) → n < cells_in m → has_memory m ≡ true
-has-cells Without n lt = absurd (omega (arith, lt))
-has-cells (Exact k p d w ks rs cs) n lt = refl
-has-cells (Ternary d ks rs cs) n lt = refl
 
 -- ---- the cells of a book
 
@@ -244,7 +237,7 @@ module _ (c : Config) (cells : RunCells) (lists : List (List Entry)) (b : Book) 
           All-contains (λ (x : Placed). is_named own_names x.unit ≡ true) (placed_units c) (record { stage = 0 + k; unit = Slot slot })
           (All-from_test (λ (x : Placed). is_named own_names x.unit ≡ true) (λ (x : Placed). is_named own_names x.unit) (λ x e. e) (placed_units c) all-named) unit in
           let any : list_any (λ (t : TableName). t.node == slot.node) own_names.tables ≡ true =
-          sym (ap (λ h. not h || list_any (λ (t : TableName). t.node == slot.node) own_names.tables) (has-cells slot.memory n lt)) ∙ named in
+          sym (ap (λ h. not h || list_any (λ (t : TableName). t.node == slot.node) own_names.tables) (has_cells slot.memory n lt)) ∙ named in
           among own_tables 0 (λ i t at. at-table slot is lt i t at) (λ i. ap (slice_get own_tables) (omega arith)) any
         where
           among : (ts : List TableCells) (a : ℕ) → ((i : ℕ) (t : TableCells) → slice_get own_tables i ≡ Some t → t.name.node ≡ slot.node → IsFound c cells own_tables k place n)

@@ -7,9 +7,11 @@ use Rattle.std.proofs.lemmas.List.Elements.{All-head, All-tail, Contains-append_
 use Rattle.std.proofs.lemmas.List.FromFn.{length-enumerate_from}
 use Rattle.std.proofs.lemmas.List.Kept.{AllPairs-filter}
 use Rattle.std.proofs.lemmas.Option.{none-some, same_Some, slice_get-get_or}
+use Rattle.std.proofs.lemmas.List.Folds.{flat_map-map}
 use Rattle.rmt_bits.proofs.AlikeLaws.{filter_all, filter_none}
 use Rattle.rmt_bits.proofs.ListLaws.{slice_get-item}
 use Rattle.rmt_bits.proofs.MemberLaws.{Contains-first, Contains-flat_map, Contains-unfilter}
+use Rattle.rmt_bits.specs.Members.{is_among}
 use Rattle.rmt_ast.specs.Changes.{list_of}
 use Rattle.rmt_ast.specs.EntryLists.{AreEntriesAt, Terms}
 use Rattle.rmt_ast.specs.NameRules.{terms_named, terms_of_name}
@@ -22,10 +24,9 @@ use Rattle.rmt_lists.specs.declared.lists.Changes.{Changes}
 use Rattle.rmt_update.specs.Come.{AreOrdered, IsRunOf, Run, come_to}
 use Rattle.rmt_update.specs.Loads.{table_of}
 use Rattle.rmt_update.specs.Planned.{changed_list, changed_lists}
-use Rattle.rmt_lists.specs.Running.{is_among}
 use Rattle.rmt_update.proofs.BookFacts.{book-tables, nodes-rising}
 use Rattle.rmt_update.proofs.ByNumberLaws.{by_number-filter, by_number-rising, to-by_number}
-use Rattle.rmt_update.proofs.NodeLists.{filter-flat, flat-map, flat-numbered, over-nodes}
+use Rattle.rmt_update.proofs.NodeLists.{filter-flat, flat-numbered, over-nodes}
 use Rattle.rmt_update.proofs.StayLaws.{come-unnumbered, count-after, node-low}
 use Rattle.rmt_update.proofs.TableRules.{entries-at, terms-found}
 use Rattle.rmt_pack.proofs.EntryLaws.{is_numbered}
@@ -96,7 +97,7 @@ module _ (w : Run) (b : Book) (ch : Changes) (run : IsRunOf b ch w) (ordered : A
       let long = count-after w b ch run ordered in
       let long2 : length after ≡ length w.lists = long_map (enumerate_from 0 w.lists) ∙ length-enumerate_from 0 w.lists in
       filter-flat new (λ (es : List Entry). es) after
-      ∙ flat-map (λ (es : List Entry). filter new es) (changed_list ch) (enumerate_from 0 w.lists)
+      ∙ flat_map-map (λ (es : List Entry). filter new es) (changed_list ch) (enumerate_from 0 w.lists)
       ∙ flat-numbered (λ x. filter new (changed_list ch x)) own 0 w.lists
       (λ i d lt n. new-listed (get_or w.lists i d) n (λ e there. Contains-flat_map (λ (es : List Entry). es) w.lists (get_or w.lists i d) e (Contains-get_or w.lists i d lt) there))
       ∙ over-nodes (λ (t : TableCells). t.name.node) own 0 (length w.lists) b.tables.items (nodes-rising w.config w.names w.cells w.lists b run.stands run.named)

@@ -1,17 +1,10 @@
 -- Whether what is kept of a cell changes in a commit that moves none.
-use Rattle.std.proofs.Common.{◌≡◌, ◌≢◌, ℕ, ◌+◌, ◌*◌, Some, None, refl, ap, inl, inr, arith}
+use Rattle.std.proofs.Common.{◌≡◌, ℕ, ◌+◌, ◌*◌, Some, None, refl, ap, inl, arith}
 use Rattle.rmt_config.specs.Cells.{Content}
 use Rattle.rmt_config.specs.Rooms.{PartAt}
 use Rattle.rmt_book.specs.declared.kept.Kept.{Kept}
 use Rattle.rmt_update.proofs.DiffLaws.{Differ}
 use Rattle.rmt_update.proofs.KeptContent.{kept_content, kept_number}
-
--- other visible bits are a change, and the same ones are none
-pub bits-differ : (p : PartAt) (k : Kept) (v : ℕ) → k.visible ≢ v → Differ p (Some k) (Some (record k { visible = v }))
-bits-differ p k v other = inl (λ same. other (from (ap (λ (x : Content). x.head) same)))
-  where
-    from : 1 + 2 * k.visible + 8 * k.code ≡ 1 + 2 * v + 8 * k.code → k.visible ≡ v
-    from e = omega (arith, e)
 
 pub bits-same : (p : PartAt) (k : Kept) (v : ℕ) → k.visible ≡ v → (kept_content p (Some k) ≡ kept_content p (Some (record k { visible = v }))) × (kept_number (Some k) ≡ kept_number (Some (record k { visible = v })))
 bits-same p k v same = (ap (λ n. kept_content p (Some (record k { visible = n }))) same, refl)
@@ -28,7 +21,3 @@ filled-differs p k = inl (λ same. no (ap (λ (x : Content). x.head) same))
   where
     no : 0 ≡ 1 + 2 * k.visible + 8 * k.code → ⊥
     no e = omega (arith, e)
-
--- or one comes in the place of another
-pub number-differs : (p : PartAt) (k x : Kept) → k.number ≢ x.number → Differ p (Some k) (Some x)
-number-differs p k x other = inr other

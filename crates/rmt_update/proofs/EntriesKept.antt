@@ -1,38 +1,33 @@
 -- Entries that are well formed for names stay so where one is added or removed.
 use Rattle.std.proofs.Common.{◌≡◌, ◌≢◌, ◌⊎◌, ℕ, zero, suc, ◌+◌, ◌<◌, ◌≤◌, ◌==◌, ◌&&◌, true, false, List, [], ◌∷◌, ◌++◌, length, map, Option, Some, None, option_map, unwrap_or, refl, sym, ap, subst, ◌∙◌, inl, inr, arith}
 use Rattle.std.specs.Prelude.{All, Contains, IsSomeAnd, find, slice_get, slice_set}
-use Rattle.std.specs.List.{AllZip, flat_map, list_all, range_with_len}
-use Rattle.std.proofs.lemmas.Bool.{and_from, and_parts, cases_eq, eqb-true, false≢true}
-use Rattle.std.proofs.lemmas.List.{length-append, length-set}
+use Rattle.std.specs.List.{flat_map, list_all, range_with_len}
+use Rattle.std.proofs.lemmas.Bool.{and_parts, cases_eq, eqb-true}
+use Rattle.std.proofs.lemmas.List.{length-set}
 use Rattle.std.proofs.lemmas.List.Elements.{All-append, All-cons, All-contains, All-contains_itself, All-map, All-nil, All-set, All-weaker}
-use Rattle.std.proofs.lemmas.List.Quantifiers.{all_pairs_push}
 use Rattle.std.proofs.lemmas.Option.{none-some, same_Some, slice_get_within}
 use Rattle.rmt_bits.proofs.AllLaws.{All-find, All-flat_map, All-from_test, All-left, All-parts, All-right}
 use Rattle.rmt_bits.proofs.ListLaws.{slice_get-item, slice_get-set_other, slice_get-set_same}
-use Rattle.rmt_bits.proofs.MemberLaws.{Contains-flat_map, Contains-item, Contains-map, list_any-Contains}
+use Rattle.rmt_bits.proofs.MemberLaws.{Contains-flat_map, Contains-item, Contains-map}
 use Rattle.rmt_bits.proofs.PairLaws.{AllPairs-across, AllPairs-append, AllPairs-left, AllPairs-right}
 use Rattle.rmt_ast.specs.declared.entry.Entry.{Entry}
 use Rattle.rmt_ast.specs.declared.names.Names.{Names}
 use Rattle.rmt_ast.specs.declared.names.TableName.{TableName}
-use Rattle.rmt_ast.specs.declared.program.Kind.{Kind}
-use Rattle.rmt_ast.specs.declared.program.Kind.TheVariants as kind
-use Rattle.rmt_ast.specs.declared.program.Test.{Test}
 use Rattle.rmt_ast.specs.Answers.{entry_numbers}
-use Rattle.rmt_ast.specs.Changes.{EntryKey, Installed, added, is_keyed_by, list_of, removed, without}
-use Rattle.rmt_ast.specs.EntryLists.{AreEntriesAt, AreEntriesFor, AreTableEntries, HasKeysOnce, HasRank, IsEntry, IsPrefix, Terms}
+use Rattle.rmt_ast.specs.Changes.{EntryKey, Installed, added, list_of, removed, without, key_of_entry, is_held}
+use Rattle.rmt_ast.specs.EntryLists.{AreEntriesAt, AreEntriesFor, IsEntry, Terms}
 use Rattle.rmt_ast.specs.NameRules.{AreEntriesOf, has_fields, names_are_formed, nodes_rise, table_is_formed, table_names_differ, terms_named, terms_of_name}
 use Rattle.rmt_ast.specs.WellFormed.{AreDistinct}
 use Rattle.rmt_ast.proofs.EntryLaws.{all_without}
 use Rattle.rmt_entries.specs.Entries.{has_keys_once}
-use Rattle.rmt_pack.proofs.EntryLaws.{distinct_at, entries_without, numbered, one_rank, same_rank}
+use Rattle.rmt_pack.proofs.EntryLaws.{distinct_at, entries_without, numbered, table_added}
 use Rattle.rmt_pack.proofs.PartLaws.{and_from as some_from}
 use Rattle.rmt_update.specs.Following.{IsNextAbove}
-use Rattle.rmt_lists.specs.Running.{holds, key_of_entry}
 use Rattle.rmt_lists.proofs.FilterLaws.{numbers_of}
-use Rattle.rmt_lists.proofs.KeyLaws.{keyed_if}
 use Rattle.rmt_update.proofs.BookLaws.{name-facts}
 use Rattle.rmt_update.proofs.RoomNumbers.{slice_get-map_range}
 use Rattle.rmt_update.proofs.TableRules.{entries-at}
+use Rattle.rmt_ast.specs.declared.program.Kind.TheVariants as kind
 
 -- ---- numbers that stand once
 
@@ -127,32 +122,6 @@ module _ (names : Names) (s : Installed) (entries : AreEntriesOf names s.lists) 
 
 -- ---- an entry is added
 
--- entries with the same tests have the same key
-ranks_agree : (k : Kind) (ws : List ℕ) (e o : Entry) → has_keys_once k ≡ true → (k ≡ kind.Prefix → 1 ≤ length ws) → HasRank k ws e → HasRank k ws o → e.tests ≡ o.tests → e.rank ≡ o.rank
-ranks_agree kind.Keyless ws e o once some he ho same = absurd (false≢true once)
-ranks_agree kind.Exact ws e o once some he ho same = he.1 ∙ sym ho.1
-ranks_agree kind.Prefix ws e o once some he ho same = one_rank ws e.tests e.rank o.rank (some refl) he (subst (AllZip (IsPrefix o.rank) ws) (sym same) ho)
-ranks_agree kind.Ternary ws e o once some he ho same = absurd (false≢true once)
-
-other_tests : (n : ℕ) (t : Terms) (es : List Entry) (e : Entry) → has_keys_once t.kind ≡ true → (t.kind ≡ kind.Prefix → 1 ≤ length t.widths) → All (IsEntry n t) es → IsEntry n t e
-    → (has_keys_once t.kind && holds (key_of_entry e) es) ≡ false → All (λ (o : Entry). o.tests ≢ e.tests) es
-other_tests n t es e once some each is new =
-    All-weaker (Contains es) (λ (o : Entry). o.tests ≢ e.tests)
-    (λ o there same.
-    let own = All-contains (IsEntry n t) es o each there in
-    let rank = ranks_agree t.kind t.widths e o once some is.rank own.rank (sym same) in
-    let key : key_of_entry e ≡ key_of_entry o =
-    ap (λ (ts : List Test). record { tests = ts; rank = e.rank }) (sym same) ∙ ap (λ (m : ℕ). record { tests = o.tests; rank = m }) rank in
-    let held = list_any-Contains (is_keyed_by (key_of_entry e)) es o there (keyed_if (key_of_entry e) o key) in
-    false≢true (sym new ∙ and_from (has_keys_once t.kind) (holds (key_of_entry e) es) once held))
-    es (All-contains_itself es)
-
-keys_pushed : (k : Kind) (es : List Entry) (e : Entry) → HasKeysOnce k es → (has_keys_once k ≡ true → All (λ (o : Entry). o.tests ≢ e.tests) es) → HasKeysOnce k (es ++ e ∷ [])
-keys_pushed kind.Keyless es e once other = tt
-keys_pushed kind.Exact es e once other = all_pairs_push (λ (a b : Entry). a.tests ≢ b.tests) es e once (other refl)
-keys_pushed kind.Prefix es e once other = all_pairs_push (λ (a b : Entry). a.tests ≢ b.tests) es e once (other refl)
-keys_pushed kind.Ternary es e once other = tt
-
 -- a prefix table of names has a field
 one_field : (t : TableName) → table_is_formed t ≡ true → t.kind ≡ kind.Prefix → length t.keys ≡ 1
 one_field t formed is = eqb-true (length t.keys) 1 (ap (λ k. has_fields k t.keys) (sym is) ∙ (name-facts t formed).fields)
@@ -171,16 +140,6 @@ has_field names formed n t told is = by (find (λ (x : TableName). x.node == n) 
         let widths : length x.keys ≡ length t.widths = ap (λ (u : Terms). length u.widths) same in
         omega (arith, one, widths)
 
-table_added : (n : ℕ) (t : Terms) (es : List Entry) (e : Entry) (next : ℕ) → (t.kind ≡ kind.Prefix → 1 ≤ length t.widths) → AreTableEntries n es t → IsEntry n t e
-    → (has_keys_once t.kind && holds (key_of_entry e) es) ≡ false → length es < t.size → All (λ (o : Entry). o.number < next) es → AreTableEntries n (es ++ numbered e next ∷ []) t
-table_added n t es e next some are is new room below = record {
-  each = All-append (IsEntry n t) es (numbered e next ∷ []) are.each
-      (All-cons (IsEntry n t) (numbered e next) [] (record { table = is.table; tests = is.tests; rank = same_rank t.kind t.widths e next is.rank; action = is.action }) (All-nil (IsEntry n t)));
-  rising = all_pairs_push (λ (a b : Entry). a.number < b.number) es (numbered e next) are.rising below;
-  keys_once = keys_pushed t.kind es (numbered e next) are.keys_once (λ once. other_tests n t es e once some are.each is new);
-  within_size = let long = length-append es (numbered e next ∷ []) in omega (arith, room, long);
-}
-
 old_there : (es : List Entry) (e : Entry) (next : ℕ) → Contains es e → IsOldOrNext next es e
 old_there es e next there = inl (Contains-map (λ (x : Entry). x.number) es e there)
 
@@ -189,7 +148,7 @@ all_old next es = All-weaker (Contains es) (IsOldOrNext next es) (λ e there. ol
 
 -- an entry of its table that may be added
 pub entries_added : (names : Names) (s : Installed) (e : Entry) (t : Terms) → names_are_formed names ≡ true → AreEntriesOf names s.lists → IsNextAbove s → terms_named names e.table ≡ Some t → IsEntry e.table t e
-    → (has_keys_once t.kind && holds (key_of_entry e) (list_of s.lists e.table)) ≡ false → length (list_of s.lists e.table) < t.size → AreEntriesOf names (added s.lists (record e { number = s.next }))
+    → (has_keys_once t.kind && is_held (key_of_entry e) (list_of s.lists e.table)) ≡ false → length (list_of s.lists e.table) < t.size → AreEntriesOf names (added s.lists (record e { number = s.next }))
 entries_added names s e t formed entries above told is new room =
     entries_set names s entries above e.table (es ++ numbered e s.next ∷ []) good
     (All-append (IsOldOrNext s.next es) es (numbered e s.next ∷ []) (all_old s.next es) (All-cons (IsOldOrNext s.next es) (numbered e s.next) [] (inr refl) (All-nil (IsOldOrNext s.next es))))
@@ -201,7 +160,7 @@ entries_added names s e t formed entries above told is new room =
     good lt =
         let old = subst (AreEntriesAt e.table (list_of s.lists e.table)) told (entries-at names s.lists e.table entries lt) in
         subst (AreEntriesAt e.table (list_of s.lists e.table ++ numbered e s.next ∷ [])) (sym told)
-        (table_added e.table t (list_of s.lists e.table) e s.next (has_field names formed e.table t told) old is new room (numbers_of (λ n. n < s.next) s.lists e.table above))
+        (table_added has_keys_once refl refl e.table t (list_of s.lists e.table) e s.next (has_field names formed e.table t told) old is new room (numbers_of (λ n. n < s.next) s.lists e.table above))
 
 -- ---- an entry is removed
 

@@ -1,9 +1,9 @@
 -- How many cells change in a commit that moves none.
-use Rattle.std.proofs.Common.{◌≡◌, ◌≢◌, ◌⊎◌, ℕ, suc, ◌+◌, ◌/◌, ◌%◌, ◌≤◌, ◌==◌, ◌&&◌, ◌||◌, Bool, true, false, not, eqb, List, [], ◌∷◌, ◌++◌, length, length-append, get_or, map, Option, Some, None, refl, sym, ap, ◌∙◌, subst, inl, inr, arith}
-use Rattle.std.specs.Prelude.{All, AllPairs, Contains, nat_lt, slice_get}
+use Rattle.std.proofs.Common.{◌≡◌, ◌≢◌, ◌⊎◌, ℕ, suc, ◌+◌, ◌/◌, ◌%◌, ◌≤◌, ◌==◌, Bool, true, false, not, eqb, List, [], ◌∷◌, ◌++◌, length, length-append, get_or, map, Option, Some, None, refl, sym, ap, ◌∙◌, subst, inl, inr, arith}
+use Rattle.std.specs.Prelude.{All, AllPairs, Contains, slice_get}
 use Rattle.std.specs.Cmp.{nat_eq_equiv}
 use Rattle.std.specs.BTreeMap.{values}
-use Rattle.std.proofs.lemmas.Bool.{eqb-true, false≢true, ltb-true}
+use Rattle.std.proofs.lemmas.Bool.{eqb-true}
 use Rattle.std.proofs.lemmas.List.{length-map}
 use Rattle.std.proofs.lemmas.List.Elements.{All-contains, All-head, All-tail, Contains-append_left, Contains-append_right}
 use Rattle.std.proofs.lemmas.List.Kept.{AllPairs-cons}
@@ -13,6 +13,7 @@ use Rattle.std.proofs.lemmas.Map.Made.{length-le_from_is_member}
 use Rattle.std.proofs.lemmas.Option.{same_Some}
 use Rattle.rmt_bits.proofs.MemberLaws.{Contains-filter, Contains-flat_map, Contains-from_any, Contains-item, Contains-map, Contains-first, Contains-later, Contains-split, any_item, list_any-Contains}
 use Rattle.rmt_bits.proofs.PairLaws.{AllPairs-head, AllPairs-none, AllPairs-tail}
+use Rattle.rmt_bits.specs.Members.{is_among}
 use Rattle.rmt_ast.specs.declared.entry.Entry.{Entry}
 use Rattle.rmt_ast.specs.declared.names.Names.{Names}
 use Rattle.rmt_config.specs.declared.cell_write.CellWrite.{CellWrite}
@@ -20,6 +21,7 @@ use Rattle.rmt_config.specs.declared.config.Config.{Config}
 use Rattle.rmt_config.specs.Commits.{AreWrites, IsCell, Placed, settled, writes_before}
 use Rattle.rmt_config.specs.Rooms.{PartAt, parts_of}
 use Rattle.rmt_config.specs.RunCells.{RunCells}
+use Rattle.rmt_config.proofs.CommitLaws.{writes_apart}
 use Rattle.rmt_update.specs.declared.book.Book.{Book}
 use Rattle.rmt_book.specs.declared.kept.Kept.{Kept}
 use Rattle.rmt_update.specs.declared.book.placing.Coming.{Coming}
@@ -31,7 +33,6 @@ use Rattle.rmt_update.specs.BookStands.{BookStands, IsUsed}
 use Rattle.rmt_update.specs.Placing.{ArePlaced, IsBookSpot, TakesCell}
 use Rattle.rmt_update.specs.Planned.{MayChange}
 use Rattle.rmt_update.specs.Recent.{is_recent, recent, recent_in, recent_of}
-use Rattle.rmt_lists.specs.Running.{is_among}
 use Rattle.rmt_book.specs.Seen.{is_seen}
 use Rattle.rmt_update.specs.Turning.{left_kept}
 use Rattle.rmt_update.proofs.CellsFound.{found, kept-is, one-spot, spot-part}
@@ -42,17 +43,6 @@ use Rattle.rmt_update.proofs.PairsTold.{there-cell}
 use Rattle.rmt_update.proofs.SettledKept.{kept-next, left-stays, next_at, old-kept}
 use Rattle.rmt_update.proofs.SettledPlaces.{come-or-not, none-come}
 use Rattle.rmt_pack.proofs.FindLaws.{all_at}
-
-before-differs : (a b : CellWrite) → writes_before a b ≡ true → a.stage ≡ b.stage → a.unit ≡ b.unit → a.cell ≡ b.cell → ⊥
-before-differs a b h stage unit cell = by (nat_lt a.stage b.stage) refl (a.stage == b.stage) (nat_lt a.unit b.unit) refl (a.unit == b.unit) (nat_lt a.cell b.cell) refl h
-  where
-    by : (x : Bool) → nat_lt a.stage b.stage ≡ x → (y z : Bool) → nat_lt a.unit b.unit ≡ z → (w v : Bool) → nat_lt a.cell b.cell ≡ v → (x || (y && (z || (w && v)))) ≡ true → ⊥
-    by true e y z e2 w v e3 h = let lt = ltb-true a.stage b.stage e in omega (arith, lt, stage)
-    by false e y true e2 w v e3 h = let lt = ltb-true a.unit b.unit e2 in omega (arith, lt, unit)
-    by false e y false e2 w true e3 h = let lt = ltb-true a.cell b.cell e3 in omega (arith, lt, cell)
-    by false e true false e2 true false e3 h = false≢true h
-    by false e true false e2 false false e3 h = false≢true h
-    by false e false false e2 w false e3 h = false≢true h
 
 module _ (c : Config) (names : Names) (cells : RunCells) (lists : List (List Entry)) (ch : Changes) (b : Book) (xs : List Coming) (stands : BookStands c cells lists b) (named : c.names ≡ Some names)
     (may : MayChange c names cells lists ch) (placed : ArePlaced c names cells lists ch b.odd b.tables.items xs) where
@@ -203,7 +193,7 @@ module _ (c : Config) (names : Names) (cells : RunCells) (lists : List (List Ent
       let r = from-numbers ws (All-tail IsCause w ws all) m there in
       let before = All-contains (λ v. writes_before w v ≡ true) ws r.0 (AllPairs-head (λ a b. writes_before a b ≡ true) w ws order) r.1 in
       let cell = same-place w r.0 own r.2 (one-says own.s r.2.s own.at r.2.at own.n r.2.n own.says r.2.says (same ∙ sym r.3)) in
-      before-differs w r.0 before cell.0 cell.1 cell.2))
+      writes_apart w r.0 before cell.0 cell.1 cell.2))
       (numbers-apart ws (All-tail IsCause w ws all) (AllPairs-tail (λ a b. writes_before a b ≡ true) w ws order))
     where
       same-place : (w v : CellWrite) (h : IsCause w) (g : IsCause v) → h.s ≡ g.s → (w.stage ≡ v.stage) × (w.unit ≡ v.unit) × (w.cell ≡ v.cell)

@@ -14,11 +14,8 @@ use Rattle.rmt_ast.specs.declared.program.Kind.{Kind}
 use Rattle.rmt_ast.specs.declared.program.Kind.TheVariants as kind
 use Rattle.rmt_ast.specs.RowOrder.{goes_first}
 use Rattle.rmt_pack.proofs.RoomOrderLaws.{count_one_less, fewer_first}
+use Rattle.rmt_pack.proofs.RankLaws.{IsRowKind}
 use Rattle.rmt_book.specs.Spots.{order_by}
-
--- prefix and ternary tables have rows
-abbrev pub IsRowKind : Kind → Type 0
-IsRowKind k = (k ≡ kind.Prefix) ⊎ (k ≡ kind.Ternary)
 
 -- one is less than the other, or two are equal and a further one is less
 abbrev Less : ℕ → ℕ → ℕ → ℕ → ℕ → ℕ → Type 0

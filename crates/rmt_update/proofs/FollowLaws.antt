@@ -12,11 +12,12 @@ use Rattle.rmt_bits.proofs.ListLaws.{find-passes}
 use Rattle.rmt_bits.proofs.MemberLaws.{Contains-filter, Contains-flat_map, Contains-item, Contains-map, any_item}
 use Rattle.rmt_bits.proofs.OptionLaws.{same_Ok}
 use Rattle.rmt_bits.proofs.PairLaws.{AllPairs-none}
+use Rattle.rmt_bits.specs.Members.{is_among}
 use Rattle.rmt_ast.specs.declared.entry.Entry.{Entry}
 use Rattle.rmt_ast.specs.declared.names.Names.{Names}
 use Rattle.rmt_ast.specs.declared.names.TableName.{TableName}
 use Rattle.rmt_ast.specs.Answers.{entry_numbers}
-use Rattle.rmt_ast.specs.Changes.{Adds, Change, Installed, Removes, at_first, changed, committed, list_of, without}
+use Rattle.rmt_ast.specs.Changes.{Adds, Change, Installed, Removes, at_first, changed, committed, list_of, without, key_of_entry, is_held}
 use Rattle.rmt_ast.specs.EntryLists.{AreEntriesAt, IsEntry, Terms}
 use Rattle.rmt_ast.specs.NameRules.{AreEntriesOf, names_are_formed, terms_named}
 use Rattle.rmt_ast.proofs.EntryLaws.{all_without, next_changed}
@@ -38,15 +39,16 @@ use Rattle.rmt_config.specs.NamesForm.{by_number, entries_by_cell, entries_of_no
 use Rattle.rmt_config.specs.Rooms.{PartAt, Room, is_at, parts_of}
 use Rattle.rmt_config.specs.RunCells.{RunCells, as_slot, emptied, no_content, own_cells, slot_at, with_version}
 use Rattle.rmt_config.specs.TableForm.{Placed as PlacedUnit, node_of, placed_units}
+use Rattle.rmt_config.proofs.MemoryLaws.{has_cells}
 use Rattle.rmt_lists.specs.declared.lists.Changes.{Changes}
 use Rattle.rmt_update.specs.BookStands.{IsUsed}
 use Rattle.rmt_update.specs.Following.{AreBelow, IsNextAbove}
 use Rattle.rmt_update.specs.Planned.{MayChange, changed_lists}
-use Rattle.rmt_lists.specs.Running.{AreChanges, Running, added_to, begins, holds, is_among, key_of_entry, key_of_name, line_change, refusal_of, unless, with_entry, with_one, without_key, without_one}
+use Rattle.rmt_lists.specs.Running.{AreChanges, Running, added_to, begins, key_of_name, line_change, refusal_of, unless, with_entry, with_one, without_key, without_one}
 use Rattle.rmt_update.proofs.AfterLaws.{changed-length, changed-list}
 use Rattle.rmt_update.proofs.BookLaws.{names-fit}
 use Rattle.rmt_update.proofs.ByNumberLaws.{by_number-rising, to-by_number}
-use Rattle.rmt_update.proofs.CellsFound.{has-cells, part-there, units-there}
+use Rattle.rmt_update.proofs.CellsFound.{part-there, units-there}
 use Rattle.rmt_update.proofs.ComesLaws.{none-comes, room_for}
 use Rattle.rmt_update.proofs.EntriesKept.{entries_added, entries_removed, numbers_set}
 use Rattle.rmt_lists.proofs.FilterLaws.{Rise, list_of-past, numbers_of}
@@ -122,7 +124,7 @@ module _ (c : Config) (names : Names) (formed : Formed c) (named : c.names ≡ S
       let is : is_named names (Slot slot) ≡ true =
       All-contains (λ (x : PlacedUnit). is_named names x.unit ≡ true) (placed_units c) (record { stage = 0 + k; unit = Slot slot })
       (All-from_test (λ (x : PlacedUnit). is_named names x.unit ≡ true) (λ (x : PlacedUnit). is_named names x.unit) (λ x e. e) (placed_units c) all_named) (unit_there k place slot at) in
-      let any = any_item (λ (x : TableName). x.node == slot.node) names.tables (sym (ap (λ h. not h || list_any (λ (x : TableName). x.node == slot.node) names.tables) (has-cells slot.memory n lt)) ∙ is) in
+      let any = any_item (λ (x : TableName). x.node == slot.node) names.tables (sym (ap (λ h. not h || list_any (λ (x : TableName). x.node == slot.node) names.tables) (has_cells slot.memory n lt)) ∙ is) in
       find-some (λ (x : TableName). x.node == slot.node) names.tables any.0 any.1 any.2
 
   node_below : (k place : ℕ) (slot : SlotUnit) → slot_at c k place ≡ Some slot → slot.node < node_count_of c
@@ -266,8 +268,9 @@ module _ (names : Names) (s : Installed) (changes : List Change) (ch : Changes) 
   abbrev after : List (List Entry)
   after = (committed s changes).lists
 
-  same_lists : AreEntriesOf names (committed s changes).lists → changed_lists s.lists ch ≡ (committed s changes).lists
-  same_lists entries = lists_same (changed_lists s.lists ch) after (changed-length s.lists ch ∙ sym (committed_length s changes)) at
+  -- what the changes of a commit make of lists is what a book makes of them
+  pub lists_are : AreEntriesOf names (committed s changes).lists → changed_lists s.lists ch ≡ (committed s changes).lists
+  lists_are entries = lists_same (changed_lists s.lists ch) after (changed-length s.lists ch ∙ sym (committed_length s changes)) at
     where
       at : (n : ℕ) → list_of (changed_lists s.lists ch) n ≡ list_of after n
       at n = elim (cases_lt n (length s.lists)) [
@@ -310,11 +313,6 @@ module _ (names : Names) (s : Installed) (changes : List Change) (ch : Changes) 
         | inr new ↦ new
       ]
 
--- what the changes of a commit make of lists is what a book makes of them
-pub lists_are : (names : Names) (s : Installed) (changes : List Change) (ch : Changes)
-    → AreChanges s.lists (committed s changes).lists ch → AreEntriesOf names (committed s changes).lists → changed_lists s.lists ch ≡ (committed s changes).lists
-lists_are names s changes ch are entries = same_lists names s changes ch are entries
-
 -- the changes of a commit are ones that a book takes
 pub may_change : (c : Config) (names : Names) (cells : RunCells) (s : Installed) (changes : List Change) (ch : Changes) → AreBelow c cells s.next → IsNextAbove s
     → AreChanges s.lists (committed s changes).lists ch → AreEntriesOf names (committed s changes).lists → MayChange c names cells s.lists ch
@@ -334,12 +332,12 @@ may_change c names cells s changes ch below above are entries = record {
 module _ (r s : Running) (formed : IsTrue (names_are_formed r.names)) (entries : AreEntriesOf r.names r.now.lists) (above : IsNextAbove r.now) where
   one_added : (e : Entry) (t : Terms) → IsEntry e.table t e → terms_named r.names e.table ≡ Some t
       → unless (refusal_of t.kind t.size r.most r.taken (key_of_entry e) (list_of r.now.lists e.table)) (with_one r e) ≡ Ok s → AreEntriesOf s.names s.now.lists
-  one_added e t is told h = free (has_keys_once t.kind && holds (key_of_entry e) es) refl (leb t.size (length es)) refl (leb r.most r.taken) h
+  one_added e t is told h = free (has_keys_once t.kind && is_held (key_of_entry e) es) refl (leb t.size (length es)) refl (leb r.most r.taken) h
     where
       es : List Entry
       es = list_of r.now.lists e.table
 
-      free : (once : Bool) → (has_keys_once t.kind && holds (key_of_entry e) es) ≡ once → (full : Bool) → leb t.size (length es) ≡ full → (many : Bool)
+      free : (once : Bool) → (has_keys_once t.kind && is_held (key_of_entry e) es) ≡ once → (full : Bool) → leb t.size (length es) ≡ full → (many : Bool)
           → unless (cond once (Some 6) (cond full (Some 7) (cond many (Some 9) None))) (with_one r e) ≡ Ok s → AreEntriesOf s.names s.now.lists
       free true a full b many h = absurd (cc)
       free false a true b many h = absurd (cc)
@@ -361,7 +359,7 @@ module _ (r s : Running) (formed : IsTrue (names_are_formed r.names)) (entries :
 
   key_removed : (o : Result EntryName ℕ) → without_key r o ≡ Ok s → AreEntriesOf s.names s.now.lists
   key_removed (Err code) h = absurd (cc)
-  key_removed (Ok k) h = by (holds (key_of_name k) (list_of r.now.lists k.table)) h
+  key_removed (Ok k) h = by (is_held (key_of_name k) (list_of r.now.lists k.table)) h
     where
       by : (there : Bool) → cond {A = Result Running ℕ} there (Ok (without_one r k.table (key_of_name k))) (Err 8) ≡ Ok s → AreEntriesOf s.names s.now.lists
       by false h = absurd (cc)
@@ -402,7 +400,7 @@ module _ (r s : Running) (above : IsNextAbove r.now) where
 
   above_key : (o : Result EntryName ℕ) → without_key r o ≡ Ok s → IsNextAbove s.now
   above_key (Err code) h = absurd (cc)
-  above_key (Ok k) h = above_removed k (holds (key_of_name k) (list_of r.now.lists k.table)) h
+  above_key (Ok k) h = above_removed k (is_held (key_of_name k) (list_of r.now.lists k.table)) h
 
   above_line : (text : List ℕ) → line_change r text ≡ Ok s → IsNextAbove s.now
   above_line text h = by (leb 18444 (length text)) (begins 43 text) h

@@ -9,6 +9,7 @@ use Rattle.std.proofs.lemmas.Bool.{eq-eqb, eqb-true, false≢true, false_from_ne
 use Rattle.std.proofs.lemmas.List.{length-set}
 use Rattle.std.proofs.lemmas.Option.{none-some, same_Some, slice_get_within}
 use Rattle.rmt_bits.proofs.ListLaws.{AllZip-slice_get, slice_get-set_other, slice_get-set_same, take-slice_get}
+use Rattle.rmt_bits.specs.Members.{is_among}
 use Rattle.rmt_ast.specs.RankPairs.{pair_cmp}
 use Rattle.rmt_ast.specs.declared.program.Kind.{Kind}
 use Rattle.rmt_update.specs.declared.book.book_index.BookIndex.{BookIndex}
@@ -22,7 +23,6 @@ use Rattle.rmt_book.specs.declared.table.TableCells.{TableCells}
 use Rattle.rmt_update.specs.BookIndex.{AreApart, FindsCells}
 use Rattle.rmt_book.specs.BookSpots.{kept_at, kept_in}
 use Rattle.rmt_update.specs.RowIndex.{AreRows, HaveOwnRows, IsIndex, IsRowGone, kept_key, or_is, rows_of}
-use Rattle.rmt_lists.specs.Running.{is_among}
 use Rattle.rmt_book.specs.Seen.{is_seen}
 use Rattle.rmt_book.specs.Spots.{spot_from}
 use Rattle.rmt_update.specs.Turning.{IsSpotIn}

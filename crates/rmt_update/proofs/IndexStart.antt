@@ -12,6 +12,7 @@ use Rattle.std.proofs.lemmas.Option.{same_Some, slice_get-get_or, slice_get_with
 use Rattle.rmt_bits.proofs.AllLaws.{All-slice_get}
 use Rattle.rmt_bits.proofs.ListLaws.{slice_get-item}
 use Rattle.rmt_bits.proofs.MemberLaws.{any_item, from_flat_map}
+use Rattle.rmt_bits.specs.Members.{is_among}
 use Rattle.rmt_ast.specs.Changes.{list_of}
 use Rattle.rmt_ast.specs.EntryLists.{AreEntriesAt, HasRank, IsEntry, IsPrefix, Terms}
 use Rattle.rmt_ast.specs.NameRules.{has_fields, table_is_formed, terms_named, terms_of_name}
@@ -22,7 +23,6 @@ use Rattle.rmt_ast.specs.declared.names.TableName.{TableName}
 use Rattle.rmt_ast.specs.declared.program.Kind.{Kind}
 use Rattle.rmt_ast.specs.declared.program.Kind.TheVariants as kind
 use Rattle.rmt_ast.specs.declared.program.Test.{Test}
-use Rattle.rmt_config.specs.declared.config.Config.{Config}
 use Rattle.rmt_config.specs.Cells.{cells_in}
 use Rattle.rmt_config.specs.Commits.{Placed, all_entries, is_free}
 use Rattle.rmt_config.specs.NamesForm.{each_later, has_order}
@@ -43,7 +43,6 @@ use Rattle.rmt_update.specs.Placing.{IsBookSpot, StaysAt, room_of}
 use Rattle.rmt_update.specs.Planned.{changed_lists}
 use Rattle.rmt_update.specs.RowIndex.{AreRows, Stays, has_rows, kept_key, rows_of}
 use Rattle.rmt_book.specs.RowOrder.{AreInOrder, entry_key}
-use Rattle.rmt_lists.specs.Running.{is_among}
 use Rattle.rmt_book.specs.Seen.{IsReadable, entries_by_part}
 use Rattle.rmt_book.specs.Told.{told_entry}
 use Rattle.rmt_update.proofs.BookFacts.{found-there, kept-facts, own-there, spot-facts, table-held}
@@ -106,9 +105,6 @@ order-later kind.Ternary es rowed h = h
 -- ---- a table
 
 module _ (w : Run) (b : Book) (ch : Changes) (run : IsRunOf b ch w) (ordered : All AreOrdered b.tables.items) (at : ℕ) (x : TableCells) (at_x : slice_get b.tables.items at ≡ Some x) where
-  abbrev c_of : Config
-  c_of = w.config
-
   abbrev node : ℕ
   node = x.name.node
 

@@ -1,5 +1,5 @@
 -- The order that entries keep that come to a table, one after another.
-use Rattle.std.proofs.Common.{◌≡◌, ◌⊎◌, ℕ, zero, suc, ◌<◌, ◌==◌, ◌||◌, Bool, true, false, not, ◌&&◌, List, [], ◌∷◌, ◌++◌, append_assoc, drop, get_or, length, length-append, map, Option, Some, None, option_map, refl, sym, ap, ◌∙◌, subst, inl, inr, arith}
+use Rattle.std.proofs.Common.{◌≡◌, ◌⊎◌, ℕ, zero, suc, ◌<◌, ◌==◌, ◌||◌, true, not, ◌&&◌, List, [], ◌∷◌, ◌++◌, append_assoc, drop, get_or, length, length-append, map, Option, Some, None, option_map, refl, sym, ap, ◌∙◌, subst, inl, inr, arith}
 use Rattle.std.specs.Prelude.{Contains, fold, option_and_then, slice_get}
 use Rattle.std.proofs.lemmas.Bool.{and_parts, eq-eqb}
 use Rattle.std.proofs.lemmas.List.{append-nil, length-map}
@@ -8,6 +8,7 @@ use Rattle.std.proofs.lemmas.Option.{none-some, same_Some}
 use Rattle.rmt_bits.proofs.AllLaws.{All-from_test}
 use Rattle.rmt_bits.proofs.ListLaws.{find-passes}
 use Rattle.rmt_bits.proofs.MemberLaws.{Contains-first}
+use Rattle.rmt_bits.proofs.TestLaws.{then_so}
 use Rattle.rmt_ast.specs.declared.entry.Entry.{Entry}
 use Rattle.rmt_ast.specs.declared.names.Names.{Names}
 use Rattle.rmt_ast.specs.declared.program.Kind.{Kind}
@@ -23,13 +24,6 @@ use Rattle.rmt_update.proofs.ComesLaws.{comes, none-comes, room_for}
 -- two entries of a table stand in their order
 abbrev pub InOrder : Kind → Placed → Placed → Type 0
 InOrder k p q = p.entry.table ≡ q.entry.table → (goes_first k p.entry q.entry ≡ true → is_before p.room q.room ≡ true) × (goes_first k q.entry p.entry ≡ true → is_before q.room p.room ≡ true)
-
-implied : (a b : Bool) → (not a || b) ≡ true → a ≡ true → b ≡ true
-implied true b h e = h
-implied false b h e = absurd (none e)
-  where
-    none : false ≡ true → ⊥
-    none e = cc
 
 split-same : {X : Type 0} (xs ys zs ws : List X) → xs ++ ys ≡ zs ++ ws → length ys ≡ length ws → (xs ≡ zs) × (ys ≡ ws)
 split-same [] ys [] ws e len = (refl, e)
@@ -91,8 +85,8 @@ module _ (c : Config) (names : Names) (cells : RunCells) where
       (All-from_test (λ (z : Placed). (not (z.entry.table == q.entry.table) || ((not (goes_first t.kind z.entry q.entry) || is_before z.room q.room) && (not (goes_first t.kind q.entry z.entry) || is_before q.room z.room))) ≡ true)
       (λ (z : Placed). not (z.entry.table == q.entry.table) || ((not (goes_first t.kind z.entry q.entry) || is_before z.room q.room) && (not (goes_first t.kind q.entry z.entry) || is_before q.room z.room)))
       (λ z e. e) ps own) there in
-      let two = and_parts _ _ (implied (p.entry.table == q.entry.table) _ one (eq-eqb p.entry.table q.entry.table table)) in
-      (implied (goes_first t.kind p.entry q.entry) (is_before p.room q.room) two.0, implied (goes_first t.kind q.entry p.entry) (is_before q.room p.room) two.1)
+      let two = and_parts _ _ (then_so (p.entry.table == q.entry.table) _ one (eq-eqb p.entry.table q.entry.table table)) in
+      (then_so (goes_first t.kind p.entry q.entry) (is_before p.room q.room) two.0, then_so (goes_first t.kind q.entry p.entry) (is_before q.room p.room) two.1)
   keep-at (x ∷ qs) ps keep (suc i) q t at terms p (inl there) = keep-at qs (ps ++ x ∷ []) keep.1 i q t at terms p (inl (Contains-append_left ps (x ∷ []) p there))
   keep-at (x ∷ qs) ps keep (suc i) q t at terms p (inr (zero, lt, is)) =
       keep-at qs (ps ++ x ∷ []) keep.1 i q t at terms p (inl (Contains-append_right ps (x ∷ []) p (subst (Contains (x ∷ [])) (same_Some x p is) (Contains-first x []))))

@@ -19,7 +19,6 @@ pub mod CountingLaws
 pub mod DiffLaws
 pub mod DifferLaws
 pub mod DifferenceLaws
-pub mod EncodedLaws
 pub mod EnteringLaws
 pub mod EntriesKept
 mod Examples

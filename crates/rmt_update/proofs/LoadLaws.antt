@@ -12,6 +12,7 @@ use Rattle.rmt_bits.proofs.AllLaws.{All-slice_get}
 use Rattle.rmt_bits.proofs.MemberLaws.{Contains-flat_map, Contains-item, Contains-map, Contains-unmap, flat_from}
 use Rattle.rmt_bits.proofs.PairLaws.{AllPairs-map}
 use Rattle.rmt_bits.specs.Bits.{bytes_of}
+use Rattle.rmt_bits.proofs.AlikeLaws.{filter_none, filter_all}
 use Rattle.rmt_ast.specs.declared.entry.Entry.{Entry}
 use Rattle.rmt_ast.specs.declared.names.Names.{Names}
 use Rattle.rmt_ast.specs.declared.program.Kind.{Kind}
@@ -26,6 +27,7 @@ use Rattle.rmt_config.specs.LaneForm.{bits_of_lanes}
 use Rattle.rmt_config.specs.Rooms.{PartAt, Room, is_same, key_number, parts_of, rooms_for}
 use Rattle.rmt_config.specs.BlockCounts.{divided_up}
 use Rattle.rmt_cuckoo.specs.Loading.{IsLoading, candidates as loaded_in}
+use Rattle.rmt_pack.proofs.RankLaws.{IsRowKind}
 use Rattle.rmt_update.specs.declared.book.loading.TableTried.TheVariants as table
 use Rattle.rmt_book.specs.declared.spots.Spot.{Spot}
 use Rattle.rmt_book.specs.declared.table.PartCells.{PartCells}
@@ -33,7 +35,7 @@ use Rattle.rmt_book.specs.declared.table.TableCells.{TableCells}
 use Rattle.rmt_update.specs.FirstFull.{keys_of}
 use Rattle.rmt_update.specs.Loads.{AreTables, IsTriedAt, StandBy, layout_in, table_of}
 use Rattle.rmt_book.specs.Spots.{placed_in, spot_from, spots_at}
-use Rattle.rmt_update.proofs.FirstLaws.{IsRowKind, firsts, firsts-differ, firsts-within, map-twice}
+use Rattle.rmt_update.proofs.FirstLaws.{firsts, firsts-differ, firsts-within, map-twice}
 use Rattle.rmt_update.proofs.PlacedLaws.{FitsHere, NodeStands, StandsAt, none-stand, table-stands, zip-pairs}
 use Rattle.rmt_update.proofs.RoomNumbers.{IsNumber, candidate-of, of-candidate, offset, rooms_in, row-at, spot-of}
 use Rattle.rmt_update.proofs.TableRules.{Own, all-bits, all-rows, entries-at, exact-parts, own-table, row-parts, rows-suffice, terms-found}
@@ -85,15 +87,6 @@ filter-both {X} q (x ∷ xs) ys = by (q x) (filter-both q xs ys)
     by true e = ap (λ zs. x ∷ zs) e
     by false e = e
 
-filter-all : {X : Type 0} (q : X → Bool) (xs : List X) → All (λ x. q x ≡ true) xs → filter q xs ≡ xs
-filter-all q [] all = refl
-filter-all q (x ∷ xs) all =
-    ap (λ b. cond b (x ∷ filter q xs) (filter q xs)) (All-head (λ y. q y ≡ true) x xs all) ∙ ap (λ ys. x ∷ ys) (filter-all q xs (All-tail (λ y. q y ≡ true) x xs all))
-
-filter-none : {X : Type 0} (q : X → Bool) (xs : List X) → All (λ x. q x ≡ false) xs → filter q xs ≡ []
-filter-none q [] all = refl
-filter-none q (x ∷ xs) all = ap (λ b. cond b (x ∷ filter q xs) (filter q xs)) (All-head (λ y. q y ≡ false) x xs all) ∙ filter-none q xs (All-tail (λ y. q y ≡ false) x xs all)
-
 all-filter : {X : Type 0} (P : X → Type 0) (q : X → Bool) (xs : List X) → All P xs → All (λ x. P x × (q x ≡ true)) (filter q xs)
 all-filter P q [] all = All-nil (λ x. P x × (q x ≡ true))
 all-filter {X} P q (x ∷ xs) all = by (q x) refl (all-filter P q xs (All-tail P x xs all))
@@ -116,7 +109,7 @@ own-later k es lists own m fs at = let next : k + suc m ≡ k + 1 + m = omega ar
 
 others-out : (k n : ℕ) (es : List Entry) → All (λ (e : Entry). e.table ≡ k) es → (k ≡ n → ⊥) → filter (λ (e : Entry). e.table == n) es ≡ []
 others-out k n es all ne =
-    filter-none (λ (e : Entry). e.table == n) es (All-weaker (λ (e : Entry). e.table ≡ k) (λ (e : Entry). (e.table == n) ≡ false) (λ e is. ne_eqb e.table n (λ same. ne (sym is ∙ same))) es all)
+    filter_none (λ (e : Entry). e.table == n) es (All-weaker (λ (e : Entry). e.table ≡ k) (λ (e : Entry). (e.table == n) ≡ false) (λ e is. ne_eqb e.table n (λ same. ne (sym is ∙ same))) es all)
 
 none-below : (k n : ℕ) (lists : List (List Entry)) → OwnTables k lists → n < k → filter (λ (e : Entry). e.table == n) (flat_map (λ es. es) lists) ≡ []
 none-below k n [] own lt = refl
@@ -132,7 +125,7 @@ own-from k node [] own = refl
 own-from k zero (es ∷ lists) own =
     filter-both (λ (e : Entry). e.table == k + 0) es (flat_map (λ es. es) lists)
     ∙ ap (λ xs. xs ++ filter (λ (e : Entry). e.table == k + 0) (flat_map (λ es. es) lists))
-    (filter-all (λ (e : Entry). e.table == k + 0) es (All-weaker (λ (e : Entry). e.table ≡ k + 0) (λ (e : Entry). (e.table == k + 0) ≡ true) (λ e is. eq-eqb e.table (k + 0) is) es (own 0 es refl)))
+    (filter_all (λ (e : Entry). e.table == k + 0) es (All-weaker (λ (e : Entry). e.table ≡ k + 0) (λ (e : Entry). (e.table == k + 0) ≡ true) (λ e is. eq-eqb e.table (k + 0) is) es (own 0 es refl)))
     ∙ ap (λ xs. es ++ xs) (none-below (k + 1) (k + 0) lists (own-later k es lists own) (omega arith)) ∙ append-nil es
 own-from k (suc node) (es ∷ lists) own =
     let next : k + suc node ≡ k + 1 + node = omega arith in
@@ -162,7 +155,7 @@ own-entries names lists node are =
 
 -- ---- one table
 
-is-same : (r : Room) → is_same r r ≡ true
+pub is-same : (r : Room) → is_same r r ≡ true
 is-same r =
     and_from ((r.part.stage == r.part.stage) && (r.part.place == r.part.place)) (r.cell == r.cell)
     (and_from (r.part.stage == r.part.stage) (r.part.place == r.part.place) (eq-eqb r.part.stage r.part.stage refl) (eq-eqb r.part.place r.part.place refl)) (eq-eqb r.cell r.cell refl)

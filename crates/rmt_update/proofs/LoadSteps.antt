@@ -9,7 +9,7 @@ use Rattle.std.proofs.lemmas.List.Elements.{All-contains}
 use Rattle.std.proofs.lemmas.Map.Lookups.{exact_unsigned}
 use Rattle.std.proofs.lemmas.Map.Views.{btree_map_contains_key_iff}
 use Rattle.std.proofs.lemmas.Option.{same_Some, slice_get_within}
-use Rattle.rmt_bits.proofs.AllLaws.{All-slice_get}
+use Rattle.rmt_bits.proofs.AllLaws.{All-slice_get, All-from_items}
 use Rattle.rmt_config.specs.declared.config.Stage.{Stage}
 use Rattle.std.proofs.lemmas.Cmp.{nat_cmp_total}
 use Rattle.rmt_config.specs.Cells.{cells_in}
@@ -42,7 +42,7 @@ use Rattle.rmt_update.specs.Refill.{IsMoved, SamePart, TableFits}
 use Rattle.rmt_book.specs.Seen.{entries_at}
 use Rattle.rmt_book.specs.Spots.{placed_from}
 use Rattle.rmt_update.proofs.AfterLaws.{changed-length}
-use Rattle.rmt_update.proofs.BookMoved.{all-at, long-range, next-holds, stands-moved}
+use Rattle.rmt_update.proofs.BookMoved.{long-range, next-holds, stands-moved}
 use Rattle.rmt_update.proofs.CellsFound.{are-tables, found-node, nodes-rise}
 use Rattle.rmt_update.proofs.DifferenceLaws.{NextHolds, writes-are, writes-sized}
 use Rattle.rmt_update.proofs.SpotsFit.{table-fits}
@@ -78,7 +78,7 @@ module _ (c : Config) (names : Names) (cells : RunCells) (lists : List (List Ent
     are = tables-are c names cells lists b stands named
 
     pub tables-fit : All (TableFits (changed_lists lists ch) loaded.spots) b.tables.items
-    tables-fit = all-at (TableFits (changed_lists lists ch) loaded.spots) b.tables.items (λ i t at.
+    tables-fit = All-from_items (TableFits (changed_lists lists ch) loaded.spots) b.tables.items (λ i t at.
         table-fits c names loaded.seed (changed_lists lists ch) loaded.spots is.many is.filled b.tables.items are may.formed t (found-node b.tables.items i t (nodes-rise c cells lists b stands) at))
 
     module _ (moved : List (Vec PartCells Global)) (all : AllZip (λ t (v : Vec PartCells Global). IsMoved (changed_lists lists ch) loaded.spots t v.items) b.tables.items moved) where
@@ -93,11 +93,11 @@ module _ (c : Config) (names : Names) (cells : RunCells) (lists : List (List Ent
       held = next-holds c names cells lists b stands named (changed_lists lists ch) may.formed loaded.seed loaded.spots is.many is.filled moved all
 
       pub can-change : All (λ (v : Vec PartCells Global). All CanChange v.items) moved
-      can-change = all-at (λ (v : Vec PartCells Global). All CanChange v.items) moved (λ i v at.
+      can-change = All-from_items (λ (v : Vec PartCells Global). All CanChange v.items) moved (λ i v at.
           let next = with_version (filled c names cells (placed_from c 0 (changed_lists lists ch) loaded.spots)) loaded.seed in
           let t = zip-right (NextHolds c next) b.tables.items moved i v held at in
           let own = own-table c names b.tables.items (changed_lists lists ch) t.0.name.node t.0 are (found-node b.tables.items i t.0 (nodes-rise c cells lists b stands) t.1) in
-          all-at CanChange v.items (λ j y at_y.
+          All-from_items CanChange v.items (λ j y at_y.
           let p = zip-right (HoldsPart next) (parts_of c t.0.name.node) v.items j y t.2 at_y in
           let facts = All-slice_get (PartFacts c t.0.name) (parts_of c t.0.name.node) j p.0 own.parts p.1 in
           let few_stages : length c.stages < 256 = ltb-true (length c.stages) 256 (few-stages) in

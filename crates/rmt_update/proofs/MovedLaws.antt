@@ -1,12 +1,12 @@
 -- The parts of a table with the entries that are loaded into them are the cells behind the commit, and tell just these entries.
-use Rattle.std.proofs.Common.{◌≡◌, ◌≢◌, ℕ, ◌+◌, ◌*◌, ◌/◌, ◌%◌, ◌^◌, ◌<◌, ◌==◌, Bool, true, false, List, [], ◌∷◌, length, Option, Some, None, option_map, unwrap_or, map, refl, sym, ap, ◌∙◌, subst, inl, inr, arith}
-use Rattle.std.specs.Prelude.{All, AllPairs, Contains, IsSomeAnd, slice_get}
-use Rattle.std.specs.List.{AllZip, flat_map, list_all, list_any}
+use Rattle.std.proofs.Common.{◌≡◌, ◌≢◌, ℕ, ◌+◌, ◌*◌, ◌/◌, ◌%◌, ◌^◌, ◌<◌, ◌==◌, Bool, true, false, List, [], length, Option, Some, None, option_map, unwrap_or, map, refl, sym, ap, ◌∙◌, subst, inl, inr, arith}
+use Rattle.std.specs.Prelude.{AllPairs, Contains, IsSomeAnd, slice_get}
+use Rattle.std.specs.List.{AllZip, flat_map, list_any}
 use Rattle.std.specs.BTreeMap.{get, keys}
 use Rattle.std.proofs.lemmas.Cmp.{nat_cmp_total}
 use Rattle.std.specs.Ordering.{nat_cmp}
-use Rattle.std.proofs.lemmas.Bool.{and_from, and_parts, eq-eqb}
-use Rattle.std.proofs.lemmas.List.Elements.{All-contains, All-contains_itself, All-head, All-tail, All-weaker}
+use Rattle.std.proofs.lemmas.Bool.{and_parts, eq-eqb}
+use Rattle.std.proofs.lemmas.List.Elements.{All-contains, All-contains_itself, All-weaker}
 use Rattle.std.proofs.lemmas.Map.Lookups.{exact_unsigned}
 use Rattle.std.proofs.lemmas.Map.Views.{btree_map_contains_key_iff}
 use Rattle.std.proofs.lemmas.Option.{get_or_from_slice_get, none-some, same_Some, slice_get-get_or, slice_get_within}
@@ -14,7 +14,6 @@ use Rattle.rmt_bits.proofs.ListLaws.{find-passes, slice_get-item}
 use Rattle.rmt_bits.proofs.MemberLaws.{Contains-item, list_any-Contains}
 use Rattle.rmt_bits.proofs.AllLaws.{All-slice_get}
 use Rattle.rmt_bits.proofs.OptionLaws.{IsSome-value}
-use Rattle.rmt_bits.proofs.PairLaws.{AllPairs-head, AllPairs-tail}
 use Rattle.rmt_ast.specs.declared.entry.Entry.{Entry}
 use Rattle.rmt_ast.specs.declared.names.Names.{Names}
 use Rattle.rmt_ast.specs.declared.program.Kind.{Kind}
@@ -28,7 +27,7 @@ use Rattle.rmt_config.specs.declared.config.SlotUnit.{SlotUnit}
 use Rattle.rmt_config.specs.Cells.{candidates, cells_in, is_occupied}
 use Rattle.rmt_config.specs.Commits.{AreFilled, IsFilled, Placed, filled, filled_content, placed_at}
 use Rattle.rmt_config.specs.LaneForm.{bits_of_lanes}
-use Rattle.rmt_config.specs.NamesForm.{by_number, each_later, has_order}
+use Rattle.rmt_config.specs.NamesForm.{by_number, has_order}
 use Rattle.rmt_config.specs.Rooms.{PartAt, Room, entry_content, is_at, key_number, parts_of, rooms_for}
 use Rattle.rmt_config.specs.RunCells.{RunCells, emptied, no_content, slot_at, with_version}
 use Rattle.rmt_config.specs.UnitForm.{memory_is_formed, slot_head_is_formed}
@@ -47,7 +46,7 @@ use Rattle.rmt_book.specs.Spots.{no_part, placed_from, room_at}
 use Rattle.rmt_book.specs.Told.{told_entry}
 use Rattle.rmt_book.specs.declared.shape.PartShape.{PartShape}
 use Rattle.rmt_update.proofs.CandidateLaws.{key-low}
-use Rattle.rmt_update.proofs.FirstLaws.{IsRowKind, firsts, map-twice}
+use Rattle.rmt_update.proofs.FirstLaws.{firsts, map-twice}
 use Rattle.rmt_update.proofs.LoadLaws.{table-entries}
 use Rattle.rmt_update.proofs.OncePlaced.{all-numbers, at-own, at-place, found-in, one-key, one-placed, part-once, placed-found}
 use Rattle.rmt_update.proofs.PartOrder.{IsPartOf, parts-own}
@@ -55,22 +54,14 @@ use Rattle.rmt_update.proofs.PartPairs.{IsBefore, IsCellOf, in-told, parts-pairs
 use Rattle.rmt_update.proofs.RowsInOrder.{rows-in-order}
 use Rattle.rmt_pack.proofs.SortedLaws.{by_number_is}
 use Rattle.rmt_config.proofs.LayoutLaws.{memory_formed}
+use Rattle.rmt_config.proofs.NameRuleLaws.{each_later-from}
 use Rattle.rmt_pack.proofs.RoomOrderLaws.{room_there}
+use Rattle.rmt_pack.proofs.RankLaws.{IsRowKind}
 use Rattle.rmt_update.proofs.SpotsFit.{from-placed, node-within, own, own-filled, own-placed, own-stands, spots-many, stands-in}
 use Rattle.rmt_update.proofs.TableRules.{Own, entries-at}
 use Rattle.rmt_book.proofs.ToldEntryLaws.{PartFacts}
 use Rattle.rmt_update.proofs.BytesLaws.{sizes-bytes}
 use Rattle.rmt_update.proofs.ZipLaws.{zip-left, zip-length, zip-made, zip-right}
-
--- a rule of each item with each later one
-each-later-from : {A : Type 0} (rule : A → A → Bool) (xs : List A) → AllPairs (λ a b. rule a b ≡ true) xs → each_later rule xs ≡ true
-each-later-from rule [] pairs = refl
-each-later-from {A} rule (x ∷ xs) pairs =
-    and_from (list_all (rule x) xs) (each_later rule xs) (all xs (AllPairs-head (λ a b. rule a b ≡ true) x xs pairs)) (each-later-from rule xs (AllPairs-tail (λ a b. rule a b ≡ true) x xs pairs))
-  where
-    all : (ys : List A) → All (λ y. rule x y ≡ true) ys → list_all (rule x) ys ≡ true
-    all [] h = refl
-    all (y ∷ ys) h = and_from (rule x y) (list_all (rule x) ys) (All-head (λ z. rule x z ≡ true) y ys h) (all ys (All-tail (λ z. rule x z ≡ true) y ys h))
 
 module _ (c : Config) (names : Names) (cells : RunCells) (seed : ℕ) (lists : List (List Entry)) (spots : List (List Spot)) (many : AllZip (λ (es : List Entry) (ss : List Spot). length ss ≡ length es) lists spots)
     (filled_so : AreFilled c names seed lists (placed_from c 0 lists spots)) (tables : List TableCells) (are : AreTables c names tables) (formed : AreEntriesOf names lists) where
@@ -383,9 +374,9 @@ module _ (c : Config) (names : Names) (cells : RunCells) (seed : ℕ) (lists : L
         by kind.Keyless e = refl
         by kind.Exact e = refl
         by kind.Prefix e =
-            each-later-from (goes_first kind.Prefix) (flat_map (entries_in odd x.name) ys) (subst (λ k. AllPairs (λ (a b : Entry). goes_first k a b ≡ true) (flat_map (entries_in odd x.name) ys)) e (told-order odd (inl e)))
+            each_later-from (goes_first kind.Prefix) (flat_map (entries_in odd x.name) ys) (subst (λ k. AllPairs (λ (a b : Entry). goes_first k a b ≡ true) (flat_map (entries_in odd x.name) ys)) e (told-order odd (inl e)))
         by kind.Ternary e =
-            each-later-from (goes_first kind.Ternary) (flat_map (entries_in odd x.name) ys) (subst (λ k. AllPairs (λ (a b : Entry). goes_first k a b ≡ true) (flat_map (entries_in odd x.name) ys)) e (told-order odd (inr e)))
+            each_later-from (goes_first kind.Ternary) (flat_map (entries_in odd x.name) ys) (subst (λ k. AllPairs (λ (a b : Entry). goes_first k a b ≡ true) (flat_map (entries_in odd x.name) ys)) e (told-order odd (inr e)))
 
     pub told-by-number : (odd : Bool) → by_number (flat_map (entries_in odd x.name) ys) ≡ list_of lists x.name.node
     told-by-number odd = by_number_is (flat_map (entries_in odd x.name) ys) (list_of lists x.name.node) (told-numbers odd) entries.rising (told-own odd) (own-told odd)

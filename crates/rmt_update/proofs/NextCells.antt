@@ -15,6 +15,7 @@ use Rattle.std.proofs.lemmas.Map.Views.{Contains-from_lookup, lookup-from_Contai
 use Rattle.std.proofs.lemmas.Option.{none-some, same_Some}
 use Rattle.rmt_bits.proofs.ListLaws.{AllZip-slice_get}
 use Rattle.rmt_bits.proofs.MemberLaws.{Contains-first, Contains-flat_map, Contains-item, Contains-later, Contains-split}
+use Rattle.rmt_bits.specs.Members.{is_among}
 use Rattle.rmt_config.specs.declared.cell_write.CellWrite.{CellWrite}
 use Rattle.rmt_config.specs.Commits.{writes_before}
 use Rattle.rmt_config.specs.RunCells.{is_changed}
@@ -33,7 +34,6 @@ use Rattle.rmt_update.specs.Come.{AreOrdered}
 use Rattle.rmt_book.specs.Coming.{empty_write, kept_write}
 use Rattle.rmt_update.specs.Differences.{AreDifferences, Changes, Goal, IsGoal, all_pairs, change_at, change_by, change_in, is_exact, is_same_kept, pairs_of, write_at}
 use Rattle.rmt_update.specs.NextKept.{bit_of}
-use Rattle.rmt_lists.specs.Running.{is_among}
 use Rattle.rmt_book.specs.Seen.{is_seen}
 use Rattle.rmt_update.specs.TurnWrites.{AreChanged, HaveOwnSlots, IsFresh, IsOfTables, cell_turn, change_to, key_in, turn_of}
 use Rattle.rmt_update.specs.Turning.{AreLike, AreNext, HaveCells, IsSamePart, IsSameTable, IsStill, IsStillTable, come_to, is_spot, left_kept, part_of, turned, turned_by}

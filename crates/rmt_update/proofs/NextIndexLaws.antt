@@ -10,7 +10,8 @@ use Rattle.std.proofs.lemmas.Bool.{and_parts, cases_lt, eq-eqb, eqb-true, false�
 use Rattle.std.proofs.lemmas.List.Elements.{All-contains, All-weaker, Contains-append_cases, Contains-append_left, Contains-append_right, Contains-get_or}
 use Rattle.std.proofs.lemmas.Option.{none-some, same_Some, slice_get-get_or, slice_get_past, slice_get_within}
 use Rattle.rmt_bits.proofs.ListLaws.{AllZip-slice_get, slice_get-item}
-use Rattle.rmt_bits.proofs.MemberLaws.{Contains-first, Contains-from_any, Contains-item, Contains-later, Contains-map, Contains-split, Contains-unmap, any_item, from_flat_map, list_any-Contains}
+use Rattle.rmt_bits.proofs.MemberLaws.{Contains-first, Contains-from_any, Contains-item, Contains-later, Contains-map, Contains-split, Contains-unmap, any_item, from_flat_map, list_any-Contains, Contains-filter_map}
+use Rattle.rmt_bits.specs.Members.{is_among}
 use Rattle.rmt_ast.specs.Answers.{entry_numbers}
 use Rattle.rmt_ast.specs.RankPairs.{pair_cmp}
 use Rattle.rmt_ast.specs.declared.entry.Entry.{Entry}
@@ -44,7 +45,6 @@ use Rattle.rmt_update.specs.Planned.{MayChange}
 use Rattle.rmt_update.specs.Recent.{is_recent}
 use Rattle.rmt_update.specs.RowIndex.{AreRows, IsIndex, has_rows, is_unseen, kept_key, never, row_number, rows_of}
 use Rattle.rmt_book.specs.RowOrder.{key_by}
-use Rattle.rmt_lists.specs.Running.{is_among}
 use Rattle.rmt_book.specs.Seen.{is_seen}
 use Rattle.rmt_book.specs.Spots.{spot_from}
 use Rattle.rmt_update.specs.Turning.{AreLike, AreNext, IsLike, IsSamePart, IsSameTable, IsSpotIn, cell_at, come_to, left_kept}
@@ -55,12 +55,12 @@ use Rattle.rmt_update.proofs.GoingLaws.{kept-there}
 use Rattle.rmt_update.proofs.LikeLaws.{like-from, like-of, like-seen}
 use Rattle.rmt_update.proofs.NextNumbers.{NextIs, new, old, next-is, same-cell}
 use Rattle.rmt_update.proofs.NextRowLaws.{unseen-there}
-use Rattle.rmt_update.proofs.NextTables.{beside, left-was, one-comes}
+use Rattle.rmt_update.proofs.NextTables.{beside, left-was, one-comes, both-seen}
 use Rattle.rmt_update.proofs.RecentLaws.{recent-goes}
 use Rattle.rmt_update.proofs.RowNumbers.{number-spot, number-within, row-cell, same-count, same-spots, spot-number}
 use Rattle.rmt_update.proofs.SettledKept.{next_at}
 use Rattle.rmt_update.proofs.SettledPlaces.{come-here, none-come}
-use Rattle.rmt_update.proofs.StayLaws.{from-filter_map, seen-in_lists, to-filter_map}
+use Rattle.rmt_update.proofs.StayLaws.{from-filter_map, seen-in_lists}
 use Rattle.rmt_update.proofs.ZipLaws.{zip-left, zip-length, zip-made, zip-right}
 
 -- ---- the spots of numbers
@@ -126,10 +126,6 @@ left-was-seen odd gone k j e = by (is_seen odd k) refl e
 other-unseen : (o : Bool) (k : Kept) → is_seen (not o) (record k { visible = bit_of o }) ≡ false
 other-unseen true k = refl
 other-unseen false k = refl
-
-both-seen : (o : Bool) (k : Kept) → is_seen o (record k { visible = 3 }) ≡ true
-both-seen true k = refl
-both-seen false k = refl
 
 module _ (c : Config) (names : Names) (cells : RunCells) (lists : List (List Entry)) (ch : Changes) (b : Book) (xs : List Coming) (stands : BookStands c cells lists b) (named : c.names ≡ Some names)
     (may : MayChange c names cells lists ch) (placed : ArePlaced c names cells lists ch b.odd b.tables.items xs) (ix : BookIndex) (index : HasPlaced b.odd ch.gone xs b.tables.items ix) where
@@ -335,7 +331,7 @@ module _ (c : Config) (names : Names) (cells : RunCells) (lists : List (List Ent
           by j like (old o was left_so num) =
               let goes = recent-goes b.odd ch.gone o j left_so (λ three. false≢true (sym (ap not (eq-eqb k.visible 3 (like.visible ∙ three))) ∙ off)) in
               Contains-append_left (filter_map (get nat_cmp ix.spots) ch.gone) (map (λ (x : Coming). x.spot) xs) s
-              (to-filter_map (get nat_cmp ix.spots) ch.gone o.number s (Contains-from_any ch.gone o.number goes) (index.cells.all s o was))
+              (Contains-filter_map (get nat_cmp ix.spots) ch.gone o.number s (Contains-from_any ch.gone o.number goes) (index.cells.all s o was))
 
       pub next-cells : (d : BookIndex) → d.spots ≡ spots → d.recent.items ≡ filter_map (get nat_cmp ix.spots) ch.gone ++ map (λ (x : Coming). x.spot) xs → FindsCells us d
       next-cells d same list = record {
@@ -428,7 +424,7 @@ module _ (c : Config) (names : Names) (cells : RunCells) (lists : List (List Ent
       any-gone : (row : ℕ) (k : Kept) → row < length (rows_of parts) → kept_at ts (spot row) ≡ Some k → is_among ch.gone k.number ≡ true → list_any (is_row_of i parts row) (filter_map (get nat_cmp ix.spots) ch.gone) ≡ true
       any-gone row k lt is goes =
           list_any-Contains (is_row_of i parts row) (filter_map (get nat_cmp ix.spots) ch.gone) (spot row)
-          (to-filter_map (get nat_cmp ix.spots) ch.gone k.number (spot row) (Contains-from_any ch.gone k.number goes) (index.cells.all (spot row) k is))
+          (Contains-filter_map (get nat_cmp ix.spots) ch.gone k.number (spot row) (Contains-from_any ch.gone k.number goes) (index.cells.all (spot row) k is))
           (ap (λ t. t && (row_number parts (spot_from 0 parts row) == row)) (eq-eqb i i refl) ∙ eq-eqb (row_number parts (spot_from 0 parts row)) row (number-spot parts row lt))
 
       next-free : (row : ℕ) → (contains nat_cmp o.free row || list_any (is_row_of i parts row) (filter_map (get nat_cmp ix.spots) ch.gone)) ≡ is_unseen (not b.odd) (rows_of u.parts.items) row

@@ -1,27 +1,25 @@
 -- How the index of a book goes on to the next version, one step after another.
-use Rattle.std.proofs.Common.{◌≡◌, ◌≢◌, ℕ, ◌+◌, ◌<◌, ◌≤◌, ◌^◌, ◌==◌, ◌&&◌, ◌||◌, Bool, true, false, not, cond, List, [], ◌∷◌, ◌++◌, Option, Some, None, length, slice_set, take, refl, sym, ap, ◌∙◌, subst, arith}
+use Rattle.std.proofs.Common.{◌≡◌, ◌≢◌, ℕ, ◌+◌, ◌<◌, ◌≤◌, ◌^◌, ◌==◌, ◌&&◌, ◌||◌, Bool, true, false, cond, List, [], ◌∷◌, ◌++◌, Option, Some, None, slice_set, take, refl, sym, ap, ◌∙◌, subst, arith}
 use Rattle.std.specs.Prelude.{Contains, slice_get}
 use Rattle.std.specs.List.{AllZip, filter_map, list_any}
-use Rattle.std.specs.BTreeMap.{BTreeMap, get, is_at}
+use Rattle.std.specs.BTreeMap.{BTreeMap, get}
 use Rattle.std.specs.BTreeSet.{contains}
 use Rattle.std.specs.Ordering.{nat_cmp}
 use Rattle.std.proofs.lemmas.Bool.{eq-eqb, eqb-true, false≢true}
 use Rattle.std.proofs.Math.Bool.{or-false, or-true}
-use Rattle.std.proofs.lemmas.List.{append-nil, length-set, take_all, take_more_set}
+use Rattle.std.proofs.lemmas.List.{append-nil, length-set, take_more_set}
 use Rattle.std.proofs.lemmas.List.Elements.{All-contains, all_zip_more, filter_map-append}
 use Rattle.std.proofs.lemmas.List.Folds.{list_any-append}
 use Rattle.std.proofs.lemmas.Option.{get_or_from_slice_get, same_Some, slice_get_within}
 use Rattle.rmt_bits.proofs.ListLaws.{slice_get-item, slice_get-set_other, slice_get-set_same, take-slice_get}
 use Rattle.rmt_update.specs.declared.book.index.TableIndex.{TableIndex}
 use Rattle.rmt_update.specs.declared.book.index.TableIndex.TheVariants.{Cells, Rows}
-use Rattle.rmt_book.specs.declared.kept.Kept.{Kept}
 use Rattle.rmt_book.specs.declared.spot.BookSpot.{BookSpot}
 use Rattle.rmt_book.specs.declared.table.PartCells.{PartCells}
 use Rattle.rmt_book.specs.declared.table.TableCells.{TableCells}
 use Rattle.rmt_book.specs.BookSpots.{kept_at}
 use Rattle.rmt_update.specs.NextIndex.{AreAllFreed, AreFreed, AreSeenSpots, HasFewRows, IsFewRow, IsRenewed, IsRowFreed, is_row_of, is_unseen_of}
 use Rattle.rmt_update.specs.RowIndex.{row_number}
-use Rattle.rmt_book.specs.Seen.{is_seen}
 use Rattle.rmt_book.proofs.RankLaws.{same-number}
 
 -- ---- the cells of numbers
@@ -37,9 +35,6 @@ left-some f xs i x y at some =
     ap (filter_map f) (take-slice_get xs i x at) ∙ filter_map-append f (take i xs) (x ∷ []) ∙ ap (λ ys. filter_map f (take i xs) ++ ys) last
 
 -- ---- the cells that the version sees
-
-pub seen-none : (odd : Bool) (ts : List TableCells) (m : BTreeMap ℕ BookSpot) → AreSeenSpots odd ts [] m m
-seen-none odd ts m = record { each = λ n. refl }
 
 module _ (odd : Bool) (ts : List TableCells) (among : List BookSpot) (i : ℕ) (s : BookSpot) (at : slice_get among i ≡ Some s) (old mid : BTreeMap ℕ BookSpot) (h : AreSeenSpots odd ts (take i among) old mid) where
   -- a cell that isn't seen is forgotten
@@ -57,28 +52,7 @@ module _ (odd : Bool) (ts : List TableCells) (among : List BookSpot) (i : ℕ) (
       joined false true o = refl
       joined false false o = refl
 
-  pub seen-forgets : (k : Kept) (new : BTreeMap ℕ BookSpot) → kept_at ts s ≡ Some k → is_seen odd k ≡ false → ((n : ℕ) → get nat_cmp new n ≡ cond (is_at (nat_cmp k.number) n) None (get nat_cmp mid n)) → AreSeenSpots odd ts (take (i + 1) among) old new
-  seen-forgets k new is unseen up =
-      seen-next new (λ n. up n ∙ ap (λ f. cond f None (get nat_cmp mid n)) (same-number k.number n ∙ sym (ap (is_unseen_of odd n) is ∙ ap (λ t. not t && (k.number == n)) unseen)))
-
-  pub seen-keeps : (k : Kept) → kept_at ts s ≡ Some k → is_seen odd k ≡ true → AreSeenSpots odd ts (take (i + 1) among) old mid
-  seen-keeps k is seen = seen-next mid (λ n. ap (λ f. cond f None (get nat_cmp mid n)) (sym (ap (is_unseen_of odd n) is ∙ ap (λ t. not t && (k.number == n)) seen)))
-
-  pub seen-empty : kept_at ts s ≡ None → AreSeenSpots odd ts (take (i + 1) among) old mid
-  seen-empty is = seen-next mid (λ n. ap (λ f. cond f None (get nat_cmp mid n)) (sym (ap (is_unseen_of odd n) is)))
-
 -- ---- the rows of the entries that go
-
-freed-itself : (at : ℕ) (parts : List PartCells) (o : TableIndex) → AreFreed at parts [] o o
-freed-itself at parts (Cells given) = refl
-freed-itself at parts (Rows order) = (refl, λ row. alone (contains nat_cmp order.free row))
-  where
-    alone : (b : Bool) → b ≡ (b || false)
-    alone true = refl
-    alone false = refl
-
-pub freed-none : (ts : List TableCells) (os : List TableIndex) → AreAllFreed ts [] os os
-freed-none ts os = record { count = refl; each = λ i t o p at_t at_o at_p. subst (AreFreed i t.parts.items [] o) (same_Some o p (sym at_o ∙ at_p)) (freed-itself i t.parts.items o) }
 
 -- a further row of the table
 freed-here : (at : ℕ) (parts : List PartCells) (xs : List BookSpot) (s : BookSpot) (o m new : TableIndex) → s.table ≡ at → AreFreed at parts xs o m → IsRowFreed (row_number parts s.at) m new → AreFreed at parts (xs ++ s ∷ []) o new
@@ -162,13 +136,6 @@ pub record RenewedSoFar (n : ℕ) (old new : List TableIndex) : Type 0 where
   pub done : AllZip IsRenewed (take n old) (take n new)
   pub rest : (i : ℕ) → n ≤ i → slice_get new i ≡ slice_get old i
 
-pub renewed-none : (os : List TableIndex) → RenewedSoFar 0 os os
-renewed-none os = record { done = none os; rest = λ i le. refl }
-  where
-    none : (ps : List TableIndex) → AllZip IsRenewed (take 0 ps) (take 0 ps)
-    none [] = tt
-    none (p ∷ ps) = tt
-
 pub renewed-next : (n : ℕ) (old mid : List TableIndex) (m new : TableIndex) → RenewedSoFar n old mid → slice_get mid n ≡ Some m → IsRenewed m new → RenewedSoFar (n + 1) old (slice_set mid n new)
 renewed-next n old mid m new h at_m renewed = record {
   done = subst (AllZip IsRenewed (take (n + 1) old)) (sym (take_more_set mid n new (slice_get_within mid n m at_m)))
@@ -178,7 +145,3 @@ renewed-next n old mid m new h at_m renewed = record {
   where
     at_old : slice_get old n ≡ Some m
     at_old = sym (h.rest n (omega arith)) ∙ at_m
-
-pub renewed-all : (n : ℕ) (old new : List TableIndex) → length old ≤ n → length new ≤ n → RenewedSoFar n old new → AllZip IsRenewed old new
-renewed-all n old new le le_new h =
-    subst (AllZip IsRenewed old) (take_all n new le_new) (subst (λ os. AllZip IsRenewed os (take n new)) (take_all n old le) h.done)

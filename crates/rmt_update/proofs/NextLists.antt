@@ -15,6 +15,7 @@ use Rattle.rmt_bits.proofs.AlikeLaws.{map_alike}
 use Rattle.rmt_bits.proofs.AllLaws.{All-range}
 use Rattle.rmt_bits.proofs.ListLaws.{find-passes}
 use Rattle.rmt_bits.proofs.MemberLaws.{Contains-filter, Contains-flat_map, Contains-item, Contains-unfilter, Contains-unmap, any_item, flat_from, from_flat_map}
+use Rattle.rmt_bits.specs.Members.{is_among}
 use Rattle.rmt_ast.specs.declared.entry.Entry.{Entry}
 use Rattle.rmt_ast.specs.declared.names.Names.{Names}
 use Rattle.rmt_ast.specs.declared.names.TableName.{TableName}
@@ -38,7 +39,6 @@ use Rattle.rmt_update.specs.BookStands.{BookStands, IsUsed}
 use Rattle.rmt_update.specs.NextKept.{bit_of}
 use Rattle.rmt_update.specs.Placing.{ArePlaced, IsBookSpot, TakesCell}
 use Rattle.rmt_update.specs.Planned.{MayChange, changed_list, changed_lists}
-use Rattle.rmt_lists.specs.Running.{is_among}
 use Rattle.rmt_book.specs.Seen.{HaveNumbers, entries_at, entries_by_part, entries_in, entries_seen, is_seen}
 use Rattle.rmt_book.specs.Told.{told_entry}
 use Rattle.rmt_update.specs.Turning.{AreNext, IsSamePart, IsSameTable, left_kept}
@@ -47,7 +47,7 @@ use Rattle.rmt_update.proofs.CellsFound.{are-tables, nodes-rise, one-node, one-s
 use Rattle.rmt_update.proofs.ComeSeen.{comes-seen, no-come}
 use Rattle.rmt_update.proofs.LikeLaws.{like-from, like-of, like-seen, like-told}
 use Rattle.rmt_update.proofs.NextNumbers.{NextIs, new, old, entry-behind, next-is, old-used, same-cell}
-use Rattle.rmt_update.proofs.NextTables.{IsTwoParts, at-part, at-table, kept-within, spot-of, two-parts}
+use Rattle.rmt_update.proofs.NextTables.{IsTwoParts, at-part, at-table, kept-within, spot-of, two-parts, both-seen}
 use Rattle.rmt_update.proofs.PairsTold.{table-pairs, told-from, told-there}
 use Rattle.rmt_update.proofs.RoomNumbers.{slice_get-map_range}
 use Rattle.rmt_update.proofs.SettledKept.{left-stays, next_at, same-names}
@@ -57,10 +57,6 @@ use Rattle.rmt_update.proofs.TableRules.{entries-at, terms-found}
 use Rattle.rmt_update.proofs.ZipLaws.{FoundBoth, find-both, zip-left}
 
 -- ---- what is seen
-
-pub three-seen : (odd : Bool) (k : Kept) → is_seen odd (record k { visible = 3 }) ≡ true
-three-seen true k = refl
-three-seen false k = refl
 
 -- what the next version sees of what was kept stays
 pub stays-seen : (odd : Bool) (gone : List ℕ) (j k : Kept) → left_kept odd gone (Some j) ≡ Some k → is_seen (not odd) k ≡ true
@@ -275,7 +271,7 @@ module _ (c : Config) (names : Names) (cells : RunCells) (lists : List (List Ent
               let left : left_kept b.odd ch.gone (kept_at ts cell.s) ≡ Some (record cell.kept { visible = 3 }) = ap (left_kept b.odd ch.gone) cell.there ∙ left-stays b.odd ch.gone cell.kept cell.seen stays in
               let is : next_at c names cells lists ch b xs stands named placed cell.s ≡ Some (record cell.kept { visible = 3 }) = none-come xs cell.s (left_kept b.odd ch.gone (kept_at ts cell.s)) (no-come c cells lists b stands placed.coming xs placed.takes cell.s cell.kept cell.there cell.seen) ∙ left in
               subst (Contains (entries_by_part (not b.odd) u)) cell.is
-              (seen-next cell.s cell.at (record cell.kept { visible = 3 }) (table-of cell.s cell.at cell.node) is (three-seen (not b.odd) cell.kept))
+              (seen-next cell.s cell.at (record cell.kept { visible = 3 }) (table-of cell.s cell.at cell.node) is (both-seen (not b.odd) cell.kept))
           | inr came ↦
               let h = Contains-unfilter (λ (x : Entry). m == x.table) ch.come e came in
               let behind : Contains (all_entries (changed_lists lists ch)) e = in-all within there in

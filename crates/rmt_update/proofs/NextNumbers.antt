@@ -7,6 +7,7 @@ use Rattle.std.proofs.lemmas.List.Elements.{All-contains, Contains-append_cases}
 use Rattle.std.proofs.lemmas.List.Kept.{AllPairs-filter}
 use Rattle.std.proofs.lemmas.Option.{same_Some}
 use Rattle.rmt_bits.proofs.MemberLaws.{Contains-first, Contains-flat_map, Contains-item, Contains-later, Contains-map, Contains-split, Contains-unfilter, Contains-unmap, from_flat_map, list_any-Contains}
+use Rattle.rmt_bits.specs.Members.{is_among}
 use Rattle.rmt_ast.specs.declared.entry.Entry.{Entry}
 use Rattle.rmt_ast.specs.declared.names.Names.{Names}
 use Rattle.rmt_config.specs.declared.config.Config.{Config}
@@ -25,7 +26,6 @@ use Rattle.rmt_book.specs.BookSpots.{kept_at}
 use Rattle.rmt_update.specs.BookStands.{BookStands, HaveOwnNumbers, IsKeptOf, IsUsed}
 use Rattle.rmt_update.specs.Placing.{ArePlaced, IsBookSpot, TakesCell}
 use Rattle.rmt_update.specs.Planned.{MayChange, changed_list, changed_lists}
-use Rattle.rmt_lists.specs.Running.{is_among}
 use Rattle.rmt_update.specs.Turning.{left_kept}
 use Rattle.rmt_update.proofs.CellsFound.{IsFound, found, spot-part}
 use Rattle.rmt_update.proofs.NextTables.{left-was}

@@ -173,14 +173,8 @@ module _ (c : Config) (names : Names) (cells : RunCells) (lists : List (List Ent
           room = room-is c cells lists b stands s at ∙ ap (λ (p : PartAt). record { part = p; cell = n }) (own-part c names cells lists ch b xs stands named placed us next i j n u y d at);
         }
 
-    abbrev k_ : Kind
-    k_ = t.name.kind
-
     terms : terms_named names t.name.node ≡ Some (terms_of_name t.name)
     terms = table-terms c names cells lists ch b xs stands named placed i t at_t
-
-    node-is : (e : Entry) (f : ℕ) (k : Kept) → (told_entry u.name f k).table ≡ t.name.node
-    node-is e f k = ap (λ (n : TableName). n.node) same.0
 
     -- the room of the later one isn't before that of the earlier one
     rooms : (j l n m : ℕ) (y z : PartCells) (g h : Kept) (a : IsNextCell j n y g) (o : IsNextCell l m z h) → (j < l) ⊎ ((j ≡ l) × (n < m)) → is_before (record { part = o.d.p; cell = m }) (record { part = a.d.p; cell = n }) ≡ true → ⊥

@@ -8,6 +8,7 @@ use Rattle.std.proofs.lemmas.Bool.{and_parts, false≢true}
 use Rattle.std.proofs.lemmas.List.{length-set}
 use Rattle.std.proofs.lemmas.List.Elements.{All-weaker}
 use Rattle.std.proofs.lemmas.Option.{none-some, same_Some, slice_get_within}
+use Rattle.rmt_bits.specs.Members.{is_among}
 use Rattle.rmt_ast.specs.RankPairs.{pair_cmp}
 use Rattle.rmt_ast.specs.declared.entry.Entry.{Entry}
 use Rattle.rmt_ast.specs.declared.program.Kind.{Kind}
@@ -25,17 +26,17 @@ use Rattle.rmt_update.specs.NextKept.{bit_of}
 use Rattle.rmt_update.specs.Open.{is_kept_seen}
 use Rattle.rmt_update.specs.RowIndex.{AreRows, IsIndex, is_unseen, kept_key, rows_of}
 use Rattle.rmt_book.specs.RowOrder.{IsFirstFit, entry_key}
-use Rattle.rmt_lists.specs.Running.{is_among}
 use Rattle.rmt_book.specs.Seen.{is_seen}
 use Rattle.rmt_book.specs.Spots.{spot_from}
 use Rattle.rmt_update.specs.Taking.{IsComing, IsRowGiven, MayGive, TakesFrom}
 use Rattle.rmt_update.specs.Turning.{cell_at, come_to, is_spot, left_kept}
 use Rattle.rmt_update.proofs.EnteringLaws.{come-append}
-use Rattle.rmt_update.proofs.NextLists.{stays-seen, three-seen}
+use Rattle.rmt_update.proofs.NextLists.{stays-seen}
 use Rattle.rmt_update.proofs.RowIndexLaws.{own-key, own-number, same-key, same-number}
 use Rattle.rmt_update.proofs.RowNumbers.{one-row, row-cell}
 use Rattle.rmt_update.proofs.SettledKept.{left-stays}
 use Rattle.rmt_update.proofs.SettledPlaces.{none-come, same-spot, spot-itself}
+use Rattle.rmt_update.proofs.NextTables.{both-seen}
 
 -- ---- what is left
 
@@ -86,7 +87,7 @@ module _ (kind : Kind) (odd : Bool) (gone : List ℕ) (at : ℕ) (parts : List P
         let a = are.rows key row there in
         let next_is : next xs row ≡ Some (record a.0 { visible = 3 }) =
         others xs row (left row) apart ∙ ap (left_kept odd gone) (row-kept row (Some a.0) a.1) ∙ left-stays odd gone a.0 a.2.0 a.2.1 in
-        (slice_get_within rows row (Some a.0) a.1, record a.0 { visible = 3 }, next_is, three-seen (not odd) a.0, a.3);
+        (slice_get_within rows row (Some a.0) a.1, record a.0 { visible = 3 }, next_is, both-seen (not odd) a.0, a.3);
     all = λ row k lt is seen. stays row k lt (cell_at parts (spot_from 0 parts row)) refl (sym (others xs row (left row) apart) ∙ is) seen;
     free = λ row. are.free row ∙ unseen row (is_unseen odd rows row) refl;
   }

@@ -11,6 +11,7 @@ use Rattle.std.proofs.lemmas.Map.Lookups.{exact_unsigned}
 use Rattle.std.proofs.lemmas.Map.Views.{All-keys_from_lookup, Contains-keys_from_lookup, tells_apart}
 use Rattle.std.proofs.lemmas.Option.{none-some, same_Some, slice_get-get_or}
 use Rattle.rmt_bits.proofs.MemberLaws.{Contains-first, Contains-item, Contains-later}
+use Rattle.rmt_bits.specs.Members.{is_among}
 use Rattle.rmt_ast.specs.declared.entry.Entry.{Entry}
 use Rattle.rmt_ast.specs.declared.names.Names.{Names}
 use Rattle.rmt_ast.specs.declared.names.TableName.{TableName}
@@ -31,7 +32,6 @@ use Rattle.rmt_update.specs.BookStands.{BookStands, HoldsPart, HoldsTable, IsKep
 use Rattle.rmt_update.specs.NextKept.{bit_of}
 use Rattle.rmt_book.specs.PartShape.{IsShape}
 use Rattle.rmt_update.specs.Placing.{ArePlaced, IsBookSpot, TakesCell}
-use Rattle.rmt_lists.specs.Running.{is_among}
 use Rattle.rmt_book.specs.Seen.{is_seen}
 use Rattle.rmt_update.specs.Turning.{AreLike, AreNext, IsSamePart, IsSameTable, is_spot, left_kept}
 use Rattle.rmt_book.specs.Coming.{HasSizes}
@@ -209,3 +209,8 @@ module _ (c : Config) (names : Names) (cells : RunCells) (lists : List (List Ent
 
   pub tables-next : All (HoldsTable c next_run) us
   tables-next k d lt = table-next k (get_or us k d) (slice_get-get_or us k d lt)
+
+-- a cell with both visible bits is seen by either version
+pub both-seen : (o : Bool) (k : Kept) → is_seen o (record k { visible = 3 }) ≡ true
+both-seen true k = refl
+both-seen false k = refl

@@ -82,10 +82,6 @@ pub filter-flat : {X Y : Type 0} (test : Y → Bool) (f : X → List Y) (xs : Li
 filter-flat test f [] = refl
 filter-flat test f (x ∷ xs) = filter-append test (f x) (flat_map f xs) ∙ ap (λ ys. filter test (f x) ++ ys) (filter-flat test f xs)
 
-pub flat-map : {X Y Z : Type 0} (g : Y → List Z) (f : X → Y) (xs : List X) → flat_map g (map f xs) ≡ flat_map (λ x. g (f x)) xs
-flat-map g f [] = refl
-flat-map g f (x ∷ xs) = ap (λ ys. g (f x) ++ ys) (flat-map g f xs)
-
 pub flat-numbered : {X Y : Type 0} (f : ℕ × X → List Y) (g : ℕ → List Y) (a : ℕ) (xs : List X) → All (λ x. (n : ℕ) → f (n, x) ≡ g n) xs → flat_map f (enumerate_from a xs) ≡ flat_map g (range_with_len a (length xs))
 flat-numbered f g a [] all = refl
 flat-numbered f g a (x ∷ xs) all =

@@ -1,5 +1,5 @@
 -- The first free one of some cells.
-use Rattle.std.proofs.Common.{◌≡◌, ℕ, suc, ◌+◌, ◌-◌, ◌<◌, Bool, true, false, cond, List, [], ◌∷◌, Option, Some, None, drop, get_or, length, sum, refl, sym, ap, ◌∙◌, arith}
+use Rattle.std.proofs.Common.{◌≡◌, ℕ, suc, ◌+◌, ◌-◌, ◌<◌, Bool, false, cond, List, [], ◌∷◌, Option, Some, None, drop, get_or, length, sum, refl, sym, ap, ◌∙◌, arith}
 use Rattle.std.specs.Prelude.{All, find}
 use Rattle.std.specs.BTreeSet.{BTreeSet}
 use Rattle.std.specs.List.{AllZip, flat_map, range_with_len}
@@ -38,10 +38,6 @@ module _ (p : ℕ → Bool) (a b : ℕ) (lt : a < b) (o : Option ℕ) (so_far : 
   pub cell-past : p a ≡ false → find p (range_with_len (a + 1) (b - (a + 1))) ≡ o
   cell-past other = sym (apart ∙ ap (λ f. cond f (Some a) (find p (range_with_len (a + 1) (b - (a + 1))))) other) ∙ so_far
 
-  -- and the first free one is found
-  pub cell-here : p a ≡ true → Some a ≡ o
-  cell-here own = sym (apart ∙ ap (λ f. cond f (Some a) (find p (range_with_len (a + 1) (b - (a + 1))))) own) ∙ so_far
-
 -- ---- the rows in the ways from one on to below another
 
 module _ (p : ℕ → Bool) (row : ℕ → List ℕ) (a b : ℕ) (lt : a < b) (o : Option ℕ) (so_far : find p (flat_map row (range_with_len a (b - a))) ≡ o) where
@@ -75,10 +71,6 @@ module _ (odd : Bool) (seed : ℕ) (key : List ℕ) (ps : List PartCells) (gs : 
   opened =
       ap (λ xs. first_open odd i xs (drop i gs) (cells_of_parts seed key xs)) (drop_more ps i p in_ps)
       ∙ ap (λ xs. first_open odd i (get_or ps i p ∷ drop (i + 1) ps) xs (cells_of_parts seed key (get_or ps i p ∷ drop (i + 1) ps))) (drop_more gs i g in_gs)
-
-  pub part-past : find (is_open odd (get_or ps i p) (get_or gs i g)) (cells_for seed key (get_or ps i p).shape.grid) ≡ None
-      → first_open odd (i + 1) (drop (i + 1) ps) (drop (i + 1) gs) (cells_of_parts seed key (drop (i + 1) ps)) ≡ first_open odd 0 ps gs (cells_of_parts seed key ps)
-  part-past none = sym (opened ∙ ap (λ o. first_of (in_part i o) behind) none) ∙ so_far
 
   pub part-here : (cell : ℕ) → find (is_open odd (get_or ps i p) (get_or gs i g)) (cells_for seed key (get_or ps i p).shape.grid) ≡ Some cell
       → Some (record { part = i; cell = cell }) ≡ first_open odd 0 ps gs (cells_of_parts seed key ps)

@@ -19,18 +19,14 @@ use Rattle.rmt_config.specs.CellForm.{Coded, SlotHolds, StageHolds, cells_of, co
 use Rattle.rmt_config.specs.Form.{visible_with}
 use Rattle.rmt_config.specs.MemoryRules.{MemoryIsFormed}
 use Rattle.rmt_config.specs.RunCells.{as_slot, no_content, own_cells, own_content, slot_at}
-use Rattle.rmt_config.proofs.NumberLaws.{distinct_from}
+use Rattle.rmt_config.proofs.NumberLaws.{distinct_from, distinct_none}
 use Rattle.rmt_update.specs.BookStands.{HaveOwnNumbers, IsUsed}
 use Rattle.rmt_update.proofs.PartHoldLaws.{clear-head}
 
 -- ---- numbers of which none stands twice
 
-distinct-none : IsDistinct eqb []
-unfolding IsDistinct
-distinct-none = tt
-
 distinct-left : (xs ys : List ℕ) → IsDistinct eqb (xs ++ ys) → IsDistinct eqb xs
-distinct-left [] ys d = distinct-none
+distinct-left [] ys d = distinct_none
 distinct-left (x ∷ xs) ys d = IsDistinct-cons eqb x xs (front xs (IsDistinct-head eqb x (xs ++ ys) d)) (distinct-left xs ys (IsDistinct-tail eqb x (xs ++ ys) d))
   where
     front : (zs : List ℕ) → AllByRecursion (λ y. eqb x y ≡ false) (zs ++ ys) → AllByRecursion (λ y. eqb x y ≡ false) zs

@@ -1,14 +1,14 @@
 -- The entries of a table that a version sees, cell by cell, and what holds of each and each later one.
-use Rattle.std.proofs.Common.{◌≡◌, ◌⊎◌, ℕ, zero, suc, ◌<◌, Bool, true, false, ◌&&◌, cond, eqb, List, [], ◌∷◌, map, Some, refl, sym, ap, ◌∙◌, subst, inl, inr, arith}
-use Rattle.std.specs.Prelude.{All, AllPairs, Contains, filter, nat_lt, slice_get}
+use Rattle.std.proofs.Common.{◌≡◌, ◌⊎◌, ℕ, zero, suc, ◌<◌, Bool, true, false, ◌&&◌, cond, List, [], ◌∷◌, map, Some, refl, sym, ap, ◌∙◌, subst, inl, inr, arith}
+use Rattle.std.specs.Prelude.{All, AllPairs, Contains, filter, slice_get}
 use Rattle.std.specs.List.{flat_map, list_all}
 use Rattle.std.specs.List.Sorted.{IsStrictlySortedBy}
 use Rattle.std.specs.BTreeMap.{IsOrdered, get, values}
 use Rattle.std.specs.Cmp.{eq_by_cmp_equiv, nat_cmp_total}
 use Rattle.std.specs.Map.{keys_of, values_of}
 use Rattle.std.specs.Ordering.{eq_by_cmp, nat_cmp}
-use Rattle.std.specs.declared.cmp.Ordering.TheVariants.{Less, Equal, Greater}
-use Rattle.std.proofs.lemmas.Bool.{and_parts, ltb-true}
+use Rattle.std.specs.declared.cmp.Ordering.TheVariants.{Less}
+use Rattle.std.proofs.lemmas.Bool.{and_parts}
 use Rattle.std.proofs.lemmas.List.Elements.{All-cons, All-contains, All-head, All-tail}
 use Rattle.std.proofs.lemmas.List.Kept.{AllPairs-cons}
 use Rattle.std.proofs.lemmas.Map.Keys.{IsDistinct-from_sorted, sorted_tail}
@@ -17,6 +17,7 @@ use Rattle.std.proofs.lemmas.Map.Views.{All-after_first, Contains-from_lookup, l
 use Rattle.std.proofs.lemmas.Option.{none-some, same_Some}
 use Rattle.rmt_bits.proofs.MemberLaws.{Contains-filter, Contains-first, Contains-flat_map, Contains-item, Contains-later, Contains-map, Contains-split, Contains-unfilter, Contains-unmap, flat_from}
 use Rattle.rmt_bits.proofs.PairLaws.{AllPairs-across, AllPairs-append, AllPairs-head, AllPairs-left, AllPairs-none, AllPairs-right, AllPairs-tail}
+use Rattle.rmt_bits.proofs.SearchLaws.{less}
 use Rattle.rmt_ast.specs.declared.entry.Entry.{Entry}
 use Rattle.rmt_ast.specs.declared.names.TableName.{TableName}
 use Rattle.rmt_config.specs.NamesForm.{each_later}
@@ -77,14 +78,6 @@ module _ {X Y : Type 0} (R : Y → Y → Type 0) (f : X → List Y) where
 
 -- ---- the cells of a part
 
-less-number : (n m : ℕ) → nat_cmp n m ≡ Less → n < m
-less-number n m e = by (nat_lt n m) (eqb n m) refl e
-  where
-    by : (b d : Bool) → nat_lt n m ≡ b → cond b Less (cond d Equal Greater) ≡ Less → n < m
-    by true d lt h = ltb-true n m lt
-    by false true lt h = cc
-    by false false lt h = cc
-
 -- the entry of a cell that is found
 pub cell-there : (p : PartCells) (n : ℕ) (k : Kept) → IsOrdered nat_cmp p.cells → Contains p.cells.entries (n, k) → get nat_cmp p.cells n ≡ Some k
 cell-there p n k ordered there = lookup-from_Contains {eq = eq_by_cmp nat_cmp} (eq_by_cmp_equiv nat_cmp_total) n k p.cells.entries (IsDistinct-from_sorted nat_cmp (keys_of p.cells.entries) ordered) there
@@ -138,7 +131,7 @@ module _ (odd : Bool) (t : TableName) where
             let a = Contains-unmap (told_entry t first) (filter (is_seen odd) (values_of es)) x there in
             let d = Contains-unfilter (is_seen odd) (values_of es) a.0 a.1 in
             let h = Contains-unmap (λ (y : ℕ × Kept). y.1) es a.0 d.0 in
-            let above = less-number e.0 h.0.0 (All-contains (λ q. nat_cmp e.0 q ≡ Less) (keys_of es) h.0.0 (All-after_first nat_cmp e.0 (keys_of es) sorted) (Contains-map (λ (y : ℕ × Kept). y.0) es h.0 h.1)) in
+            let above = less e.0 h.0.0 (All-contains (λ q. nat_cmp e.0 q ≡ Less) (keys_of es) h.0.0 (All-after_first nat_cmp e.0 (keys_of es) sorted) (Contains-map (λ (y : ℕ × Kept). y.0) es h.0 h.1)) in
             subst (R (told_entry t first e.1)) (ap (told_entry t first) h.2 ∙ a.2)
             (each e.0 h.0.0 e.1 h.0.1 (Contains-first e es) (Contains-later e es h.0 h.1) above seen (ap (is_seen odd) h.2 ∙ d.1)))) more
         by false seen more = more
@@ -157,7 +150,7 @@ module _ (odd : Bool) (t : TableName) where
 
         above : (q : ℕ) (i : Kept) → Contains es (q, i) → e.0 < q
         above q i there =
-            less-number e.0 q (All-contains (λ q. nat_cmp e.0 q ≡ Less) (keys_of es) q (All-after_first nat_cmp e.0 (keys_of es) sorted) (Contains-map (λ (y : ℕ × Kept). y.0) es (q, i) there))
+            less e.0 q (All-contains (λ q. nat_cmp e.0 q ≡ Less) (keys_of es) q (All-after_first nat_cmp e.0 (keys_of es) sorted) (Contains-map (λ (y : ℕ × Kept). y.0) es (q, i) there))
 
         later : AllPairs R rest → (e ≡ (n, k)) ⊎ Contains es (n, k) → (e ≡ (m, j)) ⊎ Contains es (m, j) → (e ≡ (n, k) → Own) → (AllPairs R rest → Contains es (n, k) → Contains es (m, j) → Own) → Own
         later more (inl a) d own next = own a

@@ -14,7 +14,7 @@ use Rattle.rmt_config.specs.declared.config.Unit.TheVariants.{Gate, Slot}
 use Rattle.rmt_config.specs.MemoryRules.{MemoryIsFormed}
 use Rattle.rmt_config.specs.Order.{each_between}
 use Rattle.rmt_config.specs.Rooms.{PartAt, parts_among, parts_of}
-use Rattle.rmt_config.specs.TableForm.{Placed, has_node, is_among, node_of, placed_from, placed_units, unit_stands, ways_follow}
+use Rattle.rmt_config.specs.TableForm.{Placed, has_node, node_is_among, node_of, placed_from, placed_units, unit_stands, ways_follow}
 
 -- the slot of a unit, where it is of a node
 abbrev own_slot : ℕ → ChipUnit → List SlotUnit
@@ -65,10 +65,10 @@ none-one : (node : ℕ) (u : ChipUnit) → (node_of u == node) ≡ false → own
 none-one node (Gate g) e = refl
 none-one node (Slot s) e = ap (λ b. cond b (s ∷ []) []) e
 
-none-among : (node : ℕ) (xs : List Placed) → is_among node xs ≡ false → slots_of node xs ≡ []
+none-among : (node : ℕ) (xs : List Placed) → node_is_among node xs ≡ false → slots_of node xs ≡ []
 none-among node [] e = refl
 none-among node (x ∷ xs) e =
-    let both = or_parts (has_node node x) (is_among node xs) e in
+    let both = or_parts (has_node node x) (node_is_among node xs) e in
     ap (λ ss. ss ++ slots_of node xs) (none-one node x.unit both.0) ∙ none-among node xs both.1
 
 counted : (node : ℕ) (x : Placed) (before : List Placed) (b : Bool) → has_node node x ≡ b → count_by (has_node node) (x ∷ before) ≡ cond b 1 0 + count_by (has_node node) before
@@ -92,8 +92,8 @@ module _ (node stage : ℕ) (before xs : List Placed) where
       by : (b : Bool) → (g.node == node) ≡ b → SlotsFrom many (slots_of node xs)
       by false is = other (Gate g) is more
       by true is =
-          let none = not-true (is_among g.node xs) (and_parts _ _ (and_parts _ _ stands).1).1 in
-          subst (SlotsFrom many) (sym (none-among node xs (subst (λ n. is_among n xs ≡ false) (eqb-true g.node node is) none))) tt
+          let none = not-true (node_is_among g.node xs) (and_parts _ _ (and_parts _ _ stands).1).1 in
+          subst (SlotsFrom many) (sym (none-among node xs (subst (λ n. node_is_among n xs ≡ false) (eqb-true g.node node is) none))) tt
   step (Slot s) stands more = by (s.node == node) refl
     where
       by : (b : Bool) → (s.node == node) ≡ b → SlotsFrom many (cond (s.node == node) (s ∷ []) [] ++ slots_of node xs)

@@ -1,79 +1,20 @@
 -- The parts of a node stand in different places, and no two nodes have a part in one place.
-use Rattle.std.proofs.Common.{◌≡◌, ℕ, ◌+◌, ◌≤◌, ◌==◌, Bool, true, false, ◌&&◌, cond, List, [], ◌∷◌, ◌++◌, get_or, Some, refl, sym, ap, ◌∙◌, inl, inr, arith}
-use Rattle.std.specs.Prelude.{All, AllPairs}
-use Rattle.std.specs.List.{enumerate_from, flat_map}
+use Rattle.std.proofs.Common.{◌≡◌, ℕ, ◌+◌, ◌==◌, true, false, ◌&&◌, get_or, Some, sym, ap, ◌∙◌, inl, inr, arith}
+use Rattle.std.specs.Prelude.{All}
 use Rattle.std.proofs.lemmas.Bool.{and_parts, cases_lt, eqb-true, false_from_ne_true}
-use Rattle.std.proofs.lemmas.List.Elements.{All-append, All-cons, All-nil, All-weaker}
 use Rattle.std.proofs.lemmas.Option.{same_Some}
-use Rattle.rmt_bits.proofs.PairLaws.{AllPairs-append, AllPairs-none}
 use Rattle.rmt_config.specs.declared.config.Config.{Config}
 use Rattle.rmt_config.specs.declared.config.SlotUnit.{SlotUnit}
-use Rattle.rmt_config.specs.declared.config.Stage.{Stage}
-use Rattle.rmt_config.specs.declared.config.Unit.{Unit}
-use Rattle.rmt_config.specs.declared.config.Unit.TheVariants.{Gate, Slot}
 use Rattle.rmt_config.specs.Form.{items_are_formed}
 use Rattle.rmt_config.specs.MemoryRules.{MemoryIsFormed}
-use Rattle.rmt_config.specs.Rooms.{PartAt, Room, is_same, parts_among, parts_of}
+use Rattle.rmt_config.specs.Rooms.{PartAt, Room, is_same, parts_of}
 use Rattle.rmt_config.specs.RunCells.{slot_at}
 use Rattle.rmt_config.proofs.SpelledParts.{parts-stand}
-use Rattle.rmt_pack.proofs.RoomOrderLaws.{among_rise}
-pub use Rattle.rmt_pack.proofs.RoomOrderLaws.{Rises, pair_at as pair-at}
+use Rattle.rmt_pack.proofs.PartOrderLaws.{stages_from}
+pub use Rattle.rmt_pack.proofs.PartOrderLaws.{Rises, parts_in_order as parts-rise}
+pub use Rattle.rmt_pack.proofs.RoomOrderLaws.{pair_at as pair-at}
 use Rattle.rmt_update.proofs.PartHoldLaws.{part-slot}
 use Rattle.rmt_update.proofs.RoomNumbers.{IsNumber, offset}
-
--- ---- the parts of a node rise
-
--- a part of a stage, from a place on, of a node
-pub record IsFrom (node k place : ℕ) (a : PartAt) : Type 0 where
-  pub stage : a.stage ≡ k
-  pub from : place ≤ a.place
-  pub own : a.slot.node ≡ node
-
-later : (node k place : ℕ) (a : PartAt) → IsFrom node k (place + 1) a → IsFrom node k place a
-later node k place a h = record { stage = h.stage; from = (let le = h.from in omega (arith, le)); own = h.own }
-
-pub among-from : (node k : ℕ) (units : List Unit) (place first : ℕ) → All (IsFrom node k place) (parts_among node k place first units)
-among-from node k [] place first = All-nil (IsFrom node k place)
-among-from node k (Gate g ∷ units) place first =
-    All-weaker (IsFrom node k (place + 1)) (IsFrom node k place) (later node k place) (parts_among node k (place + 1) first units) (among-from node k units (place + 1) first)
-among-from node k (Slot s ∷ units) place first =
-    by (s.node == node) refl
-    (All-weaker (IsFrom node k (place + 1)) (IsFrom node k place) (later node k place) (parts_among node k (place + 1) (first + s.actions + 1) units)
-    (among-from node k units (place + 1) (first + s.actions + 1)))
-  where
-    rest : List PartAt
-    rest = parts_among node k (place + 1) (first + s.actions + 1) units
-
-    by : (b : Bool) → (s.node == node) ≡ b → All (IsFrom node k place) rest → All (IsFrom node k place) (cond b (record { stage = k; place = place; first = first; slot = s } ∷ []) [] ++ rest)
-    by true is h = All-cons (IsFrom node k place) (record { stage = k; place = place; first = first; slot = s }) rest (record { stage = refl; from = omega arith; own = eqb-true s.node node is }) h
-    by false is h = h
-
--- the parts of stages from one on, of a node
-pub record IsBehind (node k : ℕ) (a : PartAt) : Type 0 where
-  pub stage : k ≤ a.stage
-  pub own : a.slot.node ≡ node
-
-abbrev pub parts_from : ℕ → ℕ → List Stage → List PartAt
-parts_from node k stages = flat_map (λ (x : ℕ × Stage). parts_among node x.0 0 0 x.1.units) (enumerate_from k stages)
-
-pub stages-from : (node k : ℕ) (stages : List Stage) → All (IsBehind node k) (parts_from node k stages)
-stages-from node k [] = All-nil (IsBehind node k)
-stages-from node k (stage ∷ stages) =
-    All-append (IsBehind node k) (parts_among node k 0 0 stage.units) (parts_from node (k + 1) stages)
-    (All-weaker (IsFrom node k 0) (IsBehind node k) (λ a h. record { stage = (let same = h.stage in omega (arith, same)); own = h.own }) (parts_among node k 0 0 stage.units) (among-from node k stage.units 0 0))
-    (All-weaker (IsBehind node (k + 1)) (IsBehind node k) (λ a h. record { stage = (let le = h.stage in omega (arith, le)); own = h.own }) (parts_from node (k + 1) stages) (stages-from node (k + 1) stages))
-
-stages-rise : (node k : ℕ) (stages : List Stage) → AllPairs Rises (parts_from node k stages)
-stages-rise node k [] = AllPairs-none Rises
-stages-rise node k (stage ∷ stages) =
-    let rest = parts_from node (k + 1) stages in
-    AllPairs-append Rises (parts_among node k 0 0 stage.units) rest (among_rise node k stage.units 0 0) (stages-rise node (k + 1) stages)
-    (All-weaker (IsFrom node k 0) (λ a. All (Rises a) rest)
-    (λ a own. let same = own.stage in All-weaker (IsBehind node (k + 1)) (Rises a) (λ b h. let le = h.stage in inl (omega (arith, le, same))) rest (stages-from node (k + 1) stages))
-    (parts_among node k 0 0 stage.units) (among-from node k stage.units 0 0))
-
-pub parts-rise : (c : Config) (node : ℕ) → AllPairs Rises (parts_of c node)
-parts-rise c node = stages-rise node 0 c.stages
 
 -- ---- rooms
 
@@ -119,7 +60,7 @@ pub record IsPartOf (c : Config) (node : ℕ) (p : PartAt) : Type 0 where
 pub parts-own : (c : Config) (node : ℕ) → items_are_formed c ≡ true → MemoryIsFormed c → All (IsPartOf c node) (parts_of c node)
 parts-own c node items memory k d lt = record {
   slot = part-slot c (get_or (parts_of c node) k d) (parts-stand c node items memory k d lt);
-  own = (stages-from node 0 c.stages k d lt).own;
+  own = (stages_from node 0 c.stages k d lt).own;
 }
 
 -- rooms of two nodes are not the same

@@ -13,8 +13,8 @@ use Rattle.rmt_config.specs.declared.config.Unit.TheVariants.{Gate, Slot}
 use Rattle.rmt_config.specs.MemoryRules.{MemoryIsFormed}
 use Rattle.rmt_config.specs.Order.{each_between}
 use Rattle.rmt_config.specs.Rooms.{PartAt, parts_among, parts_of}
-use Rattle.rmt_config.specs.TableForm.{Placed, follows_part, has_node, is_among, is_part_of, placed_from, unit_stands}
-use Rattle.rmt_update.proofs.PartOrder.{IsBehind, IsFrom, among-from, parts_from, stages-from}
+use Rattle.rmt_config.specs.TableForm.{Placed, follows_part, has_node, node_is_among, is_part_of, placed_from, unit_stands}
+use Rattle.rmt_pack.proofs.PartOrderLaws.{IsBehind, IsFrom, among_from, parts_from, stages_from}
 
 abbrev at : ℕ → Unit → Placed
 at k u = record { stage = k; unit = u }
@@ -26,11 +26,11 @@ not-both : (b : Bool) → not b ≡ true → b ≡ true → ⊥
 not-both true h e = false≢true h
 not-both false h e = false≢true e
 
-found-any : (node : ℕ) (xs : List Placed) (x : Placed) → find (has_node node) xs ≡ Some x → is_among node xs ≡ true
+found-any : (node : ℕ) (xs : List Placed) (x : Placed) → find (has_node node) xs ≡ Some x → node_is_among node xs ≡ true
 found-any node [] x e = absurd (none-some x e)
 found-any node (y ∷ xs) x e = by (has_node node y) e (found-any node xs x)
   where
-    by : (b : Bool) → cond b (Some y) (find (has_node node) xs) ≡ Some x → (find (has_node node) xs ≡ Some x → is_among node xs ≡ true) → (b || is_among node xs) ≡ true
+    by : (b : Bool) → cond b (Some y) (find (has_node node) xs) ≡ Some x → (find (has_node node) xs ≡ Some x → node_is_among node xs ≡ true) → (b || node_is_among node xs) ≡ true
     by true h rest = refl
     by false h rest = rest h
 
@@ -48,8 +48,8 @@ none-more node k (Gate g ∷ units) place first before rest x e found stage =
     by : (b : Bool) → (g.node == node) ≡ b → (cond (g.node == node) (Some (at k (Gate g))) (find (has_node node) before) ≡ Some x → parts_among node k (place + 1) first units ≡ []) → parts_among node k (place + 1) first units ≡ []
     by true is more =
         let parts = split-units before rest k (Gate g) units e in
-        let none : not (is_among g.node before) ≡ true = (and_parts _ _ (and_parts _ _ parts.0).1).0 in
-        absurd (not-both (is_among g.node before) none (ap (λ n. is_among n before) (eqb-true g.node node is) ∙ found-any node before x found))
+        let none : not (node_is_among g.node before) ≡ true = (and_parts _ _ (and_parts _ _ parts.0).1).0 in
+        absurd (not-both (node_is_among g.node before) none (ap (λ n. node_is_among n before) (eqb-true g.node node is) ∙ found-any node before x found))
     by false is more = more (ap (λ b. cond b (Some (at k (Gate g))) (find (has_node node) before)) is ∙ found)
 none-more node k (Slot s ∷ units) place first before rest x e found stage =
     by (s.node == node) refl (λ own. none-more node k units (place + 1) (first + s.actions + 1) (at k (Slot s) ∷ before) rest x (split-units before rest k (Slot s) units e).1 own stage)
@@ -99,8 +99,8 @@ stages-apart node k (stage ∷ stages) before e =
     let rest = parts_from node (k + 1) stages in
     AllPairs-append IsEarlier (parts_among node k 0 0 stage.units) rest (one-alone node k stage.units 0 0 before (placed_from (k + 1) stages) e) (stages-apart node (k + 1) stages later.0 later.1)
     (All-weaker (IsFrom node k 0) (λ a. All (IsEarlier a) rest)
-    (λ a own. let same = own.stage in All-weaker (IsBehind node (k + 1)) (IsEarlier a) (λ b h. let le = h.stage in omega (arith, le, same)) rest (stages-from node (k + 1) stages))
-    (parts_among node k 0 0 stage.units) (among-from node k stage.units 0 0))
+    (λ a own. let same = own.stage in All-weaker (IsBehind node (k + 1)) (IsEarlier a) (λ b h. let le = h.stage in omega (arith, le, same)) rest (stages_from node (k + 1) stages))
+    (parts_among node k 0 0 stage.units) (among_from node k stage.units 0 0))
 
 pub parts-apart : (c : Config) (node : ℕ) → MemoryIsFormed c → AllPairs (λ (a b : PartAt). a.stage < b.stage) (parts_of c node)
 parts-apart c node memory = stages-apart node 0 c.stages [] memory.tables

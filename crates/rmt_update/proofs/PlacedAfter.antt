@@ -1,6 +1,6 @@
 -- The entries behind a commit with their rooms: those that stay where they are, and then those that come.
-use Rattle.std.proofs.Common.{◌≡◌, Bool, true, false, ◌&&◌, cond, eqb, List, [], ◌∷◌, ◌++◌, append_assoc, Option, Some, None, option_map, refl, sym, ap, ◌∙◌, inl, inr, arith}
-use Rattle.std.specs.Prelude.{Contains, find, fold, option_and_then}
+use Rattle.std.proofs.Common.{◌≡◌, Bool, true, false, ◌&&◌, cond, eqb, List, [], ◌∷◌, Option, Some, option_map, refl, sym, ap, ◌∙◌, inl, inr, arith}
+use Rattle.std.specs.Prelude.{Contains, find, option_and_then}
 use Rattle.std.proofs.lemmas.Bool.{and_parts, eq-eqb, eqb-true}
 use Rattle.rmt_bits.proofs.MemberLaws.{Contains-first, Contains-later, Contains-split}
 use Rattle.rmt_ast.specs.EntryLists.{Terms}
@@ -8,10 +8,9 @@ use Rattle.rmt_ast.specs.NameRules.{terms_named}
 use Rattle.rmt_ast.specs.declared.entry.Entry.{Entry}
 use Rattle.rmt_ast.specs.declared.names.Names.{Names}
 use Rattle.rmt_config.specs.declared.config.Config.{Config}
-use Rattle.rmt_config.specs.Commits.{Placed, placed_now, rooms_of, with_coming}
+use Rattle.rmt_config.specs.Commits.{placed_now, rooms_of}
 use Rattle.rmt_config.specs.Rooms.{Room, content_in, number_in}
 use Rattle.rmt_config.specs.RunCells.{RunCells, sees}
-use Rattle.rmt_update.proofs.ComesLaws.{comes, none-comes, room_for}
 
 -- the one item that passes is the first
 find-only : (test : Room → Bool) (xs : List Room) (x : Room) → Contains xs x → test x ≡ true → ((y : Room) → Contains xs y → test y ≡ true → y ≡ x) → find test xs ≡ Some x
@@ -46,38 +45,3 @@ module _ (c : Config) (names : Names) (cells : RunCells) where
       both true true p q = refl
       both true false p q = q
       both false b p q = p
-
-  -- entries that come take these rooms, one after another, behind those of others
-  abbrev pub Take : List Placed → List Entry → List Placed → Type 0
-  Take ps [] [] = Unit {0}
-  Take ps [] (q ∷ qs) = ⊥
-  Take ps (e ∷ es) [] = ⊥
-  Take ps (e ∷ es) (q ∷ qs) =
-      (t : Terms) × (terms_named names e.table ≡ Some t) × (room_for c names cells ps t e ≡ Some q.room) × (q ≡ record { entry = e; room = q.room }) × Take (ps ++ q ∷ []) es qs
-
-  pub all-come : (ps : List Placed) (es : List Entry) (qs : List Placed) → Take ps es qs → fold (with_coming c names cells) (Some ps) es ≡ Some (ps ++ qs)
-  all-come ps [] [] take = ap Some (sym (nil ps))
-    where
-      nil : (xs : List Placed) → xs ++ [] ≡ xs
-      nil [] = refl
-      nil (x ∷ xs) = ap (λ ys. x ∷ ys) (nil xs)
-  all-come ps [] (q ∷ qs) take = absurd take
-  all-come ps (e ∷ es) [] take = absurd take
-  all-come ps (e ∷ es) (q ∷ qs) take =
-      ap (λ o. fold (with_coming c names cells) o es) (comes c names cells ps e take.0 (Some q.room) take.1 take.2 ∙ ap (λ (x : Placed). Some (ps ++ x ∷ [])) (sym take.3))
-      ∙ all-come (ps ++ q ∷ []) es qs take.4 ∙ ap Some (append_assoc ps (q ∷ []) qs)
-
-  -- one that finds no room behind them makes cells move
-  pub one-moves : (ps : List Placed) (es : List Entry) (qs : List Placed) (e : Entry) (rest : List Entry) (t : Terms) → Take ps es qs → terms_named names e.table ≡ Some t
-      → room_for c names cells (ps ++ qs) t e ≡ None → fold (with_coming c names cells) (Some ps) (es ++ e ∷ rest) ≡ None
-  one-moves ps [] [] e rest t take terms none =
-      ap (λ o. fold (with_coming c names cells) o rest) (comes c names cells ps e t None terms (ap (λ xs. room_for c names cells xs t e) (sym (nil ps)) ∙ none)) ∙ none-comes c names cells rest
-    where
-      nil : (xs : List Placed) → xs ++ [] ≡ xs
-      nil [] = refl
-      nil (x ∷ xs) = ap (λ ys. x ∷ ys) (nil xs)
-  one-moves ps [] (q ∷ qs) e rest t take terms none = absurd take
-  one-moves ps (f ∷ es) [] e rest t take terms none = absurd take
-  one-moves ps (f ∷ es) (q ∷ qs) e rest t take terms none =
-      ap (λ o. fold (with_coming c names cells) o (es ++ e ∷ rest)) (comes c names cells ps f take.0 (Some q.room) take.1 take.2 ∙ ap (λ (x : Placed). Some (ps ++ x ∷ [])) (sym take.3))
-      ∙ one-moves (ps ++ q ∷ []) es qs e rest t take.4 terms (ap (λ xs. room_for c names cells xs t e) (append_assoc ps (q ∷ []) qs) ∙ none)

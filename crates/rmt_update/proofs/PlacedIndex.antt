@@ -10,6 +10,7 @@ use Rattle.std.proofs.lemmas.List.{append-nil, length-set}
 use Rattle.std.proofs.lemmas.List.Elements.{All-append, All-nil, All-push, All-weaker, Contains-push}
 use Rattle.std.proofs.lemmas.Option.{same_Some, slice_get_within}
 use Rattle.rmt_bits.proofs.ListLaws.{AllZip-slice_get, slice_get-set_other, slice_get-set_same}
+use Rattle.rmt_bits.specs.Members.{is_among}
 use Rattle.rmt_ast.specs.declared.entry.Entry.{Entry}
 use Rattle.rmt_update.specs.declared.book.Book.{Book}
 use Rattle.rmt_update.specs.declared.book.book_index.BookIndex.{BookIndex}
@@ -24,7 +25,6 @@ use Rattle.rmt_update.specs.Come.{HaveCome, IsRunOf, Run}
 use Rattle.rmt_update.specs.ComeIndex.{HasPlaced, HasPlacedIn, IsNextIndex}
 use Rattle.rmt_update.specs.Placing.{TakesCell}
 use Rattle.rmt_update.specs.RowIndex.{IsIndex}
-use Rattle.rmt_lists.specs.Running.{is_among}
 use Rattle.rmt_book.specs.Seen.{is_seen}
 use Rattle.rmt_update.specs.Taking.{MayCome, MayGive, TakesFrom}
 use Rattle.rmt_update.proofs.ComeSeen.{comes-seen}

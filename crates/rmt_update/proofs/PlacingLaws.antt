@@ -18,6 +18,7 @@ use Rattle.rmt_bits.proofs.AllLaws.{All-slice_get}
 use Rattle.rmt_bits.proofs.ListLaws.{find-passes, zip_push}
 use Rattle.rmt_bits.proofs.MemberLaws.{Contains-first, Contains-item, Contains-later, Contains-unmap, from_flat_map, list_any-Contains}
 use Rattle.rmt_bits.proofs.PairLaws.{AllPairs-append, AllPairs-none}
+use Rattle.rmt_bits.specs.Members.{is_among}
 use Rattle.rmt_ast.specs.EntryLists.{IsEntry}
 use Rattle.rmt_ast.specs.NameRules.{terms_named, terms_of_name}
 use Rattle.rmt_ast.specs.Naming.{has_key}
@@ -31,6 +32,7 @@ use Rattle.rmt_config.specs.Commits.{Placed, is_free, keeps_order, rooms_of, wit
 use Rattle.rmt_config.specs.LaneForm.{bits_of_lanes}
 use Rattle.rmt_config.specs.Rooms.{PartAt, Room, content_in, is_same, key_number, parts_of, rooms_for}
 use Rattle.rmt_config.specs.RunCells.{has_bit}
+use Rattle.rmt_pack.proofs.RankLaws.{IsRowKind}
 use Rattle.rmt_update.specs.declared.book.Book.{Book}
 use Rattle.rmt_update.specs.declared.book.index.TableIndex.{TableIndex}
 use Rattle.rmt_update.specs.declared.book.index.TableIndex.TheVariants.{Cells, Rows}
@@ -48,21 +50,19 @@ use Rattle.rmt_update.specs.Open.{first_open, is_kept_seen}
 use Rattle.rmt_update.specs.Placing.{IsBookSpot, TakesCell, room_of}
 use Rattle.rmt_update.specs.RowIndex.{IsIndex, has_rows, rows_of}
 use Rattle.rmt_book.specs.RowOrder.{IsFirstFit, entry_key}
-use Rattle.rmt_lists.specs.Running.{is_among}
 use Rattle.rmt_book.specs.Spots.{spot_from}
 use Rattle.rmt_update.specs.Taking.{IsComing, IsRowGiven, MayBeGiven, MayGive, TakesFrom, TakesOpen, TakesRow, candidates_at}
 use Rattle.rmt_update.proofs.BookFacts.{spot-facts, table-held}
 use Rattle.rmt_update.proofs.BookLaws.{name-facts}
 use Rattle.rmt_update.proofs.CandidateLaws.{key-low}
 use Rattle.rmt_update.proofs.ComesLaws.{comes, exact-room, none-comes, room_for, rooms-are, taken}
-use Rattle.rmt_update.proofs.FirstLaws.{IsRowKind}
 use Rattle.rmt_update.proofs.FirstRowLaws.{first-row}
 use Rattle.rmt_update.proofs.FreeLaws.{AreGiven, FirstIs, all_rooms, first-free, kept-bit}
 use Rattle.rmt_update.proofs.IndexStart.{key-less, low-entry, none-unseen, rows-start}
 use Rattle.rmt_update.proofs.NodeLists.{found-at}
 use Rattle.rmt_update.proofs.PartOrder.{rooms-apart}
 use Rattle.rmt_update.proofs.PartStages.{parts-apart}
-use Rattle.rmt_update.proofs.RoomGiven.{none-given, one-given, same-room}
+use Rattle.rmt_update.proofs.RoomGiven.{none-given, one-given}
 use Rattle.rmt_update.proofs.RoomNumbers.{HasRows, cell-within, spot-of}
 use Rattle.rmt_update.proofs.RowKeyLaws.{less-pair, prefix-goes-by}
 use Rattle.rmt_update.proofs.RowRooms.{before-rows, numbered-row, room-there, rooms-long, rooms-rows, row_rooms, rows-long}
@@ -70,6 +70,7 @@ use Rattle.rmt_update.proofs.RowsStand.{IsLow, RowsStand, no-row, row-more}
 use Rattle.rmt_book.proofs.ShapeLaws.{cells-are}
 use Rattle.rmt_update.proofs.TableRules.{all-bits, all-rows, row-parts}
 use Rattle.rmt_update.proofs.ZipLaws.{zip-left}
+use Rattle.rmt_update.proofs.LoadLaws.{is-same}
 use Rattle.rmt_config.proofs.LayoutLaws.{memory_formed}
 
 -- ---- kinds
@@ -357,7 +358,7 @@ module _ (w : Run) (b : Book) (ch : Changes) (run : IsRunOf b ch w) (ordered : A
           All-cons (λ (y : Coming). y.spot ≢ c.spot) y ys
           (λ same.
           let rooms : p.room ≡ room = zip.0.room ∙ ap (room_of w.config b.tables.items) same ∙ sym takes-cell.room in
-          false≢true (sym (other p (Contains-first p ps)) ∙ ap (λ (r : Room). is_same r room) rooms ∙ same-room room))
+          false≢true (sym (other p (Contains-first p ps)) ∙ ap (λ (r : Room). is_same r room) rooms ∙ is-same room))
           (new-spot ps ys zip.1 (λ r there. other r (Contains-later p ps r there)))
 
       pub have-more : (more : HaveCome w b ch (es ++ e ∷ []) (xs ++ c ∷ [])) × (more.placed ≡ h.placed ++ q ∷ [])

@@ -12,6 +12,7 @@ use Rattle.rmt_bits.proofs.ListLaws.{take-slice_get}
 use Rattle.rmt_bits.proofs.AllLaws.{All-from_test, All-slice_get, All-unmap}
 use Rattle.rmt_bits.proofs.PairLaws.{AllPairs-none}
 use Rattle.rmt_bits.proofs.MemberLaws.{Contains-filter, Contains-flat_map, Contains-item, Contains-map, Contains-unfilter, from_flat_map}
+use Rattle.rmt_bits.specs.Members.{is_among}
 use Rattle.rmt_ast.specs.EntryLists.{IsEntry}
 use Rattle.rmt_ast.specs.NameRules.{terms_of_name}
 use Rattle.rmt_ast.specs.declared.entry.Entry.{Entry}
@@ -32,7 +33,6 @@ use Rattle.rmt_update.specs.Loads.{HasShape}
 use Rattle.rmt_update.specs.Placing.{ArePlaced, IsBookSpot, StaysAt, TakesCell, room_of}
 use Rattle.rmt_update.specs.Planned.{changed_lists}
 use Rattle.rmt_update.specs.RowIndex.{IsIndex}
-use Rattle.rmt_lists.specs.Running.{is_among}
 use Rattle.rmt_update.specs.Taking.{Holds, MayCome, MayGive, TakesFrom}
 use Rattle.rmt_update.proofs.BookFacts.{book-tables, holds-there, nodes-rising, own-there, zip-shapes}
 use Rattle.rmt_update.proofs.BookLaws.{names-fit}

@@ -15,6 +15,7 @@ use Rattle.std.proofs.lemmas.Map.Made.{length-le_from_is_member}
 use Rattle.std.proofs.lemmas.Option.{none-some, same_Some, slice_get-get_or}
 use Rattle.rmt_bits.proofs.MemberLaws.{Contains-from_any, Contains-item, Contains-map, Contains-unfilter, Contains-unmap, any_item, flat_from, list_any-Contains}
 use Rattle.rmt_bits.proofs.PairLaws.{AllPairs-map}
+use Rattle.rmt_bits.specs.Members.{is_among}
 use Rattle.rmt_ast.specs.declared.entry.Entry.{Entry}
 use Rattle.rmt_ast.specs.declared.names.Names.{Names}
 use Rattle.rmt_config.specs.declared.config.Config.{Config}
@@ -31,7 +32,6 @@ use Rattle.rmt_update.specs.NextKept.{bit_of}
 use Rattle.rmt_update.specs.Placing.{ArePlaced, IsBookSpot}
 use Rattle.rmt_update.specs.Planned.{MayChange}
 use Rattle.rmt_update.specs.Recent.{is_recent, recent, recent_in, recent_of}
-use Rattle.rmt_lists.specs.Running.{is_among}
 use Rattle.rmt_book.specs.Seen.{is_seen}
 use Rattle.rmt_update.specs.Turning.{AreNext, IsLike, left_kept}
 use Rattle.rmt_update.proofs.CellsFound.{one-spot}
@@ -78,14 +78,6 @@ module _ (c : Config) (names : Names) (cells : RunCells) (lists : List (List Ent
       let cell = same-cell c names cells lists ch b xs stands named may placed s w a.at d.at a.kept d.kept a.is d.is (sym a.like.number ∙ same ∙ d.like.number) in
       let one : s ≡ w = one-spot c cells lists b stands s w a.at d.at cell.0 cell.1 cell.2 in
       (ap (λ (x : BookSpot). x.table) one, ap (λ (x : BookSpot). x.at.part) one, ap (λ (x : BookSpot). x.at.cell) one)
-
-  -- where a cell without both visible bits stands
-  record IsRecent (k : Kept) : Type 0 where
-    i : ℕ
-    j : ℕ
-    n : ℕ
-    of : IsNextOf i j n k
-    off : is_recent k ≡ true
 
   in-part : (i j : ℕ) (u : TableCells) (y : PartCells) (k : Kept) → slice_get us i ≡ Some u → slice_get u.parts.items j ≡ Some y → Contains (recent_in y) k → (n : ℕ) × IsNextOf i j n k × (is_recent k ≡ true)
   in-part i j u y k at_u at_y there =

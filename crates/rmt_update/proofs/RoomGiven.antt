@@ -21,6 +21,7 @@ use Rattle.rmt_update.proofs.FreeLaws.{AreGiven}
 use Rattle.rmt_update.proofs.PartOrder.{pair-at, same-as}
 use Rattle.rmt_update.proofs.RowIndexLaws.{own-number, same-number}
 use Rattle.rmt_update.proofs.ZipLaws.{zip-made}
+use Rattle.rmt_update.proofs.LoadLaws.{is-same}
 
 -- ---- one room more
 
@@ -36,9 +37,6 @@ any-push test (y ∷ xs) x = ap (λ b. test y || b) (any-push test xs x) ∙ by 
     by true b c = refl
     by false b c = refl
 
-pub same-room : (a : Room) → is_same a a ≡ true
-same-room a = rw (eq-eqb a.part.stage a.part.stage refl, eq-eqb a.part.place a.part.place refl, eq-eqb a.cell a.cell refl) refl
-
 -- a room stays free where another is given
 pub free-push : (cells : RunCells) (ps : List Placed) (q : Placed) (a : Room) → is_same q.room a ≡ false → is_free cells (ps ++ q ∷ []) a ≡ is_free cells ps a
 free-push cells ps q a other = ap (λ b. not (has_bit cells.version (content_in cells a).head) && not b) (any-push (λ (p : Placed). is_same p.room a) ps q ∙ ap (λ b. list_any (λ (p : Placed). is_same p.room a) ps || b) other ∙ none (list_any (λ (p : Placed). is_same p.room a) ps))
@@ -50,7 +48,7 @@ free-push cells ps q a other = ap (λ b. not (has_bit cells.version (content_in 
 -- the given one is no longer free
 pub given-push : (cells : RunCells) (ps : List Placed) (q : Placed) → is_free cells (ps ++ q ∷ []) q.room ≡ false
 given-push cells ps q =
-    ap (λ b. not (has_bit cells.version (content_in cells q.room).head) && not b) (any-push (λ (p : Placed). is_same p.room q.room) ps q ∙ ap (λ b. list_any (λ (p : Placed). is_same p.room q.room) ps || b) (same-room q.room))
+    ap (λ b. not (has_bit cells.version (content_in cells q.room).head) && not b) (any-push (λ (p : Placed). is_same p.room q.room) ps q ∙ ap (λ b. list_any (λ (p : Placed). is_same p.room q.room) ps || b) (is-same q.room))
     ∙ none (not (has_bit cells.version (content_in cells q.room).head)) (list_any (λ (p : Placed). is_same p.room q.room) ps)
   where
     none : (a b : Bool) → (a && not (b || true)) ≡ false
@@ -102,7 +100,7 @@ one-given cells ps q parts old new s apart there cell given zip = zip-made (AreG
             → (list_any (λ (r : Placed). is_same r.room (record { part = p; cell = n })) ps || is_same q.room (record { part = p; cell = n })) ≡ cond b true (contains nat_cmp given.before n)
         by true is same before =
             let room : q.room ≡ record { part = p; cell = n } = ap (λ (x : PartAt). record { part = x; cell = q.room.cell }) same ∙ ap (λ m. record { part = p; cell = m }) (cell ∙ same-number s.cell n is) in
-            either (list_any (λ (r : Placed). is_same r.room (record { part = p; cell = n })) ps) (is_same q.room (record { part = p; cell = n })) (ap (is_same q.room) (sym room) ∙ same-room q.room)
+            either (list_any (λ (r : Placed). is_same r.room (record { part = p; cell = n })) ps) (is_same q.room (record { part = p; cell = n })) (ap (is_same q.room) (sym room) ∙ is-same q.room)
         by false is same before =
             let other : is_same q.room (record { part = p; cell = n }) ≡ false =
             false_from_ne_true (is_same q.room (record { part = p; cell = n })) (λ e.

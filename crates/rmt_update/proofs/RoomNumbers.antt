@@ -9,12 +9,13 @@ use Rattle.std.proofs.lemmas.List.Elements.{All-head, All-tail, Contains-append_
 use Rattle.std.proofs.lemmas.List.FromFn.{length-range_with_len}
 use Rattle.std.proofs.lemmas.Nat.{mod_below}
 use Rattle.std.proofs.lemmas.Option.{none-some, same_Some}
+use Rattle.std.proofs.lemmas.List.Folds.{flat_map-map}
 use Rattle.rmt_bits.specs.Bits.{bytes_of}
 use Rattle.rmt_bits.specs.Hash.{hash_row}
 use Rattle.rmt_ast.specs.declared.program.Kind.TheVariants as kind
 use Rattle.rmt_bits.proofs.AllLaws.{All-slice_get}
 use Rattle.rmt_bits.proofs.FunctionLaws.{funext}
-use Rattle.rmt_bits.proofs.ListLaws.{flat_map-map, slice_get-end, slice_get-front}
+use Rattle.rmt_bits.proofs.ListLaws.{slice_get-end, slice_get-front}
 use Rattle.rmt_bits.proofs.MemberLaws.{Contains-map, Contains-unmap, from_flat_map}
 use Rattle.rmt_config.specs.declared.config.Memory.{Memory}
 use Rattle.rmt_config.specs.declared.config.Memory.TheVariants.{Without, Exact, Ternary}

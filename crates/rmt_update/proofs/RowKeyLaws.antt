@@ -55,10 +55,3 @@ prefix-goes a b la lb h = pair-less (entry_key kind.Prefix a) (entry_key kind.Pr
 
 pub prefix-goes-by : (a b : Entry) → a.rank < 4294967296 → b.rank < 4294967296 → pair_cmp (entry_key kind.Prefix a) (entry_key kind.Prefix b) ≡ Less → goes_first kind.Prefix a b ≡ true
 prefix-goes-by a b la lb h = sym (prefix-is a b la lb) ∙ less-pair (entry_key kind.Prefix a) (entry_key kind.Prefix b) h
-
--- and a ternary entry
-pub ternary-goes : (a b : Entry) → a.rank < 4294967296 → b.rank < 4294967296 → goes_first kind.Ternary a b ≡ true → pair_cmp (entry_key kind.Ternary a) (entry_key kind.Ternary b) ≡ Less
-ternary-goes a b la lb h = pair-less (entry_key kind.Ternary a) (entry_key kind.Ternary b) h
-
-pub ternary-goes-by : (a b : Entry) → a.rank < 4294967296 → b.rank < 4294967296 → pair_cmp (entry_key kind.Ternary a) (entry_key kind.Ternary b) ≡ Less → goes_first kind.Ternary a b ≡ true
-ternary-goes-by a b la lb h = less-pair (entry_key kind.Ternary a) (entry_key kind.Ternary b) h

@@ -1,13 +1,13 @@
 -- The rows of the entries of a table stand in the order of their precedence.
-use Rattle.std.proofs.Common.{◌≡◌, ℕ, ◌+◌, ◌-◌, ◌<◌, Bool, true, false, ◌&&◌, cond, eqb, List, [], ◌∷◌, ◌++◌, Some, map, length, refl, sym, ap, ◌∙◌, subst, inl, inr, arith}
-use Rattle.std.specs.Prelude.{All, Contains, filter, nat_lt, slice_get}
+use Rattle.std.proofs.Common.{◌≡◌, ℕ, ◌+◌, ◌-◌, ◌<◌, Bool, true, false, ◌&&◌, cond, List, [], ◌∷◌, ◌++◌, Some, map, length, refl, sym, ap, ◌∙◌, subst, inl, inr, arith}
+use Rattle.std.specs.Prelude.{All, Contains, filter, slice_get}
 use Rattle.std.specs.List.{flat_map, list_all}
 use Rattle.std.specs.List.Sorted.{IsStrictlySortedBy}
 use Rattle.std.specs.BTreeMap.{IsOrdered, get, is_at}
 use Rattle.std.specs.Map.{keys_of, lookup, values_of}
 use Rattle.std.specs.Ordering.{nat_cmp}
-use Rattle.std.specs.declared.cmp.Ordering.TheVariants.{Less, Equal, Greater}
-use Rattle.std.proofs.lemmas.Bool.{and_parts, cases_lt, ltb-true}
+use Rattle.std.specs.declared.cmp.Ordering.TheVariants.{Less}
+use Rattle.std.proofs.lemmas.Bool.{and_parts, cases_lt}
 use Rattle.std.proofs.lemmas.List.Elements.{All-contains, All-head, All-tail, Contains-append_left, Contains-append_right}
 use Rattle.std.proofs.lemmas.List.FromFn.{length-map-range_with_len}
 use Rattle.std.proofs.lemmas.Map.Keys.{sorted_tail}
@@ -16,6 +16,7 @@ use Rattle.std.proofs.lemmas.Option.{none-some, same_Some, slice_get_within}
 use Rattle.rmt_bits.proofs.AllLaws.{All-from_test}
 use Rattle.rmt_bits.proofs.ListLaws.{slice_get-end, slice_get-front}
 use Rattle.rmt_bits.proofs.MemberLaws.{Contains-filter, Contains-first, Contains-later, Contains-map, Contains-split}
+use Rattle.rmt_bits.proofs.SearchLaws.{less}
 use Rattle.rmt_ast.specs.RowOrder.{goes_first}
 use Rattle.rmt_ast.specs.declared.entry.Entry.{Entry}
 use Rattle.rmt_ast.specs.declared.names.TableName.{TableName}
@@ -65,27 +66,16 @@ module _ {X : Type 0} (rule : X → X → Bool) where
 
 -- ---- the cells of a part
 
-nat-less : (a b : ℕ) → nat_cmp a b ≡ Less → a < b
-nat-less a b e = by (nat_lt a b) refl e
-  where
-    by : (c : Bool) → nat_lt a b ≡ c → cond c Less (cond (eqb a b) Equal Greater) ≡ Less → a < b
-    by true is h = ltb-true a b is
-    by false is h = other (eqb a b) h
-      where
-        other : (d : Bool) → cond d Equal Greater ≡ Less → a < b
-        other true g = cc
-        other false g = cc
-
 -- an entry of cells is found behind the first cell
 found-behind : (a : ℕ) (es : List (ℕ × Kept)) (n : ℕ) (k : Kept) → All (λ m. nat_cmp a m ≡ Less) (keys_of es) → lookup (is_at (nat_cmp n)) es ≡ Some k → a < n
 found-behind a [] n k low at = absurd (none-some k at)
 found-behind a (e ∷ es) n k low at = by (is_at (nat_cmp n) e.0) refl at (found-behind a es n k (All-tail (λ m. nat_cmp a m ≡ Less) e.0 (keys_of es) low))
   where
-    less : a < e.0
-    less = let l = All-head (λ m. nat_cmp a m ≡ Less) e.0 (keys_of es) low in nat-less a e.0 l
+    here : a < e.0
+    here = let l = All-head (λ m. nat_cmp a m ≡ Less) e.0 (keys_of es) low in less a e.0 l
 
     by : (b : Bool) → is_at (nat_cmp n) e.0 ≡ b → cond b (Some e.1) (lookup (is_at (nat_cmp n)) es) ≡ Some k → (lookup (is_at (nat_cmp n)) es ≡ Some k → a < n) → a < n
-    by true is h rest = subst (λ m. a < m) (sym (same-number n e.0 is)) less
+    by true is h rest = subst (λ m. a < m) (sym (same-number n e.0 is)) here
     by false is h rest = rest h
 
 -- and is among its values

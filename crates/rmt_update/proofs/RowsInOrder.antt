@@ -10,8 +10,9 @@ use Rattle.rmt_ast.specs.NameRules.{terms_of_name}
 use Rattle.rmt_ast.specs.RowOrder.{goes_first}
 use Rattle.rmt_config.specs.declared.config.Config.{Config}
 use Rattle.rmt_config.specs.Rooms.{PartAt, Room, parts_of, rooms_for}
+use Rattle.rmt_pack.proofs.RankLaws.{IsRowKind}
 use Rattle.rmt_book.specs.declared.table.TableCells.{TableCells}
-use Rattle.rmt_update.proofs.FirstLaws.{IsRowKind, firsts, firsts-within, goes-by-count}
+use Rattle.rmt_update.proofs.FirstLaws.{firsts, firsts-within, goes-by-count}
 use Rattle.rmt_update.proofs.OncePlaced.{part-once}
 use Rattle.rmt_update.proofs.PartPairs.{IsBefore}
 use Rattle.rmt_update.proofs.RoomNumbers.{offset, row-at, size_of}

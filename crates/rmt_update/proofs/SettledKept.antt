@@ -4,11 +4,12 @@ use Rattle.std.specs.Prelude.{IsTrue, find, slice_get, sum}
 use Rattle.std.proofs.lemmas.Bool.{false≢true}
 use Rattle.std.proofs.lemmas.Option.{same_Some}
 use Rattle.rmt_bits.proofs.AllLaws.{All-slice_get}
+use Rattle.rmt_bits.specs.Members.{is_among}
 use Rattle.rmt_ast.specs.declared.entry.Entry.{Entry}
 use Rattle.rmt_ast.specs.declared.names.Names.{Names}
 use Rattle.rmt_ast.specs.NameRules.{terms_named, terms_of_name}
 use Rattle.rmt_config.specs.declared.config.Config.{Config}
-use Rattle.rmt_config.specs.Commits.{Placed, all_entries, is_numbered_in, placed_at, settled}
+use Rattle.rmt_config.specs.Commits.{Placed, all_entries, is_numbered_in, placed_at}
 use Rattle.rmt_config.specs.Rooms.{PartAt, Room, is_at, key_number}
 use Rattle.rmt_config.specs.LaneForm.{bits_of_lanes}
 use Rattle.rmt_config.specs.NamesForm.{is_of_kind}
@@ -25,7 +26,6 @@ use Rattle.rmt_book.specs.Coming.{KeepsEntry}
 use Rattle.rmt_update.specs.NextKept.{bit_of, next_kept}
 use Rattle.rmt_update.specs.Open.{is_kept_seen}
 use Rattle.rmt_update.specs.Placing.{ArePlaced, IsBookSpot, room_of}
-use Rattle.rmt_lists.specs.Running.{is_among}
 use Rattle.rmt_book.specs.Seen.{is_seen}
 use Rattle.rmt_update.specs.Turning.{come_to, left_kept}
 use Rattle.rmt_update.proofs.CellsFound.{kept-is, own_names, room-is, spot-part, table-own}
@@ -49,9 +49,6 @@ left-stays odd gone k seen stays =
 
 module _ (c : Config) (names : Names) (cells : RunCells) (lists : List (List Entry)) (ch : Changes) (b : Book) (xs : List Coming) (stands : BookStands c cells lists b) (named : c.names ≡ Some names)
     (placed : ArePlaced c names cells lists ch b.odd b.tables.items xs) where
-  abbrev pub next_cells : RunCells
-  next_cells = settled c names cells lists (placed.stay ++ placed.coming)
-
   -- what is kept next of a cell
   abbrev pub next_at : BookSpot → Option Kept
   next_at s = come_to xs s (left_kept b.odd ch.gone (kept_at b.tables.items s))
@@ -108,9 +105,6 @@ module _ (c : Config) (names : Names) (cells : RunCells) (lists : List (List Ent
         → Next c names cells lists own (spot-part c cells lists b stands s at).own.slot b.odd stands.version s.at.cell (Some h.q) (Some h.x.kept)
     comes-next h = moved h.x.spot h.takes.at h.spot h.takes.node h.takes.room h.takes.candidate h.takes.keeps
       where
-        one-table : (a : IsBookSpot b.tables.items s) → a.table ≡ at.table
-        one-table a = same_Some a.table at.table (sym a.in_tables ∙ at.in_tables)
-
         here : (a : IsBookSpot b.tables.items s) → h.q.entry.table ≡ a.table.name.node → h.q.room ≡ room_of c b.tables.items s
             → is_candidate cells.seed h.q.room.part (key_number (terms_of_name a.table.name) h.q.entry) s.at.cell ≡ true
             → KeepsEntry a.table.name a.part.first s.at.cell (bit_of (not b.odd)) h.q.entry h.x.kept

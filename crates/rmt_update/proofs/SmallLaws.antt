@@ -7,9 +7,8 @@ use Rattle.std.proofs.lemmas.List.{append-nil, map-append, take_more}
 use Rattle.std.proofs.lemmas.List.Elements.{All-cons, All-nil, All-weaker}
 use Rattle.std.proofs.lemmas.List.Sums.{sum_by_more}
 use Rattle.std.proofs.lemmas.Option.{get_or_from_slice_get}
-use Rattle.rmt_bits.specs.Bits.{bytes_of, number_of}
+use Rattle.rmt_bits.specs.Bits.{bytes_of}
 use Rattle.rmt_bits.proofs.AllLaws.{All-flat_map}
-use Rattle.rmt_bits.proofs.ByteLaws.{bytes_of-number_of}
 use Rattle.rmt_bits.proofs.ListLaws.{slice_get-item}
 use Rattle.rmt_ast.specs.declared.entry.Entry.{Entry}
 use Rattle.rmt_ast.specs.declared.program.Kind.{Kind}
@@ -22,6 +21,7 @@ use Rattle.rmt_config.specs.Rooms.{key_number}
 use Rattle.rmt_config.specs.BlockCounts.{divided_up}
 use Rattle.rmt_cuckoo.specs.declared.layout.Ways.{Ways}
 use Rattle.rmt_cuckoo.specs.Loading.{cells_in, cells_of}
+use Rattle.rmt_pack.proofs.RankLaws.{IsRowKind}
 use Rattle.rmt_book.specs.declared.grid.Grid.{Grid}
 use Rattle.rmt_book.specs.declared.grid.Grid.TheVariants as grid
 use Rattle.rmt_update.specs.declared.book.loading.TableTried.{TableTried}
@@ -31,7 +31,6 @@ use Rattle.rmt_book.specs.declared.table.PartCells.{PartCells}
 use Rattle.rmt_update.specs.FirstFull.{keys_of}
 use Rattle.rmt_update.specs.Loads.{AreLoadedKeys, IsTried, StandBy, layout_in, ways_for}
 use Rattle.rmt_book.specs.Spots.{spots_at}
-use Rattle.rmt_update.proofs.FirstLaws.{IsRowKind}
 
 -- the layout of the parts so far, with one more
 pub layout-more : (parts : List PartCells) (i : ℕ) (x : PartCells) → i < length parts → x ≡ get_or parts i x → layout_in (take (i + 1) parts) ≡ layout_in (take i parts) ++ ways_for x.shape.grid
@@ -64,10 +63,6 @@ keys-more t es i e keys key lt is so_far one =
 -- the cells of the parts so far, with one more
 pub cells-more : (ws : List Ways) (i cells : ℕ) (d : Ways) → i < length ws → cells ≡ cells_of (take i ws) → cells + 4 * ((get_or ws i d).rows * (get_or ws i d).per) ≡ cells_of (take (i + 1) ws)
 cells-more ws i cells d lt so_far = let more = sum_by_more cells_in ws i d lt in omega (arith, more, so_far)
-
--- bytes of a number
-pub bytes-are : (items : List ℕ) (long value : ℕ) → ((k : ℕ) → get_or items k 0 < 2 ^ 8) → length items ≡ long → number_of items ≡ value → items ≡ bytes_of long value
-bytes-are items long value fits size number = sym (bytes_of-number_of items fits) ∙ ap (λ k. bytes_of k (number_of items)) size ∙ ap (bytes_of long) number
 
 -- rows by kind
 pub rows-stand-by : (k : Kind) (parts : List PartCells) (seed : ℕ) (t : Terms) (es : List Entry) (spots : List Spot) → IsRowKind k

@@ -46,6 +46,7 @@ use Rattle.rmt_config.proofs.SpelledWays.{parts-follow}
 use Rattle.rmt_pack.proofs.FindLaws.{found_passes, all_at}
 use Rattle.rmt_config.proofs.LayoutLaws.{memory_formed}
 use Rattle.rmt_pack.proofs.PartLaws.{placed_has}
+use Rattle.rmt_pack.proofs.SortedLaws.{IsBelow, Differ}
 use Rattle.rmt_update.specs.BookStands.{IsUsed}
 use Rattle.rmt_update.proofs.BookLaws.{TableFacts, names-fit, table-facts}
 use Rattle.rmt_update.proofs.ByNumberLaws.{from-by_number}
@@ -88,29 +89,23 @@ module _ (R : Entry → Entry → Type 0) (even : (a b : Entry) → R a b → R 
   pairs-by_number : (es : List Entry) → AllPairs R es → AllPairs R (by_number es)
   pairs-by_number es pairs = pairs-sorted [] es (AllPairs-none R) pairs (λ i d lt. All-nil (R (get_or es i d)))
 
-abbrev Below : Entry → Entry → Type 0
-Below a b = a.number < b.number
-
-abbrev Differ : Entry → Entry → Type 0
-Differ a b = a.number ≢ b.number
-
 -- numbers that differ rise then
-rising-with : (e : Entry) (os : List Entry) → All (Differ e) os → AllPairs Below os → AllPairs Below (with_entry e os)
-rising-with e [] all pairs = AllPairs-cons Below e [] (All-nil (Below e)) pairs
-rising-with e (o ∷ os) all pairs = by (ltb o.number e.number) refl (rising-with e os (All-tail (Differ e) o os all) (AllPairs-tail Below o os pairs))
+rising-with : (e : Entry) (os : List Entry) → All (Differ e) os → AllPairs IsBelow os → AllPairs IsBelow (with_entry e os)
+rising-with e [] all pairs = AllPairs-cons IsBelow e [] (All-nil (IsBelow e)) pairs
+rising-with e (o ∷ os) all pairs = by (ltb o.number e.number) refl (rising-with e os (All-tail (Differ e) o os all) (AllPairs-tail IsBelow o os pairs))
   where
-    by : (b : Bool) → ltb o.number e.number ≡ b → AllPairs Below (with_entry e os) → AllPairs Below (cond b (o ∷ with_entry e os) (e ∷ o ∷ os))
-    by true is rest = AllPairs-cons Below o (with_entry e os) (all-with (Below o) e os (ltb-true o.number e.number is) (AllPairs-head Below o os pairs)) rest
+    by : (b : Bool) → ltb o.number e.number ≡ b → AllPairs IsBelow (with_entry e os) → AllPairs IsBelow (cond b (o ∷ with_entry e os) (e ∷ o ∷ os))
+    by true is rest = AllPairs-cons IsBelow o (with_entry e os) (all-with (IsBelow o) e os (ltb-true o.number e.number is) (AllPairs-head IsBelow o os pairs)) rest
     by false is rest =
         let le : e.number ≤ o.number = not-less o.number e.number is in
         let other = All-head (Differ e) o os all in
         let lt : e.number < o.number = omega (arith, le, other) in
-        AllPairs-cons Below e (o ∷ os) (All-cons (Below e) o os lt (λ i d within. let more = AllPairs-head Below o os pairs i d within in omega (arith, lt, more))) pairs
+        AllPairs-cons IsBelow e (o ∷ os) (All-cons (IsBelow e) o os lt (λ i d within. let more = AllPairs-head IsBelow o os pairs i d within in omega (arith, lt, more))) pairs
       where
         not-less : (a b : ℕ) → ltb a b ≡ false → b ≤ a
         not-less a b h = grind (arith, h)
 
-rising-sorted : (acc es : List Entry) → AllPairs Below acc → AllPairs Differ es → All (λ e. All (Differ e) acc) es → AllPairs Below (fold (λ sorted e. with_entry e sorted) acc es)
+rising-sorted : (acc es : List Entry) → AllPairs IsBelow acc → AllPairs Differ es → All (λ e. All (Differ e) acc) es → AllPairs IsBelow (fold (λ sorted e. with_entry e sorted) acc es)
 rising-sorted acc [] done pairs cross = done
 rising-sorted acc (e ∷ es) done pairs cross =
     let one = rising-with e acc (All-head (λ e. All (Differ e) acc) e es cross) done in
@@ -118,8 +113,8 @@ rising-sorted acc (e ∷ es) done pairs cross =
     (λ i d lt.
     all-with (Differ (get_or es i d)) e acc (λ same. AllPairs-head Differ e es pairs i d lt (sym same)) (All-tail (λ e. All (Differ e) acc) e es cross i d lt))
 
-rising-by_number : (es : List Entry) → AllPairs Differ es → AllPairs Below (by_number es)
-rising-by_number es pairs = rising-sorted [] es (AllPairs-none Below) pairs (λ i d lt. All-nil (Differ (get_or es i d)))
+rising-by_number : (es : List Entry) → AllPairs Differ es → AllPairs IsBelow (by_number es)
+rising-by_number es pairs = rising-sorted [] es (AllPairs-none IsBelow) pairs (λ i d lt. All-nil (Differ (get_or es i d)))
 
 length-with : (e : Entry) (os : List Entry) → length (with_entry e os) ≡ length os + 1
 length-with e [] = refl
@@ -347,21 +342,21 @@ module _ (c : Config) (formed : Formed c) (names : Names) (named : c.names ≡ S
       by (inl x) = absurd (let none = subst (λ xs. Contains xs e) ((list-is n es at).1 ∙ x.0) there in let lt = none.1 in omega (arith, lt))
       by (inr x) = (x.0, x.1, x.2, subst (λ xs. Contains xs e) ((list-is n es at).1 ∙ x.3) there)
 
-  own-differ : (n : ℕ) (es : List Entry) → slice_get (entries_spelled c names) n ≡ Some es → AllPairs Below es
-  own-differ n es at = subst (AllPairs Below) (sym (list-is n es at).1) (by (at-node n))
+  own-differ : (n : ℕ) (es : List Entry) → slice_get (entries_spelled c names) n ≡ Some es → AllPairs IsBelow es
+  own-differ n es at = subst (AllPairs IsBelow) (sym (list-is n es at).1) (by (at-node n))
     where
       by : (entries_of_node c names n ≡ []) × (terms_named names n ≡ None)
           ⊎ ((t : TableName) × Kept c t × (t.node ≡ n) × (entries_of_node c names n ≡ by_number (entries_by_cell c t)) × (terms_named names n ≡ Some (terms_of_name t)))
-          → AllPairs Below (entries_of_node c names n)
-      by (inl x) = subst (AllPairs Below) (sym x.0) (AllPairs-none Below)
-      by (inr x) = subst (AllPairs Below) (sym x.3) (table-spelled x.0 x.1).rising
+          → AllPairs IsBelow (entries_of_node c names n)
+      by (inl x) = subst (AllPairs IsBelow) (sym x.0) (AllPairs-none IsBelow)
+      by (inr x) = subst (AllPairs IsBelow) (sym x.3) (table-spelled x.0 x.1).rising
 
   numbers-once : AllPairs (λ (a b : ℕ). a ≢ b) (flat_map entry_numbers (entries_spelled c names))
   numbers-once =
       flat-pairs (λ (a b : ℕ). a ≢ b) entry_numbers (entries_spelled c names)
       (λ n es at.
       AllPairs-map (λ (a b : ℕ). a ≢ b) (λ (e : Entry). e.number) es
-      (AllPairs-weaker Below (λ (a b : Entry). a.number ≢ b.number) (λ a b lt same. omega (arith, lt, same)) es (own-differ n es at)))
+      (AllPairs-weaker IsBelow (λ (a b : Entry). a.number ≢ b.number) (λ a b lt same. omega (arith, lt, same)) es (own-differ n es at)))
       (λ i j es fs p q lt at_i at_j in_es in_fs.
       let a = Contains-unmap (λ (e : Entry). e.number) es p in_es in
       let b = Contains-unmap (λ (e : Entry). e.number) fs q in_fs in

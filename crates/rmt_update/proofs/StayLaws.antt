@@ -1,5 +1,5 @@
 -- The entries that stay behind a commit have the rooms of their cells, and those that come are those of its changes, table by table.
-use Rattle.std.proofs.Common.{◌≡◌, ◌≢◌, ◌⊎◌, ℕ, zero, suc, ◌+◌, ◌<◌, ◌≤◌, ◌==◌, Bool, true, false, not, List, [], ◌∷◌, ◌++◌, Option, Some, None, get_or, map, length, option_map, refl, sym, ap, ◌∙◌, subst, inl, inr, arith}
+use Rattle.std.proofs.Common.{◌≡◌, ◌≢◌, ℕ, zero, suc, ◌+◌, ◌<◌, ◌≤◌, ◌==◌, Bool, true, false, not, List, [], ◌∷◌, ◌++◌, Option, Some, None, get_or, map, length, option_map, refl, sym, ap, ◌∙◌, subst, inl, inr, arith}
 use Rattle.std.specs.Prelude.{All, Contains, filter, slice_get, unwrap_or}
 use Rattle.std.specs.List.{enumerate_from, filter_map, range_with_len}
 use Rattle.std.specs.BTreeMap.{IsOrdered, get, keys}
@@ -11,9 +11,10 @@ use Rattle.std.proofs.lemmas.List.Elements.{All-contains, Contains-append_cases,
 use Rattle.std.proofs.lemmas.List.FromFn.{length-enumerate_from, length-range_with_len}
 use Rattle.std.proofs.lemmas.Map.Lookups.{exact_unsigned}
 use Rattle.std.proofs.lemmas.Map.Views.{btree_map_get_iff}
-use Rattle.std.proofs.lemmas.Option.{none-some, same_Some}
+use Rattle.std.proofs.lemmas.Option.{same_Some}
 use Rattle.rmt_bits.proofs.AllLaws.{All-slice_get, All-unmap}
-use Rattle.rmt_bits.proofs.MemberLaws.{Contains-filter, Contains-first, Contains-flat_map, Contains-item, Contains-later, Contains-map, Contains-split, Contains-unfilter, Contains-unmap, any_item, flat_from, from_flat_map}
+use Rattle.rmt_bits.proofs.MemberLaws.{Contains-filter, Contains-first, Contains-flat_map, Contains-item, Contains-later, Contains-map, Contains-split, Contains-unfilter, Contains-unmap, any_item, flat_from, from_flat_map, Contains-filter_map}
+use Rattle.rmt_bits.specs.Members.{is_among}
 use Rattle.rmt_ast.specs.declared.entry.Entry.{Entry}
 use Rattle.rmt_ast.specs.declared.names.TableName.{TableName}
 use Rattle.rmt_config.specs.Cells.{cells_in}
@@ -31,7 +32,6 @@ use Rattle.rmt_update.specs.Come.{AreOrdered, IsRunOf, Run, staying}
 use Rattle.rmt_update.specs.Loads.{table_of}
 use Rattle.rmt_update.specs.Placing.{AreStaying, IsBookSpot, StaysAt, room_of}
 use Rattle.rmt_update.specs.Planned.{changed_list, changed_lists}
-use Rattle.rmt_lists.specs.Running.{is_among}
 use Rattle.rmt_book.specs.Seen.{entries_at, entries_by_part, entries_in, is_seen}
 use Rattle.rmt_book.specs.Told.{told_entry}
 use Rattle.rmt_update.proofs.BookFacts.{book-tables, found-there, holds-there, kept-facts, placed-seen}
@@ -53,16 +53,6 @@ from-filter_map {X} {Y} h (x ∷ xs) y there = by (h x) refl there (from-filter_
       | inl same ↦ (x, Contains-first x xs, is ∙ ap Some same)
       | inr more ↦ let r = rest more in (r.0, Contains-later x xs r.0 r.1, r.2)
     ]
-
-pub to-filter_map : {X Y : Type 0} (h : X → Option Y) (xs : List X) (x : X) (y : Y) → Contains xs x → h x ≡ Some y → Contains (filter_map h xs) y
-to-filter_map h [] x y there is = absurd (let lt = there.1 in omega (arith, lt))
-to-filter_map {X} {Y} h (z ∷ xs) x y there is = by (h z) refl (Contains-split z xs x there) (λ more. to-filter_map h xs x y more is)
-  where
-    by : (o : Option Y) → h z ≡ o → (z ≡ x) ⊎ Contains xs x → (Contains xs x → Contains (filter_map h xs) y) → Contains (filter_map h (z ∷ xs)) y
-    by None e (inl same) rest = absurd (none-some y (sym e ∙ ap h same ∙ is))
-    by None e (inr more) rest = rw e (rest more)
-    by (Some w) e (inl same) rest = rw e (subst (Contains (w ∷ filter_map h xs)) (same_Some w y (sym e ∙ ap h same ∙ is)) (Contains-first w (filter_map h xs)))
-    by (Some w) e (inr more) rest = rw e (Contains-later w (filter_map h xs) y (rest more))
 
 from-enumerate : {X : Type 0} (a : ℕ) (xs : List X) (n : ℕ) (x : X) → Contains (enumerate_from a xs) (n, x) → Contains xs x
 from-enumerate a [] n x there = absurd (let lt = there.1 in omega (arith, lt))
@@ -244,7 +234,7 @@ module _ (w : Run) (b : Book) (ch : Changes) (run : IsRunOf b ch w) (ordered : A
   pub stay_placed : AreStaying w.config w.lists b.odd ch.gone b.tables.items (staying w ch)
   stay_placed = record {
     each = λ i d lt. each (get_or (staying w ch) i d) (Contains-get_or (staying w ch) i d lt);
-    all = λ s e h. to-filter_map (placed_now w.config w.names w.cells) the_stay e (record { entry = e; room = room_of w.config b.tables.items s }) (stay-to s e h) (stays-placed s e h);
+    all = λ s e h. Contains-filter_map (placed_now w.config w.names w.cells) the_stay e (record { entry = e; room = room_of w.config b.tables.items s }) (stay-to s e h) (stays-placed s e h);
     old = λ i d lt. old (get_or (staying w ch) i d) (Contains-get_or (staying w ch) i d lt);
   }
     where

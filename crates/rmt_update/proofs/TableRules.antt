@@ -27,10 +27,10 @@ use Rattle.rmt_config.specs.UnitForm.{memory_is_formed, slot_head_is_formed}
 use Rattle.rmt_config.proofs.SlotLaws.{exact-fits, slot_is_short}
 use Rattle.rmt_config.proofs.SpelledParts.{parts-stand}
 use Rattle.rmt_config.proofs.SpelledWays.{parts-follow}
+use Rattle.rmt_pack.proofs.RankLaws.{IsRowKind}
 use Rattle.rmt_book.specs.declared.table.TableCells.{TableCells}
 use Rattle.rmt_update.specs.Loads.{AreTables, HasShape, HaveShapes, table_of}
 use Rattle.rmt_update.proofs.BookLaws.{TableFacts, table-facts}
-use Rattle.rmt_update.proofs.FirstLaws.{IsRowKind}
 use Rattle.rmt_update.proofs.PartNumbers.{SlotsFrom, parts-numbered}
 use Rattle.rmt_update.proofs.PartOrder.{IsPartOf, parts-own}
 use Rattle.rmt_update.proofs.RoomNumbers.{HasRows, IsRows, slice_get-map_range, total}

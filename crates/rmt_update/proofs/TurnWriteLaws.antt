@@ -13,6 +13,7 @@ use Rattle.rmt_bits.specs.Bits.{number_of}
 use Rattle.rmt_bits.proofs.ListLaws.{take-slice_get}
 use Rattle.rmt_bits.proofs.MemberLaws.{Contains-from_any}
 use Rattle.rmt_bits.proofs.OptionLaws.{eqb-sym}
+use Rattle.rmt_bits.specs.Members.{is_among}
 use Rattle.rmt_config.specs.declared.cell_write.CellWrite.{CellWrite}
 use Rattle.rmt_update.specs.declared.book.book_index.BookIndex.{BookIndex}
 use Rattle.rmt_update.specs.declared.book.changing.CellChange.{CellChange}
@@ -28,7 +29,6 @@ use Rattle.rmt_book.specs.Coming.{kept_write}
 use Rattle.rmt_update.specs.Differences.{Changes, Puts, change_by, is_exact, is_same_kept, write_at}
 use Rattle.rmt_update.specs.NextKept.{bit_of}
 use Rattle.rmt_update.specs.Recent.{is_recent}
-use Rattle.rmt_lists.specs.Running.{is_among}
 use Rattle.rmt_book.specs.Seen.{is_seen}
 use Rattle.rmt_update.specs.TurnWrites.{AreChanged, AreOnWay, HaveOwnSlots, IsChanged, IsFresh, IsOfTables, MoreChanged, PutsLeft, change_to, key_in, left_write, shown_write}
 use Rattle.rmt_update.specs.Turning.{IsSpotIn, IsStillTable, come_to, is_spot, left_kept, part_of}

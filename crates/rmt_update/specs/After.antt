@@ -1,10 +1,10 @@
 -- The entries behind a commit by their numbers, a map for each node.
 use Rattle.std.specs.Prelude.{◌≡◌, ℕ, List, ◌++◌, not, ◌==◌, Some, filter, slice_get}
 use Rattle.std.specs.BTreeMap.{BTreeMap}
+use Rattle.rmt_bits.specs.Members.{is_among}
 use Rattle.rmt_ast.specs.declared.entry.Entry.{Entry}
 use Rattle.rmt_ast.specs.Changes.{list_of}
 use Rattle.rmt_book.specs.Numbered.{IsOrder}
-use Rattle.rmt_lists.specs.Running.{is_among}
 
 -- the maps have these entries
 abbrev pub AreOrders : (ℕ → List Entry) → List (BTreeMap ℕ Entry) → Type 0

@@ -1,6 +1,7 @@
 -- What changes a book takes, and what it plans for them.
 use Rattle.std.specs.Prelude.{◌≡◌, ◌≢◌, ◌<◌, ℕ, List, ◌++◌, not, ◌==◌, Some, None, All, AllPairs, IsTrue, filter, length, map}
 use Rattle.std.specs.List.{enumerate_from, flat_map}
+use Rattle.rmt_bits.specs.Members.{is_among}
 use Rattle.rmt_ast.specs.Answers.{entry_numbers}
 use Rattle.rmt_ast.specs.NameRules.{AreEntriesOf}
 use Rattle.rmt_ast.specs.declared.entry.Entry.{Entry}
@@ -19,7 +20,6 @@ use Rattle.rmt_lists.specs.declared.lists.Changes.{Changes}
 use Rattle.rmt_update.specs.BookStands.{BookStands, IsUsed}
 use Rattle.rmt_update.specs.FirstFull.{HasNoLoading, IsFirstFull}
 use Rattle.rmt_book.specs.Kept.{AreBytesOf}
-use Rattle.rmt_lists.specs.Running.{is_among}
 
 -- a list of a node without the entries that go and with those that come
 abbrev pub changed_list : Changes → ℕ × List Entry → List Entry

@@ -3,6 +3,7 @@ use Rattle.std.specs.Prelude.{◌≡◌, ◌<◌, ℕ, List, [], ◌∷◌, ◌&
 use Rattle.std.specs.List.{AllZip}
 use Rattle.std.specs.BTreeMap.{IsOrdered, get}
 use Rattle.std.specs.Ordering.{nat_cmp}
+use Rattle.rmt_bits.specs.Members.{is_among}
 use Rattle.rmt_book.specs.declared.kept.Kept.{Kept}
 use Rattle.rmt_update.specs.declared.book.placing.Coming.{Coming}
 use Rattle.rmt_book.specs.declared.spot.BookSpot.{BookSpot}
@@ -14,7 +15,6 @@ use Rattle.rmt_update.specs.declared.book.turning.Turn.{Turn}
 use Rattle.rmt_update.specs.declared.book.turning.Turn.TheVariants.{Empty, Holds, Shows}
 use Rattle.rmt_book.specs.BookSpots.{kept_at}
 use Rattle.rmt_update.specs.NextKept.{next_kept}
-use Rattle.rmt_lists.specs.Running.{is_among}
 
 -- what is left of a cell to which no entry comes
 abbrev pub left_kept : Bool → List ℕ → Option Kept → Option Kept

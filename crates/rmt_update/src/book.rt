@@ -15,7 +15,6 @@ pub mod book_index;
 mod changing;
 mod coming;
 pub mod differences;
-mod encoded;
 mod entering;
 mod going;
 mod in_rows;

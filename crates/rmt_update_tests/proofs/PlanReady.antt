@@ -10,7 +10,7 @@ use Rattle.rmt_bits.proofs.OptionLaws.{same_Ok}
 use Rattle.rmt_ast.specs.declared.entry.Entry.{Entry}
 use Rattle.rmt_ast.specs.declared.names.Names.{Names}
 use Rattle.rmt_ast.specs.Answers.{entry_numbers}
-use Rattle.rmt_ast.specs.Changes.{Adds, Change, Installed, Removes, at_first, changed, committed, list_of}
+use Rattle.rmt_ast.specs.Changes.{Adds, Change, Installed, Removes, at_first, changed, committed, list_of, key_of_entry, is_held}
 use Rattle.rmt_ast.specs.EntryLists.{Terms}
 use Rattle.rmt_ast.specs.NameRules.{AreEntriesOf, terms_named}
 use Rattle.rmt_config.specs.declared.config.Config.{Config}
@@ -26,7 +26,7 @@ use Rattle.rmt_lists.specs.declared.lists.Lists.{Lists}
 use Rattle.rmt_update.specs.BookStands.{BookStands}
 use Rattle.rmt_update.specs.Following.{IsNextAbove}
 use Rattle.rmt_update.specs.Planned.{IsPlanned, MayChange, changed_lists}
-use Rattle.rmt_lists.specs.Running.{AreChanges, Running, added_to, begins, commit_of, fresh, holds, key_of_entry, key_of_name, line_change, refusal_of, unless, with_entry, with_one, without_key, without_one}
+use Rattle.rmt_lists.specs.Running.{AreChanges, Running, added_to, begins, commit_of, fresh, key_of_name, line_change, refusal_of, unless, with_entry, with_one, without_key, without_one}
 use Rattle.rmt_lists.specs.Stands.{Stands, StandsFor}
 use Rattle.rmt_update.proofs.FollowLaws.{entries_kept, first_above, lists_are, may_change, numbers_kept, own_below, turned_below}
 use Rattle.rmt_update.proofs.SpelledEntries.{spelled_entries}
@@ -65,7 +65,7 @@ module _ (r next : Running) where
 
   by_removed : (o : Result EntryName ℕ) → without_key r o ≡ Ok next → Follows r next
   by_removed (Err code) h = absurd (cc)
-  by_removed (Ok k) h = by_held k (holds (key_of_name k) (list_of r.now.lists k.table)) h
+  by_removed (Ok k) h = by_held k (is_held (key_of_name k) (list_of r.now.lists k.table)) h
 
   by_line : (text : List ℕ) → line_change r text ≡ Ok next → Follows r next
   by_line text h = by (leb 18444 (length text)) (begins 43 text) h

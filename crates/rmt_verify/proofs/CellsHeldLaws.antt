@@ -35,8 +35,9 @@ use Rattle.rmt_pack.proofs.PartLaws.{and_at, and_from}
 use Rattle.rmt_refine.proofs.PartLaws.{part_of_spot, some_and, spot_of_part, unit_of_part}
 use Rattle.rmt_pack.proofs.RankLaws.{goes_never}
 use Rattle.rmt_pack.proofs.RoomLaws.{PartIs, part_at_place, stages_there}
-use Rattle.rmt_pack.proofs.RoomOrderLaws.{Rises, pairs_flat}
-use Rattle.rmt_refine.proofs.RoomOrderLaws.{pairs_with, parts_in_order}
+use Rattle.rmt_pack.proofs.PartOrderLaws.{Rises, parts_in_order}
+use Rattle.rmt_pack.proofs.RoomOrderLaws.{pairs_flat}
+use Rattle.rmt_refine.proofs.RoomOrderLaws.{pairs_with}
 use Rattle.rmt_refine.proofs.SpelledLaws.{cells_rise}
 use Rattle.rmt_refine.proofs.TheLaw.{table_entries}
 use Rattle.rmt_refine.proofs.ViewLaws.{content_is, number_is}

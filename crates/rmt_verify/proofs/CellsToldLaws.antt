@@ -1,8 +1,7 @@
 -- The cells of all tables, table by table, and what a map tells of them.
-use Rattle.std.proofs.Common.{◌≡◌, ◌↔◌, ℕ, ◌+◌, ◌<◌, ◌≤◌, Bool, IsTrue, List, Some, None, length, sym, subst, ◌∙◌, inl, inr, arith}
+use Rattle.std.proofs.Common.{◌≡◌, ◌↔◌, ℕ, ◌≤◌, Bool, IsTrue, List, Some, None, length, sym, subst, ◌∙◌, arith}
 use Rattle.std.specs.Prelude.{AllPairs, slice_get}
 use Rattle.std.specs.BTreeMap.{BTreeMap}
-use Rattle.std.proofs.lemmas.Bool.{cases_lt}
 use Rattle.std.proofs.lemmas.Option.{none-some, same_Some, slice_get_within}
 use Rattle.rmt_ast.specs.declared.entry.Entry.{Entry}
 use Rattle.rmt_ast.specs.EntryLists.{AreEntries}
@@ -65,9 +64,3 @@ module _ (p : Program) (c : Config) (cells : List CellOf) (lists : List (List En
       let node = then_some (λ (x : Node). applied p x.what) (slice_get p.nodes n) t at in
       let lt = slice_get_within p.nodes n node.0 node.1 in
       absurd (omega (arith, lt, le))
-
-pub nodes_more : (P : ℕ → Type 0) (i : ℕ) → ((n : ℕ) → n < i → P n) → P i → (n : ℕ) → n < i + 1 → P n
-nodes_more P i before here n lt = elim (cases_lt n i) [
-  | inl less ↦ before n less
-  | inr le ↦ subst P (let e : i ≡ n = omega (arith, lt, le) in e) here
-]

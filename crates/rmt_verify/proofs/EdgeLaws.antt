@@ -236,18 +236,10 @@ module _ (nodes : ℕ) (parts : List Part) (starts : List ℕ) (stand : All (IsP
   pub kept_to : Rise starts → (edges : List Edge) → EdgesKept edges parts starts → list_all (is_kept spans starts) edges ≡ true
   kept_to rise edges kept = all_pass edges (edge_passes rise edges kept) edges (All-contains_itself edges)
 
--- starts that rise do where the edges are kept
-pub rise_there : (edges : List Edge) (parts : List Part) (starts : List ℕ) → EdgesKept edges parts starts → Rise starts
-rise_there edges parts starts kept = record { first = kept.distances.first; rise = kept.distances.rise }
-
--- two lists of edges
-pub both_pass : (spans : List (Option Span)) (starts : List ℕ) (field word : List Edge) → list_all (is_kept spans starts) (field ++ word) ≡ (list_all (is_kept spans starts) field && list_all (is_kept spans starts) word)
-both_pass spans starts field word = list_all-append (is_kept spans starts) field word
-
 -- what is answered for edges in two lists
 pub answered : (nodes : ℕ) (parts : List Part) (starts : List ℕ) → All (IsPartOf nodes (length starts)) parts → (spans : List (Option Span))
     → ((n : ℕ) → get_or spans n no_span ≡ span_of (stages_of parts n)) → Rise starts → (field word : List Edge) (r : Bool)
     → r ≡ (list_all (is_kept spans starts) field && list_all (is_kept spans starts) word) → (IsTrue r ↔ EdgesKept (field ++ word) parts starts)
 answered nodes parts starts stand spans are rise field word r is =
-    let whole : r ≡ list_all (is_kept spans starts) (field ++ word) = is ∙ sym (both_pass spans starts field word) in
+    let whole : r ≡ list_all (is_kept spans starts) (field ++ word) = is ∙ sym (list_all-append (is_kept spans starts) field word) in
     (λ yes. kept_from nodes parts starts stand spans are rise (field ++ word) (sym whole ∙ yes), λ kept. whole ∙ kept_to nodes parts starts stand spans are rise (field ++ word) kept)

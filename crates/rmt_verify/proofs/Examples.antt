@@ -1,9 +1,11 @@
 -- A small map, as bytes and as what they spell, and bytes that spell none.
-use Rattle.std.proofs.Common.{◌≡◌, ℕ, List, [], ◌∷◌, ◌++◌, Some, None, refl}
+use Rattle.std.proofs.Common.{◌≡◌, ℕ, List, [], ◌∷◌, ◌++◌, Ok, Err, refl}
 use Rattle.std.specs.Prelude.{take, slice_set}
 use Rattle.rmt_verify.specs.Types.{MapFile}
 use Rattle.rmt_verify.specs.Spelling.{spelled_map}
-use Rattle.rmt_verify.specs.Readers.{items_at, byte_at, two_at, four_at}
+use Rattle.rmt_verify.specs.declared.fault.MapFault.TheVariants.{Form}
+use Rattle.rmt_bits.specs.Readers.{items_at}
+use Rattle.rmt_verify.specs.Readers.{byte_at, two_at, four_at}
 use Rattle.rmt_verify.specs.Reading.{lane_at, lanes_at, join_at, part_at, start_at, cell_at, lists_at, map_of}
 
 -- two fields, the second in two lanes; one join, two parts, two starts and a cell
@@ -26,22 +28,22 @@ small_bytes =
 small-spelled : spelled_map small ≡ small_bytes
 small-spelled = refl
 
-small-read : map_of small_bytes ≡ Some small
+small-read : map_of small_bytes ≡ Ok small
 unfolding lists_at lanes_at lane_at join_at part_at start_at cell_at items_at four_at two_at byte_at
 small-read = refl
 
 -- a byte behind it; one byte fewer; a lane of no bit; a version 2
-small-behind : map_of (small_bytes ++ 0 ∷ []) ≡ None
+small-behind : map_of (small_bytes ++ 0 ∷ []) ≡ Err Form
 unfolding lists_at lanes_at lane_at join_at part_at start_at cell_at items_at four_at two_at byte_at
 small-behind = refl
 
-small-cut : map_of (take 53 small_bytes) ≡ None
+small-cut : map_of (take 53 small_bytes) ≡ Err Form
 unfolding lists_at lanes_at lane_at join_at part_at start_at cell_at items_at four_at two_at byte_at
 small-cut = refl
 
-small-no_bit : map_of (slice_set small_bytes 13 0) ≡ None
+small-no_bit : map_of (slice_set small_bytes 13 0) ≡ Err Form
 unfolding lists_at lanes_at lane_at join_at part_at start_at cell_at items_at four_at two_at byte_at
 small-no_bit = refl
 
-small-version : map_of (slice_set small_bytes 5 2) ≡ None
+small-version : map_of (slice_set small_bytes 5 2) ≡ Err Form
 small-version = refl

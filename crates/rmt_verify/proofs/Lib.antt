@@ -1,5 +1,4 @@
 mod NumberLaws
-mod ItemLoops
 mod Codec
 mod Lists
 mod Whole

@@ -1,7 +1,7 @@
 -- Entries by their numbers, and in the order of their rows.
 use Rattle.std.proofs.Common.{◌≡◌, ℕ, ◌+◌, ◌-◌, ◌<◌, ◌≤◌, ◌&&◌, ◌||◌, ◌==◌, ◌++◌, ◌∷◌, [], Bool, true, false, List, length, length-append, get_or, take, drop, take-append-drop, All, Contains, refl, sym, ap, ◌∙◌, subst, inl, inr, arith}
 use Rattle.std.specs.Prelude.{AllPairs, nat_lt}
-use Rattle.std.proofs.lemmas.Bool.{both_ways, cases_lt, cases_order, eq-eqb, eqb-true, false≢true, lt-ltb, ltb-true}
+use Rattle.std.proofs.lemmas.Bool.{both_ways, cases_lt, cases_order, eq-eqb, eqb-true, false≢true, lt-ltb, le-ltb}
 use Rattle.std.proofs.lemmas.List.{append-nil, get_or_default, take_more}
 use Rattle.std.proofs.lemmas.List.Concat.{flat_map-append}
 use Rattle.rmt_ast.specs.declared.entry.Entry.{Entry}
@@ -51,19 +51,12 @@ not_below a b e = elim (cases_lt a b) [
   | inr le ↦ le
 ]
 
-never_below : (a b : ℕ) → b ≤ a → nat_lt a b ≡ false
-never_below a b le = by (nat_lt a b) refl
-  where
-    by : (x : Bool) → nat_lt a b ≡ x → nat_lt a b ≡ false
-    by true e = absurd (let lt = ltb-true a b e in omega (arith, lt, le))
-    by false e = e
-
 -- a number that is not below a second, nor this one below a third
 not_below_both : (a b x : ℕ) → nat_lt a b ≡ false → nat_lt b x ≡ false → (nat_lt a x ≡ false) × (a ≡ x → b ≡ a)
 not_below_both a b x p q =
     let ab = not_below a b p in
     let bx = not_below b x q in
-    (never_below a x (omega (arith, ab, bx)), λ same. omega (arith, ab, bx, same))
+    (le-ltb a x (omega (arith, ab, bx)), λ same. omega (arith, ab, bx, same))
 
 -- the same of entries that one test of their ranks compares, and then their numbers
 never_behind : (ab bx ax : Bool) (a b x : Entry) → (ab ≡ false → bx ≡ false → (ax ≡ false) × (x.rank ≡ a.rank → b.rank ≡ a.rank)) → (ab || (b.rank == a.rank && nat_lt b.number a.number)) ≡ false

@@ -1,61 +1,32 @@
--- Ways to read items from the front of bytes: an item and the bytes behind it, or None where no such item stands there.
-use Rattle.std.specs.Prelude.{◌≡◌, ℕ, zero, suc, ◌+◌, ◌*◌, List, [], ◌∷◌, Bool, if◌then◌else◌, Option, Some, None, Result, Ok, Err}
+-- Ways to read the items of a map from the front of bytes: an item and the bytes behind it; the form is broken where no such item stands there.
+use Rattle.std.specs.Prelude.{ℕ, ◌+◌, ◌*◌, List, Option, Some, None, Result}
+use Rattle.rmt_bits.specs.Readers as bits
+pub use Rattle.rmt_bits.specs.Readers.{◌>>=◌, ◌⊗◌, made, list_at}
 use Rattle.rmt_verify.specs.declared.fault.MapFault.{MapFault}
 use Rattle.rmt_verify.specs.declared.fault.MapFault.TheVariants.{NoMemory, Form}
 
-infixl 10 ◌>>=◌
-abbrev pub ◌>>=◌ : {A B : Type 0} → Option A → (A → Option B) → Option B
-None >>= f = None
-(Some x) >>= f = f x
+-- the fault of the bytes, unless memory ran out
+abbrev pub fault_of : MapFault → Option MapFault
+fault_of NoMemory = None
+fault_of Form = Some Form
 
 -- what a function returned, seen by view, is what reading gives, unless memory ran out
-abbrev pub Fails : {Y : Type 0} → MapFault → Option Y → Type 0
-Fails NoMemory read = Unit {0}
-Fails Form read = read ≡ None
-
-abbrev pub Gives : {X Y : Type 0} → (X → Y) → Result X MapFault → Option Y → Type 0
-Gives view (Ok x) read = read ≡ Some (view x)
-Gives view (Err e) read = Fails e read
+abbrev pub Gives : {X Y : Type 0} → (X → Y) → Result X MapFault → Result Y MapFault → Type 0
+Gives view result read = bits.Gives fault_of view result read
 
 abbrev pub Reader : Type 0 → Type 0
-Reader A = List ℕ → Option (A × List ℕ)
-
--- one item, and another behind it
-infixr 35 ◌⊗◌
-abbrev pub ◌⊗◌ : {A B : Type 0} → Reader A → Reader B → Reader (A × B)
-(first ⊗ second) bytes = do
-  x ← first bytes
-  y ← second x.1
-  Some ((x.0, y.0), y.1)
-
-abbrev pub made : {A B : Type 0} → (A → B) → Reader A → Reader B
-made f read bytes = do
-  x ← read bytes
-  Some (f x.0, x.1)
-
--- an item that passes a test
-abbrev pub kept : {A : Type 0} → (A → Bool) → Reader A → Reader A
-kept test read bytes = do
-  x ← read bytes
-  if test x.0 then Some x else None
+Reader A = bits.Reader MapFault A
 
 -- n items
-unfoldable pub items_at : {A : Type 0} → Reader A → ℕ → Reader (List A)
-items_at read zero bytes = Some ([], bytes)
-items_at read (suc n) bytes = do
-  x ← read bytes
-  xs ← items_at read n x.1
-  Some (x.0 ∷ xs.0, xs.1)
+abbrev pub items_at : {A : Type 0} → Reader A → ℕ → Reader (List A)
+items_at read n = list_at read n
 
 -- a count, and that many items
 abbrev pub listed : {A : Type 0} → Reader ℕ → Reader A → Reader (List A)
-listed count read bytes = do
-  n ← count bytes
-  items_at read n.0 n.1
+listed count read = bits.listed count (items_at read)
 
 unfoldable pub byte_at : Reader ℕ
-byte_at [] = None
-byte_at (byte ∷ rest) = Some (byte, rest)
+byte_at bytes = bits.byte_at Form bytes
 
 -- numbers of two and of four bytes, the highest first
 abbrev pub two_of_parts : ℕ × ℕ → ℕ

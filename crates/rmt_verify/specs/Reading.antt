@@ -1,15 +1,18 @@
 -- Reading a map from its front.
-use Rattle.std.specs.Prelude.{ℕ, List, [], ◌∷◌, drop, Option, Some, None, codes, nat_eq, if◌then◌else◌}
+use Rattle.std.specs.Prelude.{ℕ, List, [], ◌∷◌, drop, Result, Ok, Err, codes, nat_eq, if◌then◌else◌}
 use Rattle.std.specs.List.{starts_with}
 use Rattle.rmt_config.specs.LaneForm.{lane_is_formed}
 use Rattle.rmt_verify.specs.Types.{Lane, Part, Join, CellOf, MapFile}
-use Rattle.rmt_verify.specs.Readers.{◌>>=◌, Reader, ◌⊗◌, made, kept, listed, byte_at, two_at, four_at}
+use Rattle.rmt_bits.specs.Readers.{kept}
+use Rattle.rmt_verify.specs.declared.fault.MapFault.{MapFault}
+use Rattle.rmt_verify.specs.declared.fault.MapFault.TheVariants.{Form}
+use Rattle.rmt_verify.specs.Readers.{◌>>=◌, Reader, ◌⊗◌, made, listed, byte_at, two_at, four_at}
 
 abbrev pub lane_of_parts : ℕ × (ℕ × ℕ) → Lane
 lane_of_parts x = record { word = x.0; low = x.1.0; len = x.1.1 }
 
 unfoldable pub lane_at : Reader Lane
-lane_at bytes = kept lane_is_formed (made lane_of_parts (byte_at ⊗ byte_at ⊗ byte_at)) bytes
+lane_at bytes = kept Form lane_is_formed (made lane_of_parts (byte_at ⊗ byte_at ⊗ byte_at)) bytes
 
 -- the lanes of a field
 unfoldable pub lanes_at : Reader (List Lane)
@@ -54,13 +57,13 @@ lists_at bytes =
     (listed four_at lanes_at ⊗ listed two_at join_at ⊗ listed two_at part_at ⊗ listed byte_at start_at ⊗ listed four_at cell_at) bytes
 
 -- nothing may stand behind what is read
-abbrev pub all_of : {A : Type 0} → A × List ℕ → Option A
-all_of (x, []) = Some x
-all_of (x, byte ∷ rest) = None
+abbrev pub all_of : {A : Type 0} → A × List ℕ → Result A MapFault
+all_of (x, []) = Ok x
+all_of (x, byte ∷ rest) = Err Form
 
-abbrev pub whole_of : List ℕ → Option MapFile
+abbrev pub whole_of : List ℕ → Result MapFile MapFault
 whole_of bytes = lists_at bytes >>= all_of
 
 -- the map that bytes are: the four letters, the version, the lists, and nothing else
-abbrev pub map_of : List ℕ → Option MapFile
-map_of bytes = if starts_with nat_eq bytes (codes "RMTM\0\u{1}") then whole_of (drop 6 bytes) else None
+abbrev pub map_of : List ℕ → Result MapFile MapFault
+map_of bytes = if starts_with nat_eq bytes (codes "RMTM\0\u{1}") then whole_of (drop 6 bytes) else Err Form

@@ -1,5 +1,5 @@
 -- Names that do not repeat, the numbers that names and fields stand for, and the numbers and tests that fit a field.
-use Rattle.std.proofs.Common.{◌≡◌, ◌≢◌, ℕ, ◌+◌, ◌<◌, List, [], Bool, true, false, Some, map, slice_get, get_or, take, length, All, refl, sym, ap, subst, ◌∙◌, ⊎_elim, arith, ◌^◌, Option, bit_and, pow_pos, option_map, unwrap_or}
+use Rattle.std.proofs.Common.{◌≡◌, ◌≢◌, ℕ, ◌+◌, ◌<◌, List, [], Bool, true, false, Some, map, slice_get, get_or, take, length, All, sym, ap, subst, ◌∙◌, ⊎_elim, arith, ◌^◌, Option, bit_and, pow_pos, option_map, unwrap_or}
 use Rattle.std.specs.Prelude.{AllPairs}
 use Rattle.std.specs.List.{enumerate_from, list_any}
 use Rattle.std.specs.Str.{bytes_eq}
@@ -13,6 +13,7 @@ use Rattle.rmt_ast.specs.NameList.{is_known}
 use Rattle.rmt_ast.specs.WellFormed.{AreDistinct, Fits, IsTest}
 use Rattle.rmt_bits.proofs.ListLaws.{flat_map-nil, append-nil_left, append-nil_right}
 use Rattle.rmt_bits.proofs.PairLaws.{AllPairs-map}
+use Rattle.rmt_bits.proofs.FunctionLaws.{bytes_eq-same}
 use Rattle.rmt_check.specs.Parts.{Position, Ident, Field, Number, ValueText, Source}
 use Rattle.rmt_check.specs.Rules.{repeated, repeated_by, when, fits, too_wide, too_wide_value}
 use Rattle.rmt_check.specs.Meaning.{index_of, ones, test_of, field_number, field_of, program_of}
@@ -27,9 +28,6 @@ use Rattle.rmt_check.proofs.FieldCodes.{field_at, place_at}
 
 abbrev pub names_of : List Ident → List (List ℕ)
 names_of xs = map (λ (x : Ident). x.name) xs
-
-pub bytes_eq-same : (q : List ℕ) → bytes_eq q q ≡ true
-bytes_eq-same q = (bytes_eq-Decides q q).1 refl
 
 -- items of which none repeats an earlier one
 pub differ_by : {X : Type 0} (same : X → X → Bool) (place : X → Position) (xs : List X) → repeated_by same place xs ≡ [] → AllPairs (λ x y. same y x ≡ false) xs

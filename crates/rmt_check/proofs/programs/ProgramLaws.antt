@@ -6,17 +6,18 @@ use Rattle.std.proofs.lemmas.List.{length-map, map-append, take_at, drop_at, app
 use Rattle.std.proofs.lemmas.List.Elements.{All-nil, All-cons, All-map, All-head, All-tail, All-append, All-from_recursion}
 use Rattle.std.proofs.lemmas.Option.{slice_get-get_or}
 use Rattle.std.proofs.lemmas.Simd.{map-map}
+use Rattle.rmt_lexer.specs.Text.{first_place}
 use Rattle.rmt_check.specs.Parts.{Field, Header, Action, Table, Ident, Declared, HeaderText, ActionText, TableText, Source}
 use Rattle.rmt_ast.specs.WellFormed.{AreDistinct, BeginsWith, HasHeaderNames, HasNames, HasCounts, IsProgram}
 use Rattle.rmt_check.specs.Names.{Known, owned, of_metadata, declared_fields, metadata, fields_of, nodes_of, printed_name, common, common_fields, Owner, of_header, printed, header_fields}
 use Rattle.rmt_check.specs.Meaning.{field_of, header_from, headers_from, action_of, table_of, program_of, node_of}
 use Rattle.rmt_check.specs.Naming.{IsHeaderText, IsOfText, HasNoDot}
-use Rattle.rmt_check.proofs.programs.NameLaws.{bytes_eq-same, distinct, distinct_by}
+use Rattle.rmt_check.proofs.programs.NameLaws.{distinct, distinct_by}
 use Rattle.rmt_check.proofs.programs.RuleLaws.{KeepsRules, headers_of, actions_of, no_when, keeps_rules, All-mid, FindsNone, fields_twice}
 use Rattle.rmt_check.proofs.FieldLists.{front, start_of, length-front, back, all_header, all_headers}
 use Rattle.rmt_check.proofs.programs.BlockLaws.{header_numbers, own_at, name_at, each_header, length-headers_from, fields_law}
 use Rattle.std.proofs.lemmas.Bool.{eqb-false, not-true}
-use Rattle.rmt_check.specs.Rules.{text_start, fault_of, repeated, declared_names}
+use Rattle.rmt_check.specs.Rules.{fault_of, repeated, declared_names}
 use Rattle.rmt_check.proofs.Bounds.{distinct_tables, sized}
 use Rattle.rmt_check.proofs.programs.HeaderLaws.{headers_law}
 use Rattle.rmt_check.proofs.programs.TableLaws.{actions_law, tables_law}
@@ -26,6 +27,7 @@ use Rattle.std.specs.Prelude.{AllPairs}
 use Rattle.std.proofs.lemmas.List.Kept.{AllPairs-cons}
 use Rattle.rmt_bits.proofs.AllLaws.{All-from_test}
 use Rattle.rmt_bits.proofs.PairLaws.{AllPairs-head, AllPairs-tail, AllPairs-append, AllPairs-map}
+use Rattle.rmt_bits.proofs.FunctionLaws.{bytes_eq-same}
 
 -- Printed names: what is before the dot, and what is behind it.
 
@@ -102,7 +104,7 @@ module _ (s : Source) where
 pub printed_apart : (s : Source) → KeepsRules s → All IsHeaderText s.headers → AreDistinct (map printed_name (fields_of s))
 printed_apart s h text =
     let names = distinct_by (λ (x : HeaderText). x.ident) s.headers h.headers_once in
-    let ident = λ (f : Known). (let i : Ident = record { place = text_start; name = printed_name f } in i) in
+    let ident = λ (f : Known). (let i : Ident = record { place = first_place; name = printed_name f } in i) in
     AllPairs-map (λ x y. x ≢ y) printed_name (fields_of s)
     (AllPairs-append Differ common_fields (back s 0 s.headers) (distinct_by ident common_fields refl) (back_apart s 0 s.headers text names h.fields_once h.metadata_once)
     (All-from_recursion (λ f. All (Differ f) (back s 0 s.headers)) common_fields
@@ -168,7 +170,7 @@ pub counts_law : (s : Source) → KeepsRules s → HasCounts (program_of s)
 counts_law s h =
     let z = sized s h in
     record {
-      a_header = let some = eqb-false (length s.headers) 0 (no_when (length s.headers == 0) text_start h.a_header) in omega (arith, length-headers_from s 3 s.headers);
+      a_header = let some = eqb-false (length s.headers) 0 (no_when (length s.headers == 0) first_place h.a_header) in omega (arith, length-headers_from s 3 s.headers);
       headers = omega (arith, z.few_headers, length-headers_from s 3 s.headers, length-map s.headers (λ (x : HeaderText). x.ident.name));
       actions = omega (arith, z.few_actions, length-map s.actions (action_of s), length-map s.actions (λ (x : ActionText). x.ident.name));
       nodes = omega (arith, z.few_nodes, length-map (nodes_of s) (node_of s));

@@ -6,11 +6,12 @@ use Rattle.std.specs.List.{take_while, flat_map, cons_option}
 use Rattle.std.specs.Option.{option_or}
 use Rattle.std.proofs.lemmas.List.Sums.{prefix_len-le-length, sum_by-cons}
 use Rattle.std.proofs.lemmas.List.Folds.{length-prefix_len}
+use Rattle.rmt_ast.specs.NameForm.{is_letter, is_name_byte}
 use Rattle.rmt_check.specs.Parts.{Position, ProgramFault, Token, Terminal, Rule, Ident, KeyText, TableText}
 use Rattle.rmt_lexer.specs.declared.item.Item.{Item}
 use Rattle.rmt_lexer.specs.declared.item.Item.TheVariants as item
 use Rattle.rmt_bits.specs.Digits.{is_digit, is_hex, is_hex_number, number_of_digits}
-use Rattle.rmt_lexer.specs.Text.{is_space, is_letter, is_name_byte, is_sign, is_comment, is_equal, number_item, hex_item, item_of, behind, first_place, token_at, with_front, read_item, reading, tokens_of}
+use Rattle.rmt_lexer.specs.Text.{is_space, is_sign, is_comment, is_equal, number_item, hex_item, item_of, behind, first_place, token_at, with_front, read_item, reading, tokens_of}
 use Rattle.rmt_syntax.specs.declared.tree.Tree.{Tree}
 use Rattle.rmt_syntax.specs.declared.tree.Tree.TheViews.{out-Tree}
 use Rattle.rmt_syntax.specs.declared.tree.Tree.TheOpen.{Tree-F}

@@ -1,5 +1,5 @@
 -- What holds of each item of a text holds of its tokens, and what holds of the tokens of a tree holds of those of its parts.
-use Rattle.std.proofs.Common.{◌≡◌, ◌∙◌, ℕ, zero, suc, ◌-◌, List, [], ◌∷◌, ◌++◌, All, Ok, Err, Result, refl, sym, ap, subst, append_assoc}
+use Rattle.std.proofs.Common.{◌≡◌, ◌∙◌, ℕ, zero, suc, ◌-◌, List, [], ◌∷◌, ◌++◌, All, Ok, Err, Result, sym, ap, subst, append_assoc}
 use Rattle.std.specs.List.{flat_map}
 use Rattle.std.proofs.lemmas.List.Elements.{All-nil, All-cons, All-head}
 use Rattle.rmt_bits.proofs.AllLaws.{All-left, All-right}
@@ -15,6 +15,7 @@ use Rattle.rmt_syntax.specs.declared.tree.Tree.TheOpen as tree
 use Rattle.rmt_syntax.specs.declared.tree.Tree.TheVariants.{rolls-One, rolls-Many}
 use Rattle.rmt_syntax.specs.Trees.{Mark, leaf, opens, shuts, marks, tokens_in}
 use Rattle.rmt_syntax.proofs.MarkLaws.{marks_one, marks_many}
+use Rattle.rmt_syntax.proofs.Machine.{tokens_append}
 use Rattle.rmt_check.specs.Reading.{parts_of}
 
 -- What the items of a text are, its tokens are.
@@ -55,15 +56,9 @@ module _ (P : TokenKind → Type 0) where
 
 -- What the tokens of a tree are, those of its parts are.
 
-tokens-append : (xs ys : List Mark) → tokens_in (xs ++ ys) ≡ tokens_in xs ++ tokens_in ys
-tokens-append [] ys = refl
-tokens-append (leaf t ∷ xs) ys = ap (λ (ts : List Token). t ∷ ts) (tokens-append xs ys)
-tokens-append (opens r ∷ xs) ys = tokens-append xs ys
-tokens-append (shuts r ∷ xs) ys = tokens-append xs ys
-
 -- the tokens of a tree, and those behind it
 pub tokens-first : (u : Tree) (us : List Tree) (last : List Mark) → tokens_in (flat_map marks (u ∷ us) ++ last) ≡ tokens_in (marks u) ++ tokens_in (flat_map marks us ++ last)
-tokens-first u us last = ap tokens_in (append_assoc (marks u) (flat_map marks us) last) ∙ tokens-append (marks u) (flat_map marks us ++ last)
+tokens-first u us last = ap tokens_in (append_assoc (marks u) (flat_map marks us) last) ∙ tokens_append (marks u) (flat_map marks us ++ last)
 
 -- the marks of a token, and of a node with its parts
 pub marks-leaf : (u : Tree) (t : Token) → out-Tree u ≡ tree.One t → marks u ≡ leaf t ∷ []

@@ -13,11 +13,11 @@ use Rattle.std.proofs.lemmas.Slice.Eq.{bytes_eq-Decides}
 use Rattle.rmt_bits.proofs.AllLaws.{All-from_test}
 use Rattle.rmt_bits.proofs.OptionLaws.{IsSome-value}
 use Rattle.rmt_bits.specs.Digits.{is_digit, is_hex, is_hex_number, number_of_digits}
-use Rattle.rmt_ast.specs.NameForm.{has_name_form, is_name, reserved_words}
+use Rattle.rmt_ast.specs.NameForm.{has_name_form, is_name, reserved_words, is_letter, is_name_byte}
 use Rattle.rmt_ast.specs.NameList.{is_known}
 use Rattle.rmt_check.specs.Parts.{Token, TokenKind, Terminal, Ident}
 use Rattle.rmt_lexer.specs.declared.item.Item.{Item}
-use Rattle.rmt_lexer.specs.Text.{is_space, is_letter, is_name_byte, is_sign, is_comment, is_equal, number_item, hex_item, item_of, tokens_of}
+use Rattle.rmt_lexer.specs.Text.{is_space, is_sign, is_comment, is_equal, number_item, hex_item, item_of, tokens_of}
 use Rattle.rmt_lexer.specs.declared.token.TokenKind.TheVariants as token
 use Rattle.rmt_syntax.specs.declared.terminal.Terminal.TheVariants as terminal
 use Rattle.rmt_syntax.specs.declared.tree.Tree.{Tree}

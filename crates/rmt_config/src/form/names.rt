@@ -18,7 +18,7 @@ mod marks;
 mod order;
 pub mod part_list;
 mod prefix;
-mod prefix_length;
+pub mod prefix_length;
 mod prefix_row;
 mod prefix_rows;
 mod repeats;

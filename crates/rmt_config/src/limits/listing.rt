@@ -1,9 +1,10 @@
 //! How often the blocks of a stage are listed.
 
 ghost use Rattle.std.specs.Prelude.{◌≡◌, ◌++◌, List, [], ◌∷◌, ℕ};
-ghost use Rattle.rmt_config.specs.Resources.{memory_sram, memory_tcam, most_listed, most_listed_in};
+ghost use Rattle.rmt_config.specs.Resources.{memory_sram, most_listed, most_listed_in};
 ghost use Rattle.rmt_config.specs.Limits.{told};
 ghost use Rattle.rmt_config.specs.LimitSteps.{Counts};
+ghost use Rattle.rmt_config.specs.StageForm.{memory_tcam_blocks};
 
 use crate::config::{Memory, Unit};
 
@@ -55,7 +56,7 @@ fn count_sram(counts: &mut [u32; 256], memory: &Memory)
 }
 
 fn count_tcam(counts: &mut [u32; 256], memory: &Memory)
-    ensures { (ns : List ℕ) → Counts ns counts.old → Counts (ns ++ memory_tcam memory.now) counts.new }
+    ensures { (ns : List ℕ) → Counts ns counts.old → Counts (ns ++ memory_tcam_blocks memory.now) counts.new }
 {
     if let Memory::Ternary { keys, .. } = memory {
         count_blocks(counts, keys.as_slice());

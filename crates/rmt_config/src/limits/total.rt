@@ -2,10 +2,11 @@
 
 ghost use Rattle.std.specs.Prelude.{◌≡◌, length};
 ghost use Rattle.std.specs.List.{sum_by};
-ghost use Rattle.rmt_config.specs.Resources.{memory_sram, memory_tcam, memory_width, unit_width, greatest_by};
+ghost use Rattle.rmt_config.specs.Resources.{memory_sram, memory_width, unit_width, greatest_by};
 ghost use Rattle.rmt_config.specs.Limits.{told};
 ghost use Rattle.rmt_config.specs.LimitSteps.{taken_by};
 ghost use Rattle.rmt_config.specs.declared.config.Unit.TheVariants.{Slot};
+ghost use Rattle.rmt_config.specs.StageForm.{memory_tcam_blocks};
 
 use crate::config::{Memory, SlotUnit, Unit};
 
@@ -58,7 +59,7 @@ fn count_sram(memory: &Memory) -> u32
 }
 
 fn count_tcam(memory: &Memory) -> u32
-    ensures { result ≡ told (length (memory_tcam memory.now)) }
+    ensures { result ≡ told (length (memory_tcam_blocks memory.now)) }
 {
     match memory {
         Memory::Ternary { keys, .. } => told_length(keys.len()),

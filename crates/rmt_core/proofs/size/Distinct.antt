@@ -7,10 +7,7 @@ use Rattle.std.proofs.lemmas.List.Elements.{All-head, All-tail}
 use Rattle.std.proofs.lemmas.Map.Keys.{IsDistinct-cons}
 use Rattle.std.proofs.lemmas.Map.Steps.{length-le_from_distinct_below}
 use Rattle.rmt_config.specs.Order.{are_new}
-
-distinct_none : IsDistinct eqb []
-unfolding IsDistinct
-distinct_none = tt
+use Rattle.rmt_config.proofs.NumberLaws.{distinct_none}
 
 -- new numbers differ from one that was seen
 apart_from_seen : (m : ℕ) (seen xs : List ℕ) → list_any (λ k. eqb k m) seen ≡ true → are_new seen xs ≡ true → AllByRecursion (λ y. eqb m y ≡ false) xs

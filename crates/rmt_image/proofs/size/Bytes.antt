@@ -8,10 +8,10 @@ use Rattle.rmt_image.specs.Types.{Config, Stage}
 use Rattle.rmt_config.specs.Instructions.{unit_instructions}
 use Rattle.rmt_config.specs.CellForm.{entry_numbers, numbers_of_stage}
 use Rattle.rmt_config.specs.Form.{Formed}
-use Rattle.rmt_config.specs.Resources.{unit_sram, unit_tcam}
+use Rattle.rmt_config.specs.Resources.{unit_sram}
 use Rattle.rmt_config.specs.Spelling.{CountsFit, CountsFitHeader, spelled_config, spelled_header, spelled_list8, spelled_parser, spelled_ports, spelled_stage, two_bytes}
 use Rattle.rmt_config.specs.ImageSpelling.{spelled_names, spelled_tails, version_of}
-use Rattle.rmt_config.specs.StageForm.{rows_are_formed, stage_is_formed}
+use Rattle.rmt_config.specs.StageForm.{rows_are_formed, stage_is_formed, tcam_blocks}
 use Rattle.rmt_config.proofs.CountsLemmas.{counts_fit, stages_of_items}
 use Rattle.rmt_config.proofs.LimitLaws.{KeepsLimits, limits_kept}
 use Rattle.rmt_image.specs.Size.{ImageIsShort}
@@ -27,7 +27,7 @@ stages_fit c formed counts limits k d lt =
       rows = AllPass-from_list_all rows_are_formed c.stages formed.whole.rows k d lt;
       counts = counts.each_stage k d lt;
       sram = All-from_recursion (λ (s : Stage). length (flat_map unit_sram s.units) ≤ 106) c.stages limits.sram k d lt;
-      tcam = All-from_recursion (λ (s : Stage). length (flat_map unit_tcam s.units) ≤ 16) c.stages limits.tcam k d lt;
+      tcam = All-from_recursion (λ (s : Stage). length (flat_map tcam_blocks s.units) ≤ 16) c.stages limits.tcam k d lt;
       code = All-from_recursion (λ (s : Stage). sum_by unit_instructions s.units ≤ 32) c.stages limits.code k d lt;
     }
 

@@ -15,9 +15,9 @@ use Rattle.rmt_config.specs.declared.form.code.InstructionRole.{InstructionRole}
 use Rattle.rmt_config.specs.CellForm.{numbers_of_stage, numbers_of_unit}
 use Rattle.rmt_config.specs.CodeForm.{code_is_formed, places_of, unit_places, vliw_is_formed}
 use Rattle.rmt_config.specs.MemoryRules.{FormedRows}
-use Rattle.rmt_config.specs.Resources.{unit_sram, unit_tcam}
+use Rattle.rmt_config.specs.Resources.{unit_sram}
 use Rattle.rmt_config.specs.Spelling.{CountsFitStage, CountsFitVliw, spelled_list32, spelled_list8, spelled_operation, spelled_source, spelled_srow, spelled_stage, spelled_trow, spelled_unit, spelled_vliw, two_bytes}
-use Rattle.rmt_config.specs.StageForm.{rows_are_formed, srow_fits, srow_number, stage_is_formed, trow_fits, trow_number}
+use Rattle.rmt_config.specs.StageForm.{rows_are_formed, srow_fits, srow_number, stage_is_formed, trow_fits, trow_number, tcam_blocks}
 use Rattle.rmt_config.specs.UnitForm.{unit_is_formed}
 use Rattle.rmt_config.proofs.SlotLaws.{formed-rows, unit-formed}
 use Rattle.rmt_items.proofs.size.Lists.{each_within, flat_map_by, flat_map_short, rows_few}
@@ -100,11 +100,11 @@ trows_few s formed rows =
 
 -- ---- stages
 
-units_short : (s : Stage) → stage_is_formed s ≡ true → length (flat_map unit_sram s.units) ≤ 106 → length (flat_map unit_tcam s.units) ≤ 16
+units_short : (s : Stage) → stage_is_formed s ≡ true → length (flat_map unit_sram s.units) ≤ 106 → length (flat_map tcam_blocks s.units) ≤ 16
     → All (λ u. length (spelled_unit u) ≤ 2812 + 8 * length (numbers_of_unit u)) s.units
 units_short s formed sram tcam k d lt =
     unit_short (get_or s.units k d) (unit-formed s.units k d lt (stage_parts s formed).units)
-    (omega (arith, each_within unit_sram s.units k d lt, sram)) (omega (arith, each_within unit_tcam s.units k d lt, tcam))
+    (omega (arith, each_within unit_sram s.units k d lt, sram)) (omega (arith, each_within tcam_blocks s.units k d lt, tcam))
 
 -- a stage that keeps the rules of form and the limits
 pub record StageFits (s : Stage) : Type 0 where
@@ -112,7 +112,7 @@ pub record StageFits (s : Stage) : Type 0 where
   pub rows : rows_are_formed s ≡ true
   pub counts : CountsFitStage s
   pub sram : length (flat_map unit_sram s.units) ≤ 106
-  pub tcam : length (flat_map unit_tcam s.units) ≤ 16
+  pub tcam : length (flat_map tcam_blocks s.units) ≤ 16
   pub code : sum_by unit_instructions s.units ≤ 32
 
 pub stage_short : (s : Stage) → StageFits s → length (spelled_stage s) ≤ 3200000 + 8 * length (numbers_of_stage s)

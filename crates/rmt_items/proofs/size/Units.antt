@@ -10,10 +10,11 @@ use Rattle.rmt_config.specs.declared.config.Unit.TheVariants.{Gate, Slot}
 use Rattle.rmt_config.specs.declared.config.Memory.TheVariants.{Without, Exact, Ternary}
 use Rattle.rmt_config.specs.CellForm.{numbers_of_unit}
 use Rattle.rmt_config.specs.LaneForm.{bits_of_lanes, lane_is_formed}
-use Rattle.rmt_config.specs.Resources.{memory_sram, memory_tcam, unit_sram, unit_tcam}
+use Rattle.rmt_config.specs.Resources.{memory_sram, unit_sram}
 use Rattle.rmt_config.specs.Spelling.{spelled_flag, spelled_gate, spelled_guard, spelled_lane, spelled_list16, spelled_list32, spelled_list8, spelled_memory, spelled_number, spelled_slot, spelled_slot_head, spelled_test, spelled_unit, two_bytes}
 use Rattle.rmt_config.specs.UnitForm.{gate_is_formed, memory_is_formed, slot_head_is_formed, unit_is_formed}
 use Rattle.rmt_config.proofs.SlotLaws.{exact-fits, lane-bit, ternary-fits}
+use Rattle.rmt_config.specs.StageForm.{memory_tcam_blocks, tcam_blocks}
 use Rattle.rmt_items.proofs.size.Lists.{flat_map_short}
 
 -- ---- keys
@@ -39,7 +40,7 @@ guard_short : (g : Option UnitGuard) → length (spelled_guard g) ≤ 4
 guard_short None = omega arith
 guard_short (Some g) = omega arith
 
-memory_short : (m : Memory) → length (spelled_memory m) ≤ 6 + length (memory_sram m) + length (memory_tcam m)
+memory_short : (m : Memory) → length (spelled_memory m) ≤ 6 + length (memory_sram m) + length (memory_tcam_blocks m)
 memory_short Without = omega arith
 memory_short (Exact k p d w ks rs cs) = omega arith
 memory_short (Ternary d ks rs cs) = omega (arith, length-append ks (rs ++ cs), length-append (ks ++ rs) cs, length-append ks rs, length-append rs cs)
@@ -56,7 +57,7 @@ gate_short g few =
 head_short : (s : SlotUnit) → length (spelled_slot_head s) ≤ 10
 head_short s = omega (arith, guard_short s.guard, length-append (spelled_guard s.guard) (spelled_flag s.counted ∷ s.actions ∷ spelled_flag s.last ∷ two_bytes s.held))
 
-slot_short : (s : SlotUnit) → length s.keys ≤ 640 → length (memory_sram s.memory) ≤ 106 → length (memory_tcam s.memory) ≤ 16
+slot_short : (s : SlotUnit) → length s.keys ≤ 640 → length (memory_sram s.memory) ≤ 106 → length (memory_tcam_blocks s.memory) ≤ 16
     → length (spelled_slot s) ≤ 2064 + 8 * length s.numbers
 slot_short s keys sram tcam =
     let lanes = flat_map_short spelled_lane 3 640 s.keys keys (λ k d lt. omega arith) in
@@ -68,7 +69,7 @@ slot_short s keys sram tcam =
 
 -- ---- units
 
-pub unit_short : (u : ChipUnit) → unit_is_formed u ≡ true → length (unit_sram u) ≤ 106 → length (unit_tcam u) ≤ 16
+pub unit_short : (u : ChipUnit) → unit_is_formed u ≡ true → length (unit_sram u) ≤ 106 → length (tcam_blocks u) ≤ 16
     → length (spelled_unit u) ≤ 2812 + 8 * length (numbers_of_unit u)
 unit_short (Gate g) formed sram tcam =
     omega (arith, gate_short g (tests_few g formed))

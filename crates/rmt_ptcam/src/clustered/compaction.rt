@@ -2,8 +2,9 @@
 
 ghost use Rattle.std.specs.Prelude.{◌≡◌, ◌≤◌, ◌<◌, ◌+◌, ◌++◌, map, length, IfOk, OnOk};
 ghost use Rattle.std.specs.List.{filter};
+ghost use Rattle.rmt_bits.specs.Members.{is_among as is_among_of};
 ghost use Rattle.rmt_ptcam.specs.Adding.{Adds};
-ghost use Rattle.rmt_ptcam.specs.Joining.{IsGood, KeepsForm, Row, is_among as is_among_of, rows_of};
+ghost use Rattle.rmt_ptcam.specs.Joining.{IsGood, KeepsForm, Row, rows_of};
 ghost use Rattle.rmt_ptcam.specs.Clustering.{with_next, met_states as met_states_of, number_in as number_in_of, renamed_next as renamed_next_of, renamed as renamed_of, states_kept as states_kept_of, compact as compact_of};
 
 use crate::joining::copied;

@@ -1,7 +1,8 @@
 //! Lookups of two states in one, and the 32 bits that entries compare over them.
 
 ghost use Rattle.std.specs.Prelude.{◌≡◌, ◌+◌, ◌*◌, ◌-◌, ◌||◌, ◌&&◌, nat_le, map, slice_index, IfOk};
-ghost use Rattle.rmt_ptcam.specs.Joining.{is_among as is_among_of, together as together_of};
+ghost use Rattle.rmt_bits.specs.Members.{is_among as is_among_of};
+ghost use Rattle.rmt_ptcam.specs.Joining.{together as together_of};
 ghost use Rattle.rmt_ptcam.specs.Words.{byte_at as byte_at_of, spread as spread_of, byte_of_both, both as both_of};
 
 use rmt_bits::answer::Bytes;

@@ -4,12 +4,12 @@ ghost use Rattle.std.specs.Prelude.{◌≡◌, ◌<◌, ℕ, All, IfOk, List, On
 ghost use Rattle.std.specs.BTreeSet.{contains};
 ghost use Rattle.std.specs.List.{range_with_len};
 ghost use Rattle.std.specs.Ordering.{nat_cmp};
+ghost use Rattle.rmt_bits.specs.Members.{is_among};
 ghost use Rattle.rmt_ast.specs.declared.entry.Entry.{Entry as EntryOf};
 ghost use Rattle.rmt_config.specs.NamesForm.{by_number};
 ghost use Rattle.rmt_update.specs.After.{AreOrders, left_of, with_come, without_gone};
 ghost use Rattle.rmt_book.specs.Numbered.{IsOrder};
 ghost use Rattle.rmt_update.specs.Planned.{changed_lists};
-ghost use Rattle.rmt_lists.specs.Running.{is_among};
 ghost use Rattle.rmt_book.specs.Seen.{HaveNumbers};
 
 use crate::book::adding::add_made;

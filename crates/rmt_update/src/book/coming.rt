@@ -11,11 +11,11 @@ ghost use Rattle.rmt_book.specs.Coming.{HasSizes, KeepsEntry, key_bytes};
 ghost use Rattle.rmt_config.specs.Rooms.{mask_or_value};
 ghost use Rattle.rmt_book.specs.Told.{is_whole};
 
-use crate::book::encoded::{args_bytes, tests_bytes};
 use rmt_ast::entry::Entry;
 use rmt_ast::names::TableName;
 use rmt_ast::program::Kind;
 use rmt_book::kept::Kept;
+use rmt_pack::encoding::{args_bytes, tests_bytes};
 use std::alloc::{AllocError, Global};
 
 /// The mask of an entry; nothing where all bits of its key count. The only fault is want of memory.
@@ -53,7 +53,7 @@ fn held_of(
     match table.actions.get(entry.action as usize) {
         Some(action) => {
             let args = entry.args.as_slice();
-            args_bytes(alloc, held, action.params.as_slice(), args)
+            args_bytes(alloc, held, 0, action.params.as_slice(), args)
         }
         None => unreachable!(),
     }

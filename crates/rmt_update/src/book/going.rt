@@ -2,10 +2,10 @@
 
 ghost use Rattle.std.specs.Prelude.{◌≡◌, ℕ, Bool, Some, length, slice_get};
 ghost use Rattle.std.specs.List.{AllZip};
+ghost use Rattle.rmt_bits.specs.Members.{is_among};
 ghost use Rattle.rmt_update.specs.BookIndex.{AreApart, FindsCells};
 ghost use Rattle.rmt_book.specs.BookSpots.{kept_at as kept_at_of};
 ghost use Rattle.rmt_update.specs.RowIndex.{IsIndex, IsRowGone, kept_key, never, or_is};
-ghost use Rattle.rmt_lists.specs.Running.{is_among};
 ghost use Rattle.rmt_update.specs.Turning.{IsSpotIn};
 ghost use Rattle.rmt_update.specs.Types.{Kept as KeptOf, TableCells as TableOf};
 

@@ -13,7 +13,6 @@ ghost use Rattle.rmt_book.specs.Coming.{key_bytes};
 ghost use Rattle.rmt_update.specs.FirstFull.{keys_of as keys_as_bytes};
 ghost use Rattle.rmt_update.specs.Loads.{AreLoadedKeys, AreTables, AreTried, CanFill, CanLoad, IsLoaded, IsNotLoaded, IsTried, IsTriedAt, layout_in, table_of, ways_for};
 
-use crate::book::encoded::tests_bytes;
 use crate::book::in_rows::rows_of;
 use crate::book::seen::table_at;
 use rmt_ast::entry::{Entry, EntryLists};
@@ -27,6 +26,7 @@ use rmt_cuckoo::fault::LoadFault;
 use rmt_cuckoo::layout::{Keys, Layout, Ways};
 use rmt_cuckoo::{load, never_both};
 use rmt_lists::fault::UpdateFault;
+use rmt_pack::encoding::tests_bytes;
 use std::alloc::{AllocError, Global};
 
 /// Where the entries of all nodes stand, and the seed under which those of exact tables are loaded.
@@ -117,9 +117,7 @@ pub fn key_of(alloc: Global, name: &TableName, entry: &Entry) -> Result<Vec<u8>,
     requires tests { AllZip IsTest name.now.keys entry.now.tests }
     ensures { IfOk result (λ key. key.items ≡ key_bytes name.now entry.now) }
 {
-    let key = tests_bytes(alloc, name.keys.as_slice(), entry.tests.as_slice(), false)?;
-    are_bytes(key.as_slice());
-    Ok(key)
+    tests_bytes(alloc, name.keys.as_slice(), entry.tests.as_slice(), false)
 }
 
 /// The keys of the entries of a table, as bytes.

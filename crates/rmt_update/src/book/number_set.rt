@@ -3,7 +3,7 @@
 ghost use Rattle.std.specs.Prelude.{◌≡◌, ℕ, IfOk};
 ghost use Rattle.std.specs.BTreeSet.{contains};
 ghost use Rattle.std.specs.Ordering.{nat_cmp};
-ghost use Rattle.rmt_lists.specs.Running.{is_among};
+ghost use Rattle.rmt_bits.specs.Members.{is_among};
 
 use std::alloc::{AllocError, Global};
 use std::collections::BTreeSet;

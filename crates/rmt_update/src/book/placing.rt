@@ -3,6 +3,7 @@
 ghost use Rattle.std.specs.Prelude.{◌≡◌, ◌+◌, ◌<◌, ◌≤◌, All, IfOk, IfSome, IsTrue, List, Option, Some, length, slice_get, sum, take, true};
 ghost use Rattle.std.specs.BTreeMap.{IsOrdered};
 ghost use Rattle.std.specs.Ordering.{nat_cmp};
+ghost use Rattle.rmt_bits.specs.Members.{is_among};
 ghost use Rattle.rmt_ast.specs.EntryLists.{IsEntry};
 ghost use Rattle.rmt_ast.specs.NameRules.{table_is_formed, terms_of_name};
 ghost use Rattle.rmt_update.specs.Types.{Config as ConfigOf, Entry as EntryOf, Names as NamesOf, RunCells, Spot as SpotOf, TableCells as TableOf};
@@ -10,7 +11,6 @@ ghost use Rattle.rmt_update.specs.Plans.{BookStands, HasPlaced, HasPlacedIn, IsB
 ghost use Rattle.rmt_update.specs.Come.{AreOrdered, HaveCome, IsRunOf, MayHaveCome, Run, come_to};
 ghost use Rattle.rmt_book.specs.Coming.{key_bytes};
 ghost use Rattle.rmt_update.specs.RowIndex.{IsIndex};
-ghost use Rattle.rmt_lists.specs.Running.{is_among};
 ghost use Rattle.rmt_update.specs.Taking.{Holds, IsComing, MayCome, MayGive, TakesFrom};
 
 use crate::book::Book;

@@ -21,7 +21,6 @@ returns-clause-proved c =
 pub returns-clause-given : goal.returns-clause-given
 returns-clause-given c =
     let p = c.args.program.now in
-    let edges = c.args.deps.now.field in
     let stages = c.greatest_of_four-stages.result in
-    given_at p c.requires.program edges c.requires.rise c.in_ok-proof.proof stages
+    given_at p c.requires.program c.args.deps.now.field c.requires.rise c.in_ok-proof.proof stages
     (c.in_ok-proof.ensures ∙ ap (λ (es : List Edge). proof_of p es (four_bounds p es) stages) c.as_slice-edges.ensures) (found (goal.at.returns-clause-given c).In_ok-proof)

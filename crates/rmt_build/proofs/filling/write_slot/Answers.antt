@@ -39,11 +39,10 @@ write_part-requires c =
     let own = c.as_slice-own.result.now in
     let same_table = table-there p c.as_slice.result.now n _ fits.table c.in-Some.table.now c.as_slice.ensures fits.is_table c.in-Some.ensures in
     let same_own = list-there c.args.planned.now.entries.now _ n _ fits.entries own c.as_slice-own.ensures c.index-as_slice-node.is c.as_slice-in-Some.ensures fits.is_entries in
-    let t = c.in-Some.table.now in
     record {
       part = record {
         program = c.requires.planned.program;
-        table = is_table p c.requires.planned.program n t (fits.is_table ∙ ap Some (sym same_table));
+        table = is_table p c.requires.planned.program n c.in-Some.table.now (fits.is_table ∙ ap Some (sym same_table));
         entries = subst (λ (x : Table). AreOf p x own) (sym same_table) (subst (AreOf p fits.table) (sym same_own) fits.of_table);
         few = let few = c.requires.few in let actions = fits.actions ∙ ap (λ (x : Table). length x.actions) (sym same_table) in omega (arith, few, actions);
       };

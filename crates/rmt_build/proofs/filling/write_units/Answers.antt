@@ -55,8 +55,7 @@ loop-unit-preserved c =
             (units-gate p lists plan k units (held c.loop-unit.sram c.loop-unit.tcam) i _ (at ∙ ap Some w.in-Gate.is) written));
         first =
             let own : unit_instructions u ≡ 0 = ap unit_instructions w.in-Gate.is in
-            let same = w.first-is in
-            omega (arith, more, first, own, same);
+            omega (arith, more, first, own, w.first-is);
       }
       | in-Slot+in_ok-write_slot-in-Slot w ↦
           let slot = w.in-Slot.slot in
@@ -70,7 +69,6 @@ loop-unit-preserved c =
                 (subst (λ n. SlotWritten p lists plan k n new slot) first done.written) done.others done.other_values done.other_masks written));
             first =
                 let own : unit_instructions u ≡ slot.actions + 1 = ap unit_instructions w.in-Slot.is in
-                let same = w.first-is in
-                omega (arith, more, first, own, same);
+                omega (arith, more, first, own, w.first-is);
           }
     ]

@@ -1,11 +1,12 @@
 use Rattle.std.proofs.Common.{◌≡◌, None, Ok, ap, sym}
+use Rattle.rmt_bits.proofs.OptionLaws.{done_not_failed}
 use Rattle.rmt_phv.specs.declared.fault.PhvFull.TheVariants as phv
 use Rattle.rmt_phv.proofs.FieldCount.{few_fields}
 use Rattle.rmt_ptcam.specs.declared.fault.ParserFault.TheVariants as parser
 use Rattle.rmt_ptcam.specs.Clustering.{clustered, clustered_or}
 use Rattle.rmt_ptcam.specs.Needs.{refusal, unless}
 use Rattle.rmt_vliw.specs.declared.fault.ActionDeep.TheVariants as action
-use Rattle.rmt_build.proofs.RefusalLaws.{by_rule, done_not_failed, not_refused}
+use Rattle.rmt_build.proofs.RefusalLaws.{by_rule, not_refused}
 use Rattle.rmt_build.proofs.front.front_of.Goals as goal
 
 pub pack_fields-requires-clause-few_fields : goal.pack_fields-requires-clause-few_fields

@@ -13,8 +13,7 @@ use Rattle.rmt_build.proofs.joined.build.Goals as goal
 pub place-requires-clause-forward : goal.place-requires-clause-forward
 place-requires-clause-forward c =
     let p = c.args.program.now in
-    let front = c.in_ok-front.front in
-    subst (GoForward (length p.nodes)) (sym c.in_ok-front.ensures.front.deps) (go_forward p front.places)
+    subst (GoForward (length p.nodes)) (sym c.in_ok-front.ensures.front.deps) (go_forward p c.in_ok-front.front.places)
 
 pub built_on-requires-clause-placed : goal.built_on-requires-clause-placed
 built_on-requires-clause-placed c =

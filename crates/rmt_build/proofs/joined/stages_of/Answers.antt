@@ -16,11 +16,9 @@ pub loop-number-preserved : goal.loop-number-preserved
 loop-number-preserved c =
     let stage = c.in_ok-stage_of.field-0 in
     let pushed = c.in_ok-push.ensures.ok in
-    let long = ap length pushed in
-    let more = length-append c.loop-number.stages (stage ∷ []) in
     let so_far = c.loop-number.invariant.so_far in
     record {
-      so_far = omega (arith, long, more, so_far);
+      so_far = omega (arith, ap length pushed, length-append c.loop-number.stages (stage ∷ []), so_far);
       each = subst (AllNumbered (IsBuiltStage c.args.whole.now.program.now c.args.whole.now.entries.now c.args.whole.now.plan.now)) (sym pushed)
           (AllNumbered-push (IsBuiltStage c.args.whole.now.program.now c.args.whole.now.entries.now c.args.whole.now.plan.now) c.loop-number.stages stage c.loop-number.invariant.each
           (subst (λ n. IsBuiltStage c.args.whole.now.program.now c.args.whole.now.entries.now c.args.whole.now.plan.now n stage) (sym so_far) c.in_ok-stage_of.ensures.stage));

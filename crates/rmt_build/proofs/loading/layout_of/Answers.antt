@@ -17,7 +17,5 @@ loop-stage-preserved c =
 
 pub returns : goal.returns
 returns c =
-    let low = c.loop-stage-test.false in
-    let high = c.loop-stage.auto.stage-end in
-    let last : c.loop-stage.stage ≡ 32 = omega (arith, low, high) in
+    let last : c.loop-stage.stage ≡ 32 = omega (arith, c.loop-stage-test.false, c.loop-stage.auto.stage-end) in
     c.loop-stage.invariant ∙ ap (layout_upto c.args.format.now.per c.args.parts.now c.args.node) last

@@ -36,11 +36,10 @@ returns-in-Stand-2-clause-seed c =
     let lists = c.args.placed.now.entries.now in
     let parts = c.args.placed.now.parts.now in
     let stand = subst (AreTried p lists parts 7) c.in-Stand-2.is c.in_ok-stands-2.ensures in
-    let end = c.loop-seed-test.false in
     record {
       few = omega arith;
       loaded = all_loaded p lists parts 7 c.in-Stand-2.stands stand;
-      least = λ s lt. c.loop-seed.invariant s (omega (arith, lt, end));
+      least = λ s lt. c.loop-seed.invariant s (omega (arith, lt, c.loop-seed-test.false));
     }
 
 pub returns-in-Overfull-clause-refused : goal.returns-in-Overfull-clause-refused
@@ -49,10 +48,9 @@ returns-in-Overfull-clause-refused c =
     let lists = c.args.placed.now.entries.now in
     let parts = c.args.placed.now.parts.now in
     let full = subst (AreTried p lists parts 7) c.in-Overfull.is c.in_ok-stands-2.ensures in
-    let end = c.loop-seed-test.false in
     record {
       each = λ s lt. elim (cases_lt s 7) [
-        | inl less ↦ c.loop-seed.invariant s (omega (arith, less, end))
+        | inl less ↦ c.loop-seed.invariant s (omega (arith, less, c.loop-seed-test.false))
         | inr le ↦
             let same : s ≡ 7 = omega (arith, lt, le) in
             subst (λ k. (m : ℕ) × (count : ℕ) × (few : ℕ) × IsFull p lists parts k m count few) (sym same) (c.in-Overfull.full.node, c.in-Overfull.full.members, c.in-Overfull.full.cells, full.0)

@@ -24,11 +24,10 @@ load_exact-requires c =
     let same : layout_of p parts n ≡ c.in_ok-layout.layout = sym (c.in_ok-layout.ensures ∙ ap (λ f. layout_in f.per parts n) c.requires.own.by_rule) in
     let small = small_exact p c.requires.placed.program n c.args.own.now.table.now c.requires.own.table c.requires.exact parts c.requires.placed.are_parts in
     let few = few_entries p c.requires.placed.program n c.args.own.now.table.now c.requires.own.table c.requires.exact c.args.own.now.entries.now c.requires.own.entries in
-    let cells = small.cells in
     record {
       parts = subst (λ ws. length ws ≤ 64) same small.long;
       rows = subst (All (λ (part : Ways). 1 ≤ part.rows)) same small.rows;
-      few_cells = omega (arith, cells, ap cells_of same);
+      few_cells = omega (arith, small.cells, ap cells_of same);
       few_keys = omega (arith, few, ap length c.in_ok-keys.ensures);
     }
 

@@ -5,7 +5,7 @@ use Rattle.rmt_ast.specs.declared.program.Node.{Node}
 use Rattle.rmt_ast.specs.EntryLists.{AreTableEntries, terms_of}
 use Rattle.rmt_pack.specs.declared.format.Format.{Format}
 use Rattle.rmt_pack.specs.Formats.{no_memory}
-use Rattle.rmt_filling.specs.Formats.{what_format}
+use Rattle.rmt_pack.specs.Placements.{what_format}
 use Rattle.rmt_refine.specs.Outcomes.{entries_at}
 use Rattle.rmt_refine.specs.Units.{table_at}
 use Rattle.rmt_build.specs.Tries.{StandOrFull}

@@ -8,9 +8,7 @@ returns-in-Overfull c =
     let lists = c.args.placed.now.entries.now in
     let parts = c.args.placed.now.parts.now in
     let n = c.loop-node.node in
-    let test = c.loop-node-test.true in
-    let end = c.len-node-end.ensures in
-    let within : n < length p.nodes = omega (arith, test, end) in
+    let within : n < length p.nodes = omega (arith, c.loop-node-test.true, c.len-node-end.ensures) in
     let h = subst (ComesOf p lists parts c.args.seed n) c.in-Overfull.is c.in_ok-own.ensures in
     (is_full p lists parts c.args.seed n c.in-Overfull.members c.in-Overfull.cells c.requires.placed.entries within h, loaded_before p lists parts c.args.seed n c.loop-node.stands c.loop-node.invariant)
 

@@ -4,8 +4,7 @@ use Rattle.rmt_build.proofs.parts.quanta_before.Goals as goal
 
 pub loop-earlier-preserved : goal.loop-earlier-preserved
 loop-earlier-preserved c =
-    let few = c.requires.few c.loop-earlier.earlier in
     record {
       value = omega (arith, quanta_more c.args.parts.now c.args.node c.loop-earlier.earlier, c.quanta_in-quanta.ensures, c.loop-earlier.invariant.value);
-      few = omega (arith, few, c.quanta_in-quanta.ensures, c.loop-earlier.invariant.few);
+      few = omega (arith, c.requires.few c.loop-earlier.earlier, c.quanta_in-quanta.ensures, c.loop-earlier.invariant.few);
     }

@@ -13,9 +13,7 @@ gate_tests-requires-clause-short c = lanes_small c.args.program.now c.args.plan.
 
 pub overflow_cast-result : goal.overflow_cast-result
 overflow_cast-result c =
-    let below = slice_get_within c.args.program.now.nodes c.args.node _ c.requires.node in
-    let few = c.requires.program.counts.nodes in
-    omega (arith, below, few)
+    omega (arith, slice_get_within c.args.program.now.nodes c.args.node _ c.requires.node, c.requires.program.counts.nodes)
 
 pub guard_of-requires : goal.guard_of-requires
 guard_of-requires c =

@@ -1,40 +1,27 @@
-use Rattle.std.proofs.Common.{◌≡◌, ◌∙◌, ◌<◌, List, Some, None, refl, ap, sym, subst, get_or, length, map, arith}
-use Rattle.std.specs.Prelude.{◌==◌, All, IfSome, slice_get}
-use Rattle.std.proofs.lemmas.List.{length-map}
-use Rattle.std.proofs.lemmas.Option.{get_or_from_slice_get, slice_get_read}
+use Rattle.std.proofs.Common.{◌≡◌, ◌∙◌, ◌<◌, List, None, refl, ap, sym, subst, get_or, map, arith}
+use Rattle.std.specs.Prelude.{◌==◌, IfSome}
+use Rattle.std.proofs.lemmas.Option.{get_or_from_slice_get}
 use Rattle.rmt_ast.specs.declared.entry.Entry.{Entry}
 use Rattle.rmt_build.specs.Types.{Node, Guard, Memory}
 use Rattle.rmt_ast.specs.declared.program.What.TheVariants.{Apply}
-use Rattle.rmt_ast.specs.EntryLists.{terms_at}
 use Rattle.rmt_pack.specs.Placements.{quanta_in}
 use Rattle.rmt_phv.specs.Places.{high_first}
 use Rattle.rmt_refine.specs.Units.{HasKind, guard_of, last_stage}
-use Rattle.rmt_filling.specs.declared.stands.Stand.{Stand}
-use Rattle.rmt_build.specs.Plans.{need_in, stands_of_part}
+use Rattle.rmt_build.specs.Plans.{need_in}
 use Rattle.rmt_filling.specs.Memories.{memory_for}
 use Rattle.rmt_filling.specs.Numbers.{number_at}
 use Rattle.rmt_build.proofs.PlanLaws.{is_table}
 use Rattle.rmt_build.proofs.UnitPartLaws.{slot_part}
-use Rattle.rmt_build.proofs.EntryCellLaws.{entries_of_part}
+use Rattle.rmt_build.proofs.EntryCellLaws.{entries_read, list_read}
 use Rattle.rmt_build.proofs.UnitLaws.{guard_small, kind_of_memory, node_applies, slot_carried}
 use Rattle.rmt_build.proofs.units.slot_of.Goals as goal
 
 pub numbers_of-requires : goal.numbers_of-requires
 numbers_of-requires c =
-    let p = c.args.own.now.planned.now.program.now in
-    let plan = c.args.own.now.planned.now.plan.now in
-    let n = c.args.own.now.node in
-    let es = c.index-as_slice-node.result in
-    let lists = c.as_slice-2.ensures in
-    let terms = length-map p.nodes (λ (x : Node). terms_at p x.what) in
-    let all = c.requires.planned.entries.for_each_node in
-    let at : slice_get c.args.own.now.planned.now.entries.now n ≡ Some es =
-    slice_get_read c.args.own.now.planned.now.entries.now (length c.args.own.now.planned.now.entries.now) n es refl (omega (arith, all, terms, c.requires.node)) (c.index-as_slice-node.is ∙ ap (λ xs. get_or xs n es) lists) in
-    let t = c.args.own.now.table.now in
-    let k = c.args.own.now.planned.now.stage in
-    let those = entries_of_part p c.args.own.now.planned.now.entries.now plan t n k es c.requires.planned.entries c.requires.planned.is_plan c.requires.node at in
-    subst (λ (xs : List Stand). All (λ (s : Stand). s.entry < length c.as_slice-list.result.now) xs) (sym (c.as_slice-3.ensures ∙ c.in_ok-stands.ensures))
-    (subst (λ (xs : List Entry). All (λ (s : Stand). s.entry < length xs) (stands_of_part p plan t n k)) (sym c.as_slice-list.ensures) those)
+    let planned = c.args.own.now.planned.now in
+    let at = list_read planned.program.now planned.entries.now c.as_slice-2.result.now c.args.own.now.node c.index-as_slice-node.result c.requires.planned.entries c.requires.node c.as_slice-2.ensures c.index-as_slice-node.is in
+    entries_read planned.program.now planned.entries.now planned.plan.now c.args.own.now.table.now c.args.own.now.node planned.stage c.index-as_slice-node.result c.as_slice-list.result.now
+    c.as_slice-3.result.now c.requires.planned.entries c.requires.planned.is_plan c.requires.node at c.as_slice-list.ensures (c.as_slice-3.ensures ∙ c.in_ok-stands.ensures)
 
 pub guard_of-requires : goal.guard_of-requires
 guard_of-requires c =
@@ -79,10 +66,7 @@ returns-clause-parts c =
     let n = c.args.own.now.node in
     let t = c.args.own.now.table.now in
     let es = c.index-as_slice-node.result in
-    let terms = length-map p.nodes (λ (x : Node). terms_at p x.what) in
-    let all = c.requires.planned.entries.for_each_node in
-    let at : slice_get c.args.own.now.planned.now.entries.now n ≡ Some es =
-    slice_get_read c.args.own.now.planned.now.entries.now (length c.args.own.now.planned.now.entries.now) n es refl (omega (arith, all, terms, c.requires.node)) (c.index-as_slice-node.is ∙ ap (λ xs. get_or xs n es) c.as_slice-2.ensures) in
+    let at = list_read p c.args.own.now.planned.now.entries.now c.as_slice-2.result.now n es c.requires.planned.entries c.requires.node c.as_slice-2.ensures c.index-as_slice-node.is in
     slot_part p c.args.own.now.planned.now.entries.now plan c.args.own.now.planned.now.stage _ t es c.requires.table at (record {
       memory = c.in_ok-memory.ensures.memory ∙ ap (memory_for t.kind (need_in p plan.placement.parts t n c.args.own.now.planned.now.stage)) c.requires.taken;
       held = c.held_bits.ensures.bits;

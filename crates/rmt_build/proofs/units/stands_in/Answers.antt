@@ -56,10 +56,9 @@ pub returns : goal.returns
 returns c =
     let n = c.args.own.now.node in
     let k = c.args.own.now.planned.now.stage in
-    let kind = c.args.own.now.table.now.kind in
     let parts = c.args.own.now.planned.now.plan.now.placement.parts in
     let seen = format_seen c.args.own.now.planned.now.program.now c.requires.planned.program n c.args.own.now.table.now c.requires.table c.as_slice.result.now zero_format (c.as_slice.ensures ∙ c.requires.planned.is_plan.formats) in
-    let cells : ℕ → ℕ → ℕ = λ per q. cells_for kind per q in
+    let cells : ℕ → ℕ → ℕ = λ per q. cells_for c.args.own.now.table.now.kind per q in
     let first : c.cells_of-first.result ≡ cells (format_at c.args.own.now.planned.now.program.now n).per (quanta_before parts n k) =
     c.cells_of-first.ensures ∙ (ap (λ (f : Format). cells f.per c.quanta_before.result) seen
     ∙ ap (cells (format_at c.args.own.now.planned.now.program.now n).per) (c.quanta_before.ensures.quanta ∙ ap (λ ps. quanta_before ps n k) c.as_slice-parts.ensures)) in

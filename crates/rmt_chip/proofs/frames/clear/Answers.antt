@@ -1,7 +1,6 @@
 use Rattle.std.proofs.Common.{◌++◌, Option, subst}
 use Rattle.rmt_cells.specs.declared.cells.Chain.{Chain}
-use Rattle.rmt_cells.specs.Stands.{Stands}
-use Rattle.rmt_chip.specs.Frames.{held_if}
+use Rattle.rmt_cells.specs.Stands.{Stands, held_if}
 use Rattle.rmt_chip.proofs.frames.clear.Goals as goal
 
 pub returns-in-Some : goal.returns-in-Some

@@ -1,9 +1,10 @@
 use Rattle.std.proofs.Common.{List, get_or, ap, ◌∙◌, arith}
 use Rattle.std.specs.Prelude.{slice_index, option_map}
 use Rattle.std.proofs.lemmas.List.{take_all}
+use Rattle.std.specs.Option.{option_or}
 use Rattle.rmt_bits.specs.Bits.{number_of}
 use Rattle.rmt_chip.specs.Types.{Operation}
-use Rattle.rmt_config.specs.Life.{written, op_on, or_else}
+use Rattle.rmt_config.specs.Life.{written, op_on}
 use Rattle.rmt_chip.specs.Writes.{last_on}
 use Rattle.rmt_chip.proofs.WriteLaws.{push_step, no_op}
 use Rattle.rmt_chip.proofs.operands.push_instruction.Goals as goal
@@ -27,4 +28,4 @@ loop-op-preserved c =
 pub returns-clause-due : goal.returns-clause-due
 returns-clause-due c = λ w.
     let all = take_all c.loop-op.op-index c.args.code.now.ops (rw (← c.as_slice-op-items.ensures) c.loop-op-test.false) in
-    c.loop-op.invariant.due w ∙ ap (λ (os : List Operation). or_else (option_map (written (λ v. slice_index c.args.vector.now v) (number_of c.args.held.now)) (op_on w os)) (last_on c.args.due.now.items w)) all
+    c.loop-op.invariant.due w ∙ ap (λ (os : List Operation). option_or (option_map (written (λ v. slice_index c.args.vector.now v) (number_of c.args.held.now)) (op_on w os)) (last_on c.args.due.now.items w)) all

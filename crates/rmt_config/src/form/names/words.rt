@@ -2,7 +2,8 @@
 
 ghost use Rattle.std.specs.Prelude.{◌≡◌};
 ghost use Rattle.std.specs.List.{list_all};
-ghost use Rattle.rmt_ast.specs.NameForm.{has_name_form, is_digit, is_letter, is_name, is_name_byte, reserved_words};
+ghost use Rattle.rmt_bits.specs.Digits.{is_digit};
+ghost use Rattle.rmt_ast.specs.NameForm.{has_name_form, is_letter, is_name, is_name_byte, reserved_words};
 ghost use Rattle.rmt_ast.specs.NameList.{is_known, seen};
 
 /// The words that are no names.

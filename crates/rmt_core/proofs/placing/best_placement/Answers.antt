@@ -1,7 +1,8 @@
 use Rattle.std.proofs.Common.{Err, ap, sym, ◌∙◌}
+use Rattle.rmt_bits.proofs.OptionLaws.{done_not_failed}
 use Rattle.rmt_phv.proofs.FieldCount.{few_fields}
 use Rattle.rmt_phv.specs.declared.fault.PhvFull.TheVariants as phv
-use Rattle.rmt_core.proofs.PlacerLaws.{both_stuck, done_not_failed, unpacked}
+use Rattle.rmt_core.proofs.PlacerLaws.{both_stuck, unpacked}
 use Rattle.rmt_core.proofs.placing.best_placement.Goals as goal
 
 pub pack_fields-requires-clause-few_fields : goal.pack_fields-requires-clause-few_fields

@@ -1,6 +1,6 @@
 use Rattle.std.proofs.Common.{◌≡◌, ◌||◌, Bool, true, false, refl, ap, sym, ◌∙◌}
 use Rattle.rmt_ast.specs.declared.deps.EdgeKind.{EdgeKind}
-use Rattle.rmt_deps.specs.Edges.{depends, meet, keys_of, reads_of, writes_of, words_of}
+use Rattle.rmt_deps.specs.Edges.{depends, meet, keys_of, reads_of, writes_of, words_of_fields}
 use Rattle.rmt_deps.proofs.edges.depends.Goals as goal
 
 -- one test after another
@@ -42,5 +42,5 @@ returns-else-meet-2 c = λ p places to first second.
 
 pub returns-in-Word : goal.returns-in-Word
 returns-in-Word c = λ p places to first second.
-    c.meet-in-Word.ensures (words_of places (writes_of p c.args.from)) (words_of places (writes_of p to)) first.words second.words
+    c.meet-in-Word.ensures (words_of_fields places (writes_of p c.args.from)) (words_of_fields places (writes_of p to)) first.words second.words
     ∙ sym (ap (λ (k : EdgeKind). depends p places k c.args.from to) c.in-Word.is)

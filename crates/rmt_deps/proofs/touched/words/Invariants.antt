@@ -1,7 +1,7 @@
 use Rattle.std.proofs.Common.{◌≡◌, take}
-use Rattle.rmt_deps.specs.Edges.{words_of}
+use Rattle.rmt_deps.specs.Edges.{words_of_fields}
 use Rattle.rmt_deps.proofs.touched.words.Given as goal
 
 -- the words of the fields so far
 abbrev pub invariant-loop-field : goal.invariant-loop-field
-invariant-loop-field l = l.words ≡ words_of l.places (take l.field-index l.fields)
+invariant-loop-field l = l.words ≡ words_of_fields l.places (take l.field-index l.fields)

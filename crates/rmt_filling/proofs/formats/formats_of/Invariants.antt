@@ -1,6 +1,6 @@
 use Rattle.std.proofs.Common.{◌≡◌, map, take}
+use Rattle.rmt_pack.specs.Placements.{what_format}
 use Rattle.rmt_filling.specs.Types.{Node}
-use Rattle.rmt_filling.specs.Formats.{what_format}
 use Rattle.rmt_filling.proofs.formats.formats_of.Given as goal
 
 -- the formats of the nodes so far

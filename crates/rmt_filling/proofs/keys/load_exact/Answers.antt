@@ -10,9 +10,7 @@ use Rattle.rmt_filling.proofs.keys.load_exact.Goals as goal
 pub as_loaded-requires-clause-few : goal.as_loaded-requires-clause-few
 as_loaded-requires-clause-few c =
     let long = AllZip-long (λ key cell. Contains (candidates c.args.layout.now c.args.seed key) cell) c.args.keys.now c.in-Ok.cells c.in-Ok.ensures.loaded.stand in
-    let same = ap length c.as_slice.ensures in
-    let few = c.requires.few_keys in
-    omega (arith, long, same, few)
+    omega (arith, long, ap length c.as_slice.ensures, c.requires.few_keys)
 
 pub overflow_cast-result : goal.overflow_cast-result
 overflow_cast-result c =

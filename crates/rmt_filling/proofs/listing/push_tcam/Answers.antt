@@ -32,9 +32,7 @@ loop-row-preserved c =
       | else-word-ne0 w ↦
           let none : word.mask ≡ 0 = w.if-word-ne0.false in
           let least : word.value ≡ 0 =
-          let le = and_le_r word.value word.mask in
-          let e = c.row-word.ensures.masked in
-          omega (arith, le, e, none) in
+          omega (arith, and_le_r word.value word.mask, c.row-word.ensures.masked, none) in
           let told : c.if-word-ne0.told ≡ c.loop-row.told = w.told-is in
           subst (λ (n : ℕ). IsTcamListed values masks n c.if-word-ne0.told) next
           (subst (λ (xs : List TcamRow). IsTcamListed values masks (at + 1) xs) (sym told)

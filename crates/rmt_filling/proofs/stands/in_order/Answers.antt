@@ -12,14 +12,12 @@ in_rows-requires c =
     let few = c.requires.few in
     let are : AreSorted ranks c.in_ok-sorted.sorted.items =
     subst (λ ns. AreSorted ns c.in_ok-sorted.sorted.items) (c.as_slice.ensures.value ∙ c.in_ok-ranks.ensures.ranks) c.in_ok-sorted.ensures in
-    let long = long_as ranks (omega (arith, many, few)) c.in_ok-sorted.sorted.items are in
     let same = ap length c.as_slice-2.ensures.value in
-    record { few = omega (arith, many, few, long, same) }
+    record { few = omega (arith, many, few, long_as ranks (omega (arith, many, few)) c.in_ok-sorted.sorted.items are, same) }
 
 pub returns : goal.returns
 returns c =
-    let ranks = map (rank_in c.args.kind) c.args.entries.now in
-    let are : AreSorted ranks c.in_ok-sorted.sorted.items =
+    let are : AreSorted (map (rank_in c.args.kind) c.args.entries.now) c.in_ok-sorted.sorted.items =
     subst (λ ns. AreSorted ns c.in_ok-sorted.sorted.items) (c.as_slice.ensures.value ∙ c.in_ok-ranks.ensures.ranks) c.in_ok-sorted.ensures in
     subst (StandInOrder c.args.kind c.args.entries.now) (sym (c.in_ok-stands.ensures ∙ ap (rows_from 0) c.as_slice-2.ensures.value))
     (stand_in_order c.args.kind c.args.entries.now c.in_ok-sorted.sorted.items c.requires.few c.requires.kind c.in_ok-ranks.ensures.fits c.requires.rising are)

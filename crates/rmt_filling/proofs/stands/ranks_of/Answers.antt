@@ -12,9 +12,8 @@ loop-entry-preserved c = record {
       let es = c.args.entries.now in
       let i = c.loop-entry.entry-index in
       let item = c.entry-item.result in
-      let front = map f (take i es) in
       c.in_ok-push.ensures.items ∙ ap (λ (rs : List ℕ). rs ++ c.rank_of.result ∷ []) c.loop-entry.invariant.ranks
-      ∙ ap (λ r. front ++ r ∷ []) (c.rank_of.ensures.rank ∙ ap f c.entry-item.is)
+      ∙ ap (λ r. (map f (take i es)) ++ r ∷ []) (c.rank_of.ensures.rank ∙ ap f c.entry-item.is)
       ∙ sym (ap (map f) (take_more es i item c.loop-entry-test.true) ∙ map-append f (take i es) (get_or es i item ∷ []));
   fits =
       let P : Entry → Type 0 = λ e. e.rank < 2 ^ 32 in

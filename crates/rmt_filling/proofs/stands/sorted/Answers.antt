@@ -7,8 +7,7 @@ use Rattle.rmt_filling.proofs.stands.sorted.Goals as goal
 
 pub loop-at-preserved : goal.loop-at-preserved
 loop-at-preserved c =
-    let was = c.loop-at.invariant in
-    c.in_ok-push.ensures.items ∙ rw was (sym (placed_more c.args.numbers.now c.loop-at.at 0 c.loop-at-test.true))
+    c.in_ok-push.ensures.items ∙ rw c.loop-at.invariant (sym (placed_more c.args.numbers.now c.loop-at.at 0 c.loop-at-test.true))
 
 pub returns : goal.returns
 returns c = record {

@@ -42,33 +42,27 @@ loop-action-preserved c =
 pub bounds-folded-table : goal.bounds-folded-table
 bounds-folded-table c =
     let below = takes_within c.args.program.now c.args.table.now.default c.args.table.now.args c.requires.table.default in
-    let many = c.requires.folded.all_there in
-    let size = ap length c.as_slice-folded.ensures in
-    omega (arith, below, many, size)
+    omega (arith, below, c.requires.folded.all_there, ap length c.as_slice-folded.ensures)
 
 pub default_instruction-requires-clause-folded : goal.default_instruction-requires-clause-folded
 default_instruction-requires-clause-folded c =
     let below = takes_within c.args.program.now c.args.table.now.default c.args.table.now.args c.requires.table.default in
-    let many = c.requires.folded.all_there in
     let size = ap length c.as_slice-folded.ensures in (
       c.args.table.now.default,
       folding_at c.args.program.now c.args.plan.now.folded c.as_slice-folded.result.now c.requires.folded c.as_slice-folded.ensures c.args.table.now.default c.index-folded-table.result
-          (omega (arith, below, many, size)) c.index-folded-table.is,
+          (omega (arith, below, c.requires.folded.all_there, size)) c.index-folded-table.is,
     )
 
 pub default_instruction-requires-clause-args : goal.default_instruction-requires-clause-args
 default_instruction-requires-clause-args c =
     let below = takes_within c.args.program.now c.args.table.now.default c.args.table.now.args c.requires.table.default in
-    let many = c.requires.folded.all_there in
-    let size = ap length c.as_slice-folded.ensures in
     takes_folded c.args.program.now c.args.table.now.default c.args.table.now.args c.index-folded-table.result c.requires.table.default
     (folding_at c.args.program.now c.args.plan.now.folded c.as_slice-folded.result.now c.requires.folded c.as_slice-folded.ensures c.args.table.now.default c.index-folded-table.result
-    (omega (arith, below, many, size)) c.index-folded-table.is)
+    (omega (arith, below, c.requires.folded.all_there, ap length c.as_slice-folded.ensures)) c.index-folded-table.is)
 
 pub returns : goal.returns
 returns c =
     let p = c.args.program.now in
-    let places = c.args.plan.now.places in
     let t = c.args.table.now in
     let v = c.in_ok-default_instruction.field-0 in
     let folded = c.index-folded-table.result in
@@ -86,7 +80,7 @@ returns c =
         listed = inv.0;
         last = v;
         in_order = refl;
-        actions = subst (λ (xs : List ℕ). DoActions p places xs inv.0) all inv.2;
+        actions = subst (λ (xs : List ℕ). DoActions p c.args.plan.now.places xs inv.0) all inv.2;
         formed = inv.3;
         formed_last = c.in_ok-default_instruction.ensures.formed (data_bits p t);
         default = record { folded = folded; folding = folding; instruction = c.in_ok-default_instruction.ensures.pieces };

@@ -32,9 +32,8 @@ no_stand = record { cell = 0; entry = 0 }
 room : (cell quanta each long : ℕ) → cell < 2048 * quanta → long ≡ quanta * each → cell / 2048 * each + each ≤ long
 room cell quanta each long lt is =
     let below : cell / 2048 < quanta = div_below cell 2048 quanta (omega arith) (omega (arith, lt)) in
-    let le = mul-le (cell / 2048 + 1) each quanta each (omega (arith, below)) (omega arith) in
     let next : (cell / 2048 + 1) * each ≡ cell / 2048 * each + each = omega arith in
-    omega (arith, le, next, is)
+    omega (arith, mul-le (cell / 2048 + 1) each quanta each (omega (arith, below)) (omega arith), next, is)
 
 pub write_tests-requires : goal.write_tests-requires
 write_tests-requires c =

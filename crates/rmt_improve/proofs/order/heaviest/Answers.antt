@@ -16,8 +16,7 @@ loop-node-preserved c =
     let more = filter-range_more (is_free c.args.taken.now c.args.held.now) n in
     elim c.if-is_free.branch [
       | then-is_free w ↦
-          let test = sym c.is_free.ensures ∙ w.if-is_free.true in
-          let nodes = more ∙ ap (λ (b : Bool). front ++ cond b (n ∷ []) []) test in
+          let nodes = more ∙ ap (λ (b : Bool). front ++ cond b (n ∷ []) []) (sym c.is_free.ensures ∙ w.if-is_free.true) in
           record {
             best = ap listed w.best-is ∙ (w.heavier.ensures.value front c.loop-node.invariant.best ∙ sym (ap (heaviest_of weights) nodes));
             below = subst (λ (o : Option ℕ). IfSome o (λ b. b < length weights)) (sym w.best-is) w.heavier.ensures.below;

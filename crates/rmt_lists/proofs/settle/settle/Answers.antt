@@ -1,8 +1,8 @@
 use Rattle.std.proofs.Common.{◌<◌, ◌∙◌, List, ap, length, not, refl, subst, sym}
 use Rattle.std.specs.Prelude.{All, filter}
+use Rattle.rmt_bits.specs.Members.{is_among}
 use Rattle.rmt_ast.specs.declared.entry.Entry.{Entry}
 use Rattle.rmt_ast.specs.Changes.{list_of}
-use Rattle.rmt_lists.specs.Running.{is_among}
 use Rattle.rmt_lists.specs.Settled.{Extends, ExtendsInPart}
 use Rattle.rmt_lists.specs.Stands.{somes}
 use Rattle.rmt_lists.proofs.LeftLaws.{slots_tables}

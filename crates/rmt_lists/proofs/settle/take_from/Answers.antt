@@ -1,6 +1,6 @@
 use Rattle.std.proofs.Common.{arith, not, sym, ◌∙◌}
+use Rattle.rmt_bits.specs.Members.{is_among}
 use Rattle.rmt_ast.specs.declared.entry.Entry.{Entry}
-use Rattle.rmt_lists.specs.Running.{is_among}
 use Rattle.rmt_lists.proofs.SettleLaws.{keeps_below, kept_whole}
 use Rattle.rmt_lists.proofs.settle.take_from.Goals as goal
 

@@ -1,8 +1,8 @@
 use Rattle.std.proofs.Common.{◌≡◌, ◌<◌, ◌≤◌, ℕ, length, not}
 use Rattle.std.specs.Prelude.{All, filter}
+use Rattle.rmt_bits.specs.Members.{is_among}
 use Rattle.rmt_ast.specs.declared.entry.Entry.{Entry}
 use Rattle.rmt_ast.specs.Changes.{list_of}
-use Rattle.rmt_lists.specs.Running.{is_among}
 use Rattle.rmt_lists.proofs.settle.take_gone.Given as goal
 
 -- the lists before the next one have what is left, and the others have all

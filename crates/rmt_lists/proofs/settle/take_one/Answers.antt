@@ -1,7 +1,7 @@
 use Rattle.std.proofs.Common.{◌∙◌, ap, not, slice_get, sym}
 use Rattle.std.specs.List.{remove}
+use Rattle.rmt_bits.specs.Members.{is_among}
 use Rattle.rmt_ast.specs.declared.entry.Entry.{Entry}
-use Rattle.rmt_lists.specs.Running.{is_among}
 use Rattle.rmt_lists.proofs.SettleLaws.{keeps_below, kept_but_one}
 use Rattle.rmt_lists.proofs.settle.take_one.Goals as goal
 

@@ -1,4 +1,4 @@
-use Rattle.std.proofs.Common.{◌≡◌, List, ℕ, ◌≤◌, ◌*◌, ◌%◌, ◌/◌, sym, refl, ap, ◌∙◌, subst, arith}
+use Rattle.std.proofs.Common.{◌≡◌, List, ℕ, ◌*◌, ◌%◌, ◌/◌, sym, refl, ap, ◌∙◌, subst, arith}
 use Rattle.std.proofs.lemmas.Bool.{and_from, eq-eqb, le-leb}
 use Rattle.std.proofs.lemmas.Nat.{mod_below}
 use Rattle.rmt_memory.specs.Types.{SramRow, CellNumber}
@@ -9,97 +9,60 @@ use Rattle.rmt_config.specs.Cells.{sram_row, cell_of, data_at, entry_at}
 use Rattle.rmt_memory.specs.Laying.{runs_of}
 use Rattle.rmt_memory.specs.Laid.{CellsLaid}
 use Rattle.rmt_memory.proofs.LayLaws.{cells-below, exact-heads, exact-keys, cells-hold}
-use Rattle.rmt_memory.proofs.LayoutLaws.{rows-formed, exact-in, exact-blocks, exact-cells, exact-few}
+use Rattle.rmt_memory.proofs.LayoutLaws.{rows-formed, exact-in, exact-blocks, exact-cells, exact-few, few-bits}
 use Rattle.rmt_memory.proofs.lay.lay_exact.Goals as goal
 
-pub runs_of-requires-clause-rows : goal.runs_of-requires-clause-rows
-runs_of-requires-clause-rows c = rows-formed c.args.stage.now c.as_slice-rows.result.now c.as_slice-rows.ensures c.requires.rows
+pub runs_of-requires : goal.runs_of-requires
+runs_of-requires c = record {
+  rows = rows-formed c.args.stage.now c.as_slice-rows.result.now c.as_slice-rows.ensures c.requires.rows;
+  layout = exact-in _ _ _ _ _ _ c.requires.fits _ (c.key_bits-bits.ensures ∙ ap bits_of_lanes c.as_slice.ensures) _ c.exact_keys-layout.ensures;
+  blocks = exact-blocks _ _ _ _ _ _ c.requires.fits _ (c.key_bits-bits.ensures ∙ ap bits_of_lanes c.as_slice.ensures) _ c.exact_keys-layout.ensures;
+  cells = exact-cells _ _ _ _ _ _ c.requires.fits _ (c.key_bits-bits.ensures ∙ ap bits_of_lanes c.as_slice.ensures) _ c.exact_keys-layout.ensures c.as_slice-numbers.result.now c.as_slice-numbers.ensures c.requires.numbers.below;
+  bits = let entry = ap (λ (l : CellLayout). l.entry) c.exact_keys-layout.ensures in omega (arith, entry);
+}
 
-pub runs_of-requires-clause-layout : goal.runs_of-requires-clause-layout
-runs_of-requires-clause-layout c = exact-in _ _ _ _ _ _ c.requires.fits _ (c.key_bits-bits.ensures ∙ ap bits_of_lanes c.as_slice.ensures) _ c.exact_keys-layout.ensures
+pub runs_of-requires-2 : goal.runs_of-requires-2
+runs_of-requires-2 c = record {
+  rows = rows-formed c.args.stage.now c.as_slice-rows.result.now c.as_slice-rows.ensures c.requires.rows;
+  layout = exact-in _ _ _ _ _ _ c.requires.fits _ (c.key_bits-bits.ensures ∙ ap bits_of_lanes c.as_slice.ensures) _ c.exact_keys-layout.ensures;
+  blocks = exact-blocks _ _ _ _ _ _ c.requires.fits _ (c.key_bits-bits.ensures ∙ ap bits_of_lanes c.as_slice.ensures) _ c.exact_keys-layout.ensures;
+  cells = exact-cells _ _ _ _ _ _ c.requires.fits _ (c.key_bits-bits.ensures ∙ ap bits_of_lanes c.as_slice.ensures) _ c.exact_keys-layout.ensures c.as_slice-numbers.result.now c.as_slice-numbers.ensures c.requires.numbers.below;
+  bits = let entry = ap (λ (l : CellLayout). l.entry) c.exact_keys-layout.ensures in omega (arith, entry);
+}
 
-pub runs_of-requires-clause-blocks : goal.runs_of-requires-clause-blocks
-runs_of-requires-clause-blocks c = exact-blocks _ _ _ _ _ _ c.requires.fits _ (c.key_bits-bits.ensures ∙ ap bits_of_lanes c.as_slice.ensures) _ c.exact_keys-layout.ensures
-
-pub runs_of-requires-clause-cells : goal.runs_of-requires-clause-cells
-runs_of-requires-clause-cells c =
-    exact-cells _ _ _ _ _ _ c.requires.fits _ (c.key_bits-bits.ensures ∙ ap bits_of_lanes c.as_slice.ensures) _ c.exact_keys-layout.ensures c.as_slice-numbers.result.now c.as_slice-numbers.ensures c.requires.numbers.below
-
-pub runs_of-requires-clause-bits : goal.runs_of-requires-clause-bits
-runs_of-requires-clause-bits c = let entry = ap (λ (l : CellLayout). l.entry) c.exact_keys-layout.ensures in omega (arith, entry)
-
-pub runs_of-requires-2-clause-rows : goal.runs_of-requires-2-clause-rows
-runs_of-requires-2-clause-rows c = rows-formed c.args.stage.now c.as_slice-rows.result.now c.as_slice-rows.ensures c.requires.rows
-
-pub runs_of-requires-2-clause-layout : goal.runs_of-requires-2-clause-layout
-runs_of-requires-2-clause-layout c = exact-in _ _ _ _ _ _ c.requires.fits _ (c.key_bits-bits.ensures ∙ ap bits_of_lanes c.as_slice.ensures) _ c.exact_keys-layout.ensures
-
-pub runs_of-requires-2-clause-blocks : goal.runs_of-requires-2-clause-blocks
-runs_of-requires-2-clause-blocks c = exact-blocks _ _ _ _ _ _ c.requires.fits _ (c.key_bits-bits.ensures ∙ ap bits_of_lanes c.as_slice.ensures) _ c.exact_keys-layout.ensures
-
-pub runs_of-requires-2-clause-cells : goal.runs_of-requires-2-clause-cells
-runs_of-requires-2-clause-cells c =
-    exact-cells _ _ _ _ _ _ c.requires.fits _ (c.key_bits-bits.ensures ∙ ap bits_of_lanes c.as_slice.ensures) _ c.exact_keys-layout.ensures c.as_slice-numbers.result.now c.as_slice-numbers.ensures c.requires.numbers.below
-
-pub runs_of-requires-2-clause-bits : goal.runs_of-requires-2-clause-bits
-runs_of-requires-2-clause-bits c = let entry = ap (λ (l : CellLayout). l.entry) c.exact_keys-layout.ensures in omega (arith, entry)
-
-pub exact_data-requires-clause-rows : goal.exact_data-requires-clause-rows
-exact_data-requires-clause-rows c = rows-formed c.args.stage.now c.as_slice-rows.result.now c.as_slice-rows.ensures c.requires.rows
-
-pub exact_data-requires-clause-per : goal.exact_data-requires-clause-per
-exact_data-requires-clause-per c = c.requires.fits.some_p
-
-pub exact_data-requires-clause-quanta : goal.exact_data-requires-clause-quanta
-exact_data-requires-clause-quanta c = c.requires.fits.some_d
-
-pub exact_data-requires-clause-few : goal.exact_data-requires-clause-few
-exact_data-requires-clause-few c = c.requires.fits.most_d
-
-pub exact_data-requires-clause-records : goal.exact_data-requires-clause-records
-exact_data-requires-clause-records c = c.requires.fits.records
-
-pub exact_data-requires-clause-cells : goal.exact_data-requires-clause-cells
-exact_data-requires-clause-cells c =
-    let count = 4096 * c.args.format.quanta * c.args.format.per in
-    cells-below c.args.slot.now.numbers c.as_slice-numbers.result.now count count c.as_slice-numbers.ensures refl c.requires.numbers.below
+pub exact_data-requires : goal.exact_data-requires
+exact_data-requires c = record {
+  rows = rows-formed c.args.stage.now c.as_slice-rows.result.now c.as_slice-rows.ensures c.requires.rows;
+  per = c.requires.fits.some_p;
+  quanta = c.requires.fits.some_d;
+  few = c.requires.fits.most_d;
+  records = c.requires.fits.records;
+  cells =
+      let count = 4096 * c.args.format.quanta * c.args.format.per in
+      cells-below c.args.slot.now.numbers c.as_slice-numbers.result.now count count c.as_slice-numbers.ensures refl c.requires.numbers.below;
+}
 
 pub overflow_mul-count-2 : goal.overflow_mul-count-2
 overflow_mul-count-2 c = let few = exact-few _ _ _ _ _ _ c.requires.fits in omega (arith, few)
 
-pub cells_of-requires-clause-heads : goal.cells_of-requires-clause-heads
-cells_of-requires-clause-heads c = c.in_ok-heads.ensures.count
-
-pub cells_of-requires-clause-keys : goal.cells_of-requires-clause-keys
-cells_of-requires-clause-keys c = c.in_ok-found.ensures.count
-
-pub cells_of-requires-clause-held : goal.cells_of-requires-clause-held
-cells_of-requires-clause-held c = c.in_ok-held.ensures.count
-
-pub cells_of-requires-clause-head_size : goal.cells_of-requires-clause-head_size
-cells_of-requires-clause-head_size c = c.in_ok-heads.ensures.size
-
-pub cells_of-requires-clause-inside : goal.cells_of-requires-clause-inside
-cells_of-requires-clause-inside c =
-    let count = 4096 * c.args.format.quanta * c.args.format.per in
-    cells-below c.args.slot.now.numbers c.as_slice-numbers.result.now count count c.as_slice-numbers.ensures refl c.requires.numbers.below
-
-pub cells_of-requires-clause-few : goal.cells_of-requires-clause-few
-cells_of-requires-clause-few c = let few = exact-few _ _ _ _ _ _ c.requires.fits in omega (arith, few)
-
-pub cells_of-requires-clause-tail : goal.cells_of-requires-clause-tail
-cells_of-requires-clause-tail c = c.number_size-tail.ensures.few
-
-few-bits : (bits b : ℕ) → bits ≡ b → b ≤ 640 → bits ≤ 640
-few-bits bits b same few = subst (λ n. n ≤ 640) (sym same) few
-
-pub cells_of-requires-clause-short : goal.cells_of-requires-clause-short
-cells_of-requires-clause-short c =
-    let few = few-bits _ _ (c.key_bits-bits.ensures ∙ ap bits_of_lanes c.as_slice.ensures) c.requires.fits.most_bits in
-    let key = c.in_ok-found.ensures.size in
-    let held = c.in_ok-held.ensures.size in
-    let most = c.requires.fits.most_held in
-    omega (arith, few, key, held, most)
+pub cells_of-requires : goal.cells_of-requires
+cells_of-requires c = record {
+  heads = c.in_ok-heads.ensures.count;
+  keys = c.in_ok-found.ensures.count;
+  held = c.in_ok-held.ensures.count;
+  head_size = c.in_ok-heads.ensures.size;
+  inside =
+      let count = 4096 * c.args.format.quanta * c.args.format.per in
+      cells-below c.args.slot.now.numbers c.as_slice-numbers.result.now count count c.as_slice-numbers.ensures refl c.requires.numbers.below;
+  few = let few = exact-few _ _ _ _ _ _ c.requires.fits in omega (arith, few);
+  tail = c.number_size-tail.ensures.few;
+  short =
+      let few = few-bits _ _ (c.key_bits-bits.ensures ∙ ap bits_of_lanes c.as_slice.ensures) c.requires.fits.most_bits in
+      let key = c.in_ok-found.ensures.size in
+      let held = c.in_ok-held.ensures.size in
+      let most = c.requires.fits.most_held in
+      omega (arith, few, key, held, most);
+}
 
 pub marks_of-requires : goal.marks_of-requires
 marks_of-requires c = let size = c.in_ok-cells.ensures.size in omega (arith, size)

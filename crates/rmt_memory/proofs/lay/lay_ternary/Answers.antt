@@ -16,128 +16,83 @@ use Rattle.rmt_memory.specs.Slicing.{RowFits}
 use Rattle.rmt_memory.specs.Sights.{seen_by}
 use Rattle.rmt_memory.specs.Memories.{compared_of}
 use Rattle.rmt_memory.proofs.LayLaws.{cells-below, ternary-heads, ternary-data, compared-is, compared-fits, cells-hold, head-of}
-use Rattle.rmt_memory.proofs.LayoutLaws.{rows-formed, ternary-in, ternary-blocks, ternary-cells, ternary-entry}
+use Rattle.rmt_memory.proofs.LayoutLaws.{rows-formed, ternary-in, ternary-blocks, ternary-cells, ternary-entry, few-bits}
 use Rattle.rmt_memory.proofs.RunLaws.{runs-none}
 use Rattle.rmt_memory.proofs.lay.lay_ternary.Goals as goal
 use Rattle.rmt_config.proofs.CellLayouts.{width-is}
 use Rattle.rmt_config.proofs.CellLaws.{blocks-there}
 
-pub runs_of-requires-clause-rows : goal.runs_of-requires-clause-rows
-runs_of-requires-clause-rows c = rows-formed c.args.stage.now c.as_slice-rows.result.now c.as_slice-rows.ensures c.requires.rows
+pub runs_of-requires : goal.runs_of-requires
+runs_of-requires c = record {
+  rows = rows-formed c.args.stage.now c.as_slice-rows.result.now c.as_slice-rows.ensures c.requires.rows;
+  layout = ternary-in _ _ _ _ c.requires.fits _ c.ternary_records-layout.ensures;
+  blocks = ternary-blocks _ _ _ _ c.requires.fits _ c.ternary_records-layout.ensures;
+  cells = ternary-cells _ _ _ _ c.requires.fits _ c.ternary_records-layout.ensures c.as_slice-numbers.result.now c.as_slice-numbers.ensures c.requires.numbers.below;
+  bits = let entry = ternary-entry _ _ _ _ c.requires.fits _ c.ternary_records-layout.ensures in omega (arith, entry);
+}
 
-pub runs_of-requires-clause-layout : goal.runs_of-requires-clause-layout
-runs_of-requires-clause-layout c = ternary-in _ _ _ _ c.requires.fits _ c.ternary_records-layout.ensures
-
-pub runs_of-requires-clause-blocks : goal.runs_of-requires-clause-blocks
-runs_of-requires-clause-blocks c = ternary-blocks _ _ _ _ c.requires.fits _ c.ternary_records-layout.ensures
-
-pub runs_of-requires-clause-cells : goal.runs_of-requires-clause-cells
-runs_of-requires-clause-cells c = ternary-cells _ _ _ _ c.requires.fits _ c.ternary_records-layout.ensures c.as_slice-numbers.result.now c.as_slice-numbers.ensures c.requires.numbers.below
-
-pub runs_of-requires-clause-bits : goal.runs_of-requires-clause-bits
-runs_of-requires-clause-bits c = let entry = ternary-entry _ _ _ _ c.requires.fits _ c.ternary_records-layout.ensures in omega (arith, entry)
-
-pub runs_of-requires-2-clause-rows : goal.runs_of-requires-2-clause-rows
-runs_of-requires-2-clause-rows c = rows-formed c.args.stage.now c.as_slice-rows.result.now c.as_slice-rows.ensures c.requires.rows
-
-pub runs_of-requires-2-clause-layout : goal.runs_of-requires-2-clause-layout
-runs_of-requires-2-clause-layout c = ternary-in _ _ _ _ c.requires.fits _ c.ternary_records-layout.ensures
-
-pub runs_of-requires-2-clause-blocks : goal.runs_of-requires-2-clause-blocks
-runs_of-requires-2-clause-blocks c = ternary-blocks _ _ _ _ c.requires.fits _ c.ternary_records-layout.ensures
-
-pub runs_of-requires-2-clause-cells : goal.runs_of-requires-2-clause-cells
-runs_of-requires-2-clause-cells c = ternary-cells _ _ _ _ c.requires.fits _ c.ternary_records-layout.ensures c.as_slice-numbers.result.now c.as_slice-numbers.ensures c.requires.numbers.below
-
-pub runs_of-requires-2-clause-bits : goal.runs_of-requires-2-clause-bits
-runs_of-requires-2-clause-bits c = let entry = ternary-entry _ _ _ _ c.requires.fits _ c.ternary_records-layout.ensures in omega (arith, entry)
+pub runs_of-requires-2 : goal.runs_of-requires-2
+runs_of-requires-2 c = record {
+  rows = rows-formed c.args.stage.now c.as_slice-rows.result.now c.as_slice-rows.ensures c.requires.rows;
+  layout = ternary-in _ _ _ _ c.requires.fits _ c.ternary_records-layout.ensures;
+  blocks = ternary-blocks _ _ _ _ c.requires.fits _ c.ternary_records-layout.ensures;
+  cells = ternary-cells _ _ _ _ c.requires.fits _ c.ternary_records-layout.ensures c.as_slice-numbers.result.now c.as_slice-numbers.ensures c.requires.numbers.below;
+  bits = let entry = ternary-entry _ _ _ _ c.requires.fits _ c.ternary_records-layout.ensures in omega (arith, entry);
+}
 
 pub overflow_mul-count : goal.overflow_mul-count
 overflow_mul-count c = let most = c.requires.fits.most_d in omega (arith, most)
-
-few-bits : (bits b : ℕ) → bits ≡ b → b ≤ 640 → bits ≤ 640
-few-bits bits b same few = subst (λ n. n ≤ 640) (sym same) few
 
 pub overflow_add-bits : goal.overflow_add-bits
 overflow_add-bits c =
     let few = few-bits _ _ (c.key_bits-bits.ensures ∙ ap bits_of_lanes c.as_slice.ensures) c.requires.fits.most_bits in omega (arith, few)
 
-pub sliced_of-requires-clause-side : goal.sliced_of-requires-clause-side
-sliced_of-requires-clause-side c =
-    let few = few-bits _ _ (c.key_bits-bits.ensures ∙ ap bits_of_lanes c.as_slice.ensures) c.requires.fits.most_bits in omega (arith, few)
-
-pub sliced_of-requires-clause-few : goal.sliced_of-requires-clause-few
-sliced_of-requires-clause-few c = let most = c.requires.fits.most_d in omega (arith, most)
-
-pub sliced_of-requires-clause-heads : goal.sliced_of-requires-clause-heads
-sliced_of-requires-clause-heads c = c.in_ok-heads.ensures.count
-
-pub sliced_of-requires-clause-head_size : goal.sliced_of-requires-clause-head_size
-sliced_of-requires-clause-head_size c = c.in_ok-heads.ensures.size
-
-pub sliced_of-requires-clause-inside : goal.sliced_of-requires-clause-inside
-sliced_of-requires-clause-inside c =
-    cells-below c.args.slot.now.numbers c.as_slice-numbers.result.now (2048 * c.args.quanta) (2048 * c.args.quanta) c.as_slice-numbers.ensures refl c.requires.numbers.below
-
-pub sliced_of-requires-clause-rows : goal.sliced_of-requires-clause-rows
-sliced_of-requires-clause-rows c = subst PrefixRows (sym c.as_slice-2.ensures) c.requires.values
-
-pub sliced_of-requires-clause-cells : goal.sliced_of-requires-clause-cells
-sliced_of-requires-clause-cells c =
-    λ k z lt.
-    let slot = c.args.slot.now in
-    let bits : c.key_bits-bits.result ≡ bits_of_lanes slot.keys = c.key_bits-bits.ensures ∙ ap bits_of_lanes c.as_slice.ensures in
-    let width = width-is (bits_of_lanes slot.keys) c.key_bits-bits.result bits in
-    let inside = ap (λ (ns : List CellNumber). length ns) c.as_slice-numbers.ensures in
-    let below = c.requires.numbers.below k z (omega (arith, inside, lt)) in
-    let there = blocks-there c.args.quanta (divided_up (bits_of_lanes slot.keys) 40) (length c.args.keys.now) (get_or slot.numbers k z).cell c.requires.fits.keys below in
-    subst (λ (ns : List CellNumber). ((get_or ns k z).cell / 2048 + 1) * ((c.key_bits-bits.result + 39) / 40) ≤ length c.args.keys.now) (sym c.as_slice-numbers.ensures)
-    (subst (λ n. ((get_or slot.numbers k z).cell / 2048 + 1) * n ≤ length c.args.keys.now) (sym width) there)
-
-pub sliced_of-requires-clause-fit : goal.sliced_of-requires-clause-fit
-sliced_of-requires-clause-fit c =
-    λ k z lt.
+pub sliced_of-requires : goal.sliced_of-requires
+sliced_of-requires c =
     let slot = c.args.slot.now in
     let stage = c.args.stage.now in
     let ks = c.args.keys.now in
-    let bits : c.key_bits-bits.result ≡ bits_of_lanes slot.keys = c.key_bits-bits.ensures ∙ ap bits_of_lanes c.as_slice.ensures in
-    let count = divided_up (bits_of_lanes slot.keys) 40 in
-    let width = width-is (bits_of_lanes slot.keys) c.key_bits-bits.result bits in
+    let b = bits_of_lanes slot.keys in
+    let bits : c.key_bits-bits.result ≡ b = c.key_bits-bits.ensures ∙ ap bits_of_lanes c.as_slice.ensures in
+    let few = few-bits _ _ bits c.requires.fits.most_bits in
+    let most = c.requires.fits.most_d in
+    let width = width-is b c.key_bits-bits.result bits in
     let inside = ap (λ (ns : List CellNumber). length ns) c.as_slice-numbers.ensures in
-    let below = c.requires.numbers.below k z (omega (arith, inside, lt)) in
-    let fits = compared-fits stage.trows ks c.args.quanta count c.requires.fits.keys c.requires.values c.requires.rows.tbits (get_or slot.numbers k z).cell below in
-    subst (λ (ts : List TcamRow). RowFits ((c.key_bits-bits.result + 39) / 40) (compared_at ts ks ((c.key_bits-bits.result + 39) / 40) (get_or c.as_slice-numbers.result.now k z).cell)) (sym c.as_slice-2.ensures)
-    (subst (λ (ns : List CellNumber). RowFits ((c.key_bits-bits.result + 39) / 40) (compared_at stage.trows ks ((c.key_bits-bits.result + 39) / 40) (get_or ns k z).cell)) (sym c.as_slice-numbers.ensures)
-    (subst (λ n. RowFits n (compared_at stage.trows ks n (get_or slot.numbers k z).cell)) (sym width) fits))
+    record {
+      side = omega (arith, few);
+      few = omega (arith, most);
+      heads = c.in_ok-heads.ensures.count;
+      head_size = c.in_ok-heads.ensures.size;
+      inside = cells-below slot.numbers c.as_slice-numbers.result.now (2048 * c.args.quanta) (2048 * c.args.quanta) c.as_slice-numbers.ensures refl c.requires.numbers.below;
+      rows = subst PrefixRows (sym c.as_slice-2.ensures) c.requires.values;
+      cells = λ k z lt.
+          let below = c.requires.numbers.below k z (omega (arith, inside, lt)) in
+          let there = blocks-there c.args.quanta (divided_up b 40) (length ks) (get_or slot.numbers k z).cell c.requires.fits.keys below in
+          subst (λ (ns : List CellNumber). ((get_or ns k z).cell / 2048 + 1) * ((c.key_bits-bits.result + 39) / 40) ≤ length ks) (sym c.as_slice-numbers.ensures)
+          (subst (λ n. ((get_or slot.numbers k z).cell / 2048 + 1) * n ≤ length ks) (sym width) there);
+      fit = λ k z lt.
+          let below = c.requires.numbers.below k z (omega (arith, inside, lt)) in
+          let fits = compared-fits stage.trows ks c.args.quanta (divided_up b 40) c.requires.fits.keys c.requires.values c.requires.rows.tbits (get_or slot.numbers k z).cell below in
+          subst (λ (ts : List TcamRow). RowFits ((c.key_bits-bits.result + 39) / 40) (compared_at ts ks ((c.key_bits-bits.result + 39) / 40) (get_or c.as_slice-numbers.result.now k z).cell)) (sym c.as_slice-2.ensures)
+          (subst (λ (ns : List CellNumber). RowFits ((c.key_bits-bits.result + 39) / 40) (compared_at stage.trows ks ((c.key_bits-bits.result + 39) / 40) (get_or ns k z).cell)) (sym c.as_slice-numbers.ensures)
+          (subst (λ n. RowFits n (compared_at stage.trows ks n (get_or slot.numbers k z).cell)) (sym width) fits));
+    }
 
-pub cells_of-requires-clause-heads : goal.cells_of-requires-clause-heads
-cells_of-requires-clause-heads c = c.in_ok-heads.ensures.count
-
-pub cells_of-requires-clause-keys : goal.cells_of-requires-clause-keys
-cells_of-requires-clause-keys c = c.no_runs-none.ensures.count
-
-pub cells_of-requires-clause-held : goal.cells_of-requires-clause-held
-cells_of-requires-clause-held c = c.in_ok-held.ensures.count
-
-pub cells_of-requires-clause-head_size : goal.cells_of-requires-clause-head_size
-cells_of-requires-clause-head_size c = c.in_ok-heads.ensures.size
-
-pub cells_of-requires-clause-inside : goal.cells_of-requires-clause-inside
-cells_of-requires-clause-inside c =
-    cells-below c.args.slot.now.numbers c.as_slice-numbers.result.now (2048 * c.args.quanta) (2048 * c.args.quanta) c.as_slice-numbers.ensures refl c.requires.numbers.below
-
-pub cells_of-requires-clause-few : goal.cells_of-requires-clause-few
-cells_of-requires-clause-few c = let most = c.requires.fits.most_d in omega (arith, most)
-
-pub cells_of-requires-clause-tail : goal.cells_of-requires-clause-tail
-cells_of-requires-clause-tail c = c.number_size-tail.ensures.few
-
-pub cells_of-requires-clause-short : goal.cells_of-requires-clause-short
-cells_of-requires-clause-short c =
-    let none = c.no_runs-none.ensures.size in
-    let size = c.in_ok-held.ensures.size in
-    let most = c.requires.fits.most_held in
-    omega (arith, none, size, most)
+pub cells_of-requires : goal.cells_of-requires
+cells_of-requires c = record {
+  heads = c.in_ok-heads.ensures.count;
+  keys = c.no_runs-none.ensures.count;
+  held = c.in_ok-held.ensures.count;
+  head_size = c.in_ok-heads.ensures.size;
+  inside = cells-below c.args.slot.now.numbers c.as_slice-numbers.result.now (2048 * c.args.quanta) (2048 * c.args.quanta) c.as_slice-numbers.ensures refl c.requires.numbers.below;
+  few = let most = c.requires.fits.most_d in omega (arith, most);
+  tail = c.number_size-tail.ensures.few;
+  short =
+      let none = c.no_runs-none.ensures.size in
+      let size = c.in_ok-held.ensures.size in
+      let most = c.requires.fits.most_held in
+      omega (arith, none, size, most);
+}
 
 pub marks_of-requires : goal.marks_of-requires
 marks_of-requires c = let size = c.in_ok-cells.ensures.size in omega (arith, size)

@@ -10,13 +10,14 @@ use Rattle.rmt_config.specs.declared.cell_write.CellWrite.{CellWrite}
 use Rattle.rmt_config.specs.declared.config.Unit.TheVariants.{Slot}
 use Rattle.rmt_config.specs.Life.{has_memory}
 use Rattle.rmt_config.specs.RunCells.{RunCells, with_write}
+use Rattle.rmt_config.proofs.MemoryLaws.{has_cells}
 use Rattle.rmt_memory.specs.declared.memory.SlotMemory.{SlotMemory}
 use Rattle.rmt_memory.specs.Memories.{FitsSlot, HoldsSlot}
 use Rattle.rmt_memory.specs.StageMemories.{MemoriesHold, MemoriesOf}
 use Rattle.rmt_memory.specs.Memory.{HoldsCells, MemoriesFit, MemoryFits, UnitHeld}
 use Rattle.rmt_memory.specs.Writable.{WriteTaken, content_after, number_after, slot_in}
 use Rattle.rmt_memory.proofs.StageMemoriesLaws.{place_below}
-use Rattle.rmt_memory.proofs.MemoriesLaws.{SlotPlace, slot_place, slot_same, has_cells, changed_each, written_here, written_elsewhere}
+use Rattle.rmt_memory.proofs.MemoriesLaws.{SlotPlace, slot_place, slot_same, changed_each, written_here, written_elsewhere}
 use Rattle.rmt_memory.proofs.stages.write_cell.Goals as goal
 
 -- the unit that was read is the slot that is there

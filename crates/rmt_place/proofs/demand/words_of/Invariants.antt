@@ -1,5 +1,5 @@
 use Rattle.std.proofs.Common.{◌≡◌, take}
-use Rattle.rmt_place.specs.Needs.{words_of_fields}
+use Rattle.rmt_deps.specs.Edges.{words_of_fields}
 use Rattle.rmt_place.proofs.demand.words_of.Given as goal
 
 -- the words of the fields so far

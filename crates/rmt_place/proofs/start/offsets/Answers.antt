@@ -42,5 +42,4 @@ returns-clause-least c = λ others keep enough k lt.
     let is : c.from_vec.result ≡ starts_of edges parts = c.from_vec.ensures ∙ (c.loop-stage.invariant.value ∙ ap (starts_until edges parts) all) in
     let size : length c.from_vec.result ≡ stages_in parts = ap length is ∙ length-until edges parts (stages_in parts) in
     let same : get_or c.from_vec.result k 0 ≡ get_or (starts_of edges parts) k 0 = ap (λ (l : List ℕ). get_or l k 0) is in
-    let few = starts_least edges parts others keep (omega (arith, size, enough)) k (omega (arith, size, lt)) in
-    omega (arith, same, few)
+    omega (arith, same, starts_least edges parts others keep (omega (arith, size, enough)) k (omega (arith, size, lt)))

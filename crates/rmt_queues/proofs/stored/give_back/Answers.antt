@@ -1,7 +1,6 @@
 use Rattle.std.proofs.Common.{◌++◌, Option, subst}
 use Rattle.rmt_cells.specs.declared.cells.Chain.{Chain}
-use Rattle.rmt_cells.specs.Stands.{Stands as CellsStand}
-use Rattle.rmt_queues.specs.Stored.{held_if}
+use Rattle.rmt_cells.specs.Stands.{Stands as CellsStand, held_if}
 use Rattle.rmt_queues.proofs.stored.give_back.Goals as goal
 
 pub returns-in-Some : goal.returns-in-Some

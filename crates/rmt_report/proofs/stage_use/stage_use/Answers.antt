@@ -3,7 +3,8 @@ use Rattle.std.specs.List.{flat_map, count_by, sum_by}
 use Rattle.std.proofs.lemmas.List.Concat.{length-flat_map}
 use Rattle.rmt_config.specs.Instructions.{unit_instructions}
 use Rattle.rmt_config.specs.declared.limits.total.Resource.TheVariants as resource
-use Rattle.rmt_config.specs.Resources.{is_slot, is_gate, unit_data, unit_sram, unit_tcam, exact_words, ternary_words, crossbar_bits}
+use Rattle.rmt_config.specs.Resources.{is_slot, is_gate, unit_data, unit_sram, exact_words, ternary_words, crossbar_bits}
+use Rattle.rmt_config.specs.StageForm.{tcam_blocks}
 use Rattle.rmt_report.proofs.ReportLaws.{of_total}
 use Rattle.rmt_report.proofs.stage_use.stage_use.Goals as goal
 
@@ -23,8 +24,8 @@ returns c =
     of_total resource.Slots us units c.total-4.result (count_by is_slot units) 16 c.total-4.ensures same refl fits.slots (omega arith) in
     let sram : c.total-5.result ≡ length (flat_map unit_sram units) =
     of_total resource.Sram us units c.total-5.result (length (flat_map unit_sram units)) 106 c.total-5.ensures same (sym (length-flat_map unit_sram units)) fits.sram (omega arith) in
-    let tcam : c.total-6.result ≡ length (flat_map unit_tcam units) =
-    of_total resource.Tcam us units c.total-6.result (length (flat_map unit_tcam units)) 16 c.total-6.ensures same (sym (length-flat_map unit_tcam units)) fits.tcam (omega arith) in
+    let tcam : c.total-6.result ≡ length (flat_map tcam_blocks units) =
+    of_total resource.Tcam us units c.total-6.result (length (flat_map tcam_blocks units)) 16 c.total-6.ensures same (sym (length-flat_map tcam_blocks units)) fits.tcam (omega arith) in
     let exact : c.exact_bits.result ≡ crossbar_bits exact_words units = c.exact_bits.ensures ∙ ap (crossbar_bits exact_words) same in
     let ternary : c.ternary_bits.result ≡ crossbar_bits ternary_words units = c.ternary_bits.ensures ∙ ap (crossbar_bits ternary_words) same in
     rw (data_bits, gates, instructions, slots, sram, tcam, exact, ternary) refl

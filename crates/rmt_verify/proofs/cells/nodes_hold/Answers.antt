@@ -1,7 +1,7 @@
-use Rattle.std.proofs.Common.{◌∙◌, sym, true≢false, ◌≤◌, inl, inr, length, refl, arith}
+use Rattle.std.proofs.Common.{◌∙◌, sym, true≢false, ◌≤◌, inl, inr, length, refl, arith, below_more}
 use Rattle.std.proofs.lemmas.Bool.{cases_lt}
 use Rattle.rmt_verify.specs.CellsHeld.{TablesHeld}
-use Rattle.rmt_verify.proofs.CellsToldLaws.{nodes_more, past_nodes}
+use Rattle.rmt_verify.proofs.CellsToldLaws.{past_nodes}
 use Rattle.rmt_verify.proofs.cells.nodes_hold.Goals as goal
 
 pub node_holds-requires-clause-known : goal.node_holds-requires-clause-known
@@ -15,7 +15,7 @@ returns-then-not-branch c = λ cells told. (
 
 pub loop-node-preserved : goal.loop-node-preserved
 loop-node-preserved c = λ cells told.
-    nodes_more (TablesHeld c.args.given.now.program.now c.args.given.now.config.now cells c.args.given.now.entries.now) c.loop-node.node (c.loop-node.invariant cells told) ((c.in_ok-node_holds.ensures cells told).0 c.if-not-branch.false)
+    below_more (TablesHeld c.args.given.now.program.now c.args.given.now.config.now cells c.args.given.now.entries.now) c.loop-node.node (c.loop-node.invariant cells told) ((c.in_ok-node_holds.ensures cells told).0 c.if-not-branch.false)
 
 pub returns : goal.returns
 returns c = λ cells told. (

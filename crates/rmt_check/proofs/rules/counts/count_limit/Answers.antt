@@ -1,13 +1,14 @@
 use Rattle.std.proofs.Common.{List, ◌==◌, drop, length, map}
 use Rattle.std.specs.List.{flat_map}
+use Rattle.rmt_lexer.specs.Text.{first_place}
 use Rattle.rmt_check.specs.Parts.{MetaText, HeaderText, ActionText, NodeText}
-use Rattle.rmt_check.specs.Rules.{declared_names, places, many_params, many_assigns, bad_size_of, text_start, when}
+use Rattle.rmt_check.specs.Rules.{declared_names, places, many_params, many_assigns, bad_size_of, when}
 use Rattle.rmt_check.proofs.Earliest.{found_in, join}
 use Rattle.rmt_check.proofs.rules.counts.count_limit.Goals as goal
 
 pub returns : goal.returns
 returns c =
-    let none = found_in (λ (hs : List HeaderText). when (length hs == 0) text_start) c.place_when-no_header.ensures c.as_slice-headers.ensures in
+    let none = found_in (λ (hs : List HeaderText). when (length hs == 0) first_place) c.place_when-no_header.ensures c.as_slice-headers.ensures in
     let headers = found_in (λ (hs : List HeaderText). map (λ (h : HeaderText). h.ident.place) (drop 64 hs)) c.earliest_beyond-header.ensures c.as_slice-headers.ensures in
     let actions = found_in (λ (xs : List ActionText). map (λ (a : ActionText). a.ident.place) (drop 256 xs)) c.earliest_beyond-action.ensures c.as_slice-actions.ensures in
     let params = found_in (flat_map many_params) c.earliest_of-param.ensures c.as_slice-actions.ensures in

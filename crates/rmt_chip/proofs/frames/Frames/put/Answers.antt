@@ -3,9 +3,9 @@ use Rattle.std.proofs.lemmas.List.{map-set}
 use Rattle.std.proofs.lemmas.List.Sorted.{IsPermutation-middle, IsPermutation-sym}
 use Rattle.rmt_cells.specs.declared.cells.Cells.{Cells}
 use Rattle.rmt_cells.specs.declared.cells.Chain.{Chain}
-use Rattle.rmt_cells.specs.Stands.{Held, Stands}
+use Rattle.rmt_cells.specs.Stands.{Held, Stands, held_if}
 use Rattle.rmt_cells.proofs.Orders.{reordered}
-use Rattle.rmt_chip.specs.Frames.{AreFrames, frame_cells, frames_in, held_if}
+use Rattle.rmt_chip.specs.Frames.{AreFrames, frame_cells, frames_in}
 use Rattle.rmt_chip.proofs.FrameLaws.{front_of, back_of, split_at, room_left, frame_put, frames_told, set_twice}
 use Rattle.rmt_chip.proofs.frames.Frames.put.Goals as goal
 

@@ -13,11 +13,8 @@ abbrev holds : Entries → HeadRule → ℕ → Bool
 holds e rule n =
     head_is_formed rule.visible rule.first rule.actions (entry_in e.layout (sram_row e.rows.now) e.blocks.now (quantum_of e.layout n) (local_of e.layout n) % 256)
 
-pub head_of-requires-clause-entries : goal.head_of-requires-clause-entries
-head_of-requires-clause-entries c = c.requires.entries
-
-pub head_of-requires-clause-cell : goal.head_of-requires-clause-cell
-head_of-requires-clause-cell c = c.requires.cells c.loop-number.number-index (record { cell = 0; number = 0 }) c.loop-number-test.true
+pub head_of-requires : goal.head_of-requires
+head_of-requires c = record { entries = c.requires.entries; cell = c.requires.cells c.loop-number.number-index (record { cell = 0; number = 0 }) c.loop-number-test.true }
 
 pub head_fits-requires : goal.head_fits-requires
 head_fits-requires c = c.requires.first

@@ -25,26 +25,22 @@ entries_hold-requires-clause-blocks c =
     at_layout (λ l. length c.args.keys.now ≡ l.quanta * l.units * l.side) c.exact_entries-layout.result (exact_keys c.args.width c.args.per c.args.quanta bits) c.exact_entries-layout.ensures
     (all-there c.args.quanta 4 c.args.width (length c.args.keys.now) c.requires.fits.keys)
 
-pub blocks_are_told-requires-clause-layout : goal.blocks_are_told-requires-clause-layout
-blocks_are_told-requires-clause-layout c =
-    let fit = c.requires.fits in
-    let held = c.args.place.now.slot.now.held in
-    at_layout IsLayout c.exact_records-layout.result (exact_records c.args.per c.args.quanta held) c.exact_records-layout.ensures
-    (exact_records-is c.args.per c.args.quanta held fit.some_p fit.most_p fit.some_d fit.most_d (omega (arith, c.if-place-eq0.false)) fit.most_held)
-
-pub blocks_are_told-requires-clause-blocks : goal.blocks_are_told-requires-clause-blocks
-blocks_are_told-requires-clause-blocks c =
-    let held = c.args.place.now.slot.now.held in
-    at_layout (λ l. length c.args.records.now ≤ l.quanta * l.units * l.side) c.exact_records-layout.result (exact_records c.args.per c.args.quanta held) c.exact_records-layout.ensures
-    (let all = all-there c.args.quanta (record_units (4 * c.args.per) held) (record_width held) (length c.args.records.now) c.requires.fits.records in omega (arith, all))
-
-pub blocks_are_told-requires-clause-rise : goal.blocks_are_told-requires-clause-rise
-blocks_are_told-requires-clause-rise c =
-    numbers-rise c.args.place.now.stage.now c.args.place.now.slot.now c.args.place.now.visible c.args.place.now.first c.exact_entries-layout.result c.args.keys.now c.as_slice-numbers.ensures
-    (c.entries_hold.ensures.0 c.if-not-entries_hold.false)
-
-pub blocks_are_told-requires-clause-order : goal.blocks_are_told-requires-clause-order
-blocks_are_told-requires-clause-order c = subst (λ rows. IsTrue (rises_from 0 (map srow_number rows))) (sym c.as_slice.ensures) c.requires.rows.srise
+pub blocks_are_told-requires : goal.blocks_are_told-requires
+blocks_are_told-requires c = record {
+  layout =
+      let fit = c.requires.fits in
+      let held = c.args.place.now.slot.now.held in
+      at_layout IsLayout c.exact_records-layout.result (exact_records c.args.per c.args.quanta held) c.exact_records-layout.ensures
+      (exact_records-is c.args.per c.args.quanta held fit.some_p fit.most_p fit.some_d fit.most_d (omega (arith, c.if-place-eq0.false)) fit.most_held);
+  blocks =
+      let held = c.args.place.now.slot.now.held in
+      at_layout (λ l. length c.args.records.now ≤ l.quanta * l.units * l.side) c.exact_records-layout.result (exact_records c.args.per c.args.quanta held) c.exact_records-layout.ensures
+      (let all = all-there c.args.quanta (record_units (4 * c.args.per) held) (record_width held) (length c.args.records.now) c.requires.fits.records in omega (arith, all));
+  rise =
+      numbers-rise c.args.place.now.stage.now c.args.place.now.slot.now c.args.place.now.visible c.args.place.now.first c.exact_entries-layout.result c.args.keys.now c.as_slice-numbers.ensures
+      (c.entries_hold.ensures.0 c.if-not-entries_hold.false);
+  order = subst (λ rows. IsTrue (rises_from 0 (map srow_number rows))) (sym c.as_slice.ensures) c.requires.rows.srise;
+}
 
 pub returns-then-not-entries_hold : goal.returns-then-not-entries_hold
 returns-then-not-entries_hold c =

@@ -31,29 +31,25 @@ key_bits-requires c = subst (λ lanes. bits_of_lanes lanes ≤ 640) (sym c.as_sl
 pub ternary_keys-layout-requires : goal.ternary_keys-layout-requires
 ternary_keys-layout-requires c = subst (λ bits. bits ≤ 640) (sym (c.key_bits.ensures ∙ ap bits_of_lanes c.as_slice.ensures)) c.requires.fits.most_bits
 
-pub blocks_are_told-requires-clause-layout : goal.blocks_are_told-requires-clause-layout
-blocks_are_told-requires-clause-layout c =
-    let fit = c.requires.fits in
-    let bits = bits_of_lanes c.args.place.now.slot.now.keys in
-    at_layout IsLayout c.ternary_keys-layout.result (ternary_keys c.args.quanta bits) (c.ternary_keys-layout.ensures ∙ ap (ternary_keys c.args.quanta) (c.key_bits.ensures ∙ ap bits_of_lanes c.as_slice.ensures))
-    (ternary_keys-is c.args.quanta bits fit.some_d fit.most_d fit.some_bits fit.most_bits)
-
-pub blocks_are_told-requires-clause-blocks : goal.blocks_are_told-requires-clause-blocks
-blocks_are_told-requires-clause-blocks c =
-    let bits = bits_of_lanes c.args.place.now.slot.now.keys in
-    at_layout (λ l. length c.args.keys.now ≤ l.quanta * l.units * l.side) c.ternary_keys-layout.result (ternary_keys c.args.quanta bits)
-    (c.ternary_keys-layout.ensures ∙ ap (ternary_keys c.args.quanta) (c.key_bits.ensures ∙ ap bits_of_lanes c.as_slice.ensures))
-    (let one : c.args.quanta * 1 ≡ c.args.quanta = omega arith in
-    let all : length c.args.keys.now ≡ c.args.quanta * 1 * divided_up bits 40 = c.requires.fits.keys ∙ ap (λ d. d * divided_up bits 40) (sym one) in
-    omega (arith, all))
-
-pub blocks_are_told-requires-clause-rise : goal.blocks_are_told-requires-clause-rise
-blocks_are_told-requires-clause-rise c =
-    numbers-rise c.args.place.now.stage.now c.args.place.now.slot.now c.args.place.now.visible c.args.place.now.first c.ternary_records-layout.result c.args.records.now c.as_slice-numbers.ensures
-    (c.entries_hold.ensures.0 c.if-not-entries_hold.false)
-
-pub blocks_are_told-requires-clause-order : goal.blocks_are_told-requires-clause-order
-blocks_are_told-requires-clause-order c = subst (λ rows. IsTrue (rises_from 0 (map trow_number rows))) (sym c.as_slice-2.ensures) c.requires.rows.trise
+pub blocks_are_told-requires : goal.blocks_are_told-requires
+blocks_are_told-requires c = record {
+  layout =
+      let fit = c.requires.fits in
+      let bits = bits_of_lanes c.args.place.now.slot.now.keys in
+      at_layout IsLayout c.ternary_keys-layout.result (ternary_keys c.args.quanta bits) (c.ternary_keys-layout.ensures ∙ ap (ternary_keys c.args.quanta) (c.key_bits.ensures ∙ ap bits_of_lanes c.as_slice.ensures))
+      (ternary_keys-is c.args.quanta bits fit.some_d fit.most_d fit.some_bits fit.most_bits);
+  blocks =
+      let bits = bits_of_lanes c.args.place.now.slot.now.keys in
+      at_layout (λ l. length c.args.keys.now ≤ l.quanta * l.units * l.side) c.ternary_keys-layout.result (ternary_keys c.args.quanta bits)
+      (c.ternary_keys-layout.ensures ∙ ap (ternary_keys c.args.quanta) (c.key_bits.ensures ∙ ap bits_of_lanes c.as_slice.ensures))
+      (let one : c.args.quanta * 1 ≡ c.args.quanta = omega arith in
+      let all : length c.args.keys.now ≡ c.args.quanta * 1 * divided_up bits 40 = c.requires.fits.keys ∙ ap (λ d. d * divided_up bits 40) (sym one) in
+      omega (arith, all));
+  rise =
+      numbers-rise c.args.place.now.stage.now c.args.place.now.slot.now c.args.place.now.visible c.args.place.now.first c.ternary_records-layout.result c.args.records.now c.as_slice-numbers.ensures
+      (c.entries_hold.ensures.0 c.if-not-entries_hold.false);
+  order = subst (λ rows. IsTrue (rises_from 0 (map trow_number rows))) (sym c.as_slice-2.ensures) c.requires.rows.trise;
+}
 
 pub returns-then-not-entries_hold : goal.returns-then-not-entries_hold
 returns-then-not-entries_hold c =

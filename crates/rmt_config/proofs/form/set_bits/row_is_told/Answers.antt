@@ -47,14 +47,8 @@ loop-low-init c =
       told = λ t lt below one. absurd (omega (arith, low, below));
     }
 
-pub is_told-requires-clause-listed : goal.is_told-requires-clause-listed
-is_told-requires-clause-listed c = c.requires.listed
-
-pub is_told-requires-clause-unit : goal.is_told-requires-clause-unit
-is_told-requires-clause-unit c = c.requires.unit
-
-pub is_told-requires-clause-row : goal.is_told-requires-clause-row
-is_told-requires-clause-row c = c.requires.row
+pub is_told-requires : goal.is_told-requires
+is_told-requires c = record { listed = c.requires.listed; unit = c.requires.unit; row = c.requires.row }
 
 pub returns-then-not-is_told : goal.returns-then-not-is_told
 returns-then-not-is_told c =

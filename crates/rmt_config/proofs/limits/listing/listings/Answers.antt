@@ -2,11 +2,12 @@ use Rattle.std.proofs.Common.{◌≡◌, ℕ, ◌+◌, ◌<◌, List, [], ◌++�
 use Rattle.std.specs.List.{flat_map}
 use Rattle.std.proofs.lemmas.List.{append-nil}
 use Rattle.rmt_config.specs.LimitSteps.{Counts}
-use Rattle.rmt_config.specs.Resources.{unit_sram, unit_tcam}
+use Rattle.rmt_config.specs.Resources.{unit_sram}
 use Rattle.rmt_config.specs.Types.{Unit}
 use Rattle.rmt_config.proofs.LimitLemmas.{flat_more}
 use Rattle.rmt_config.proofs.limits.listing.listings.Goals as goal
 use Rattle.rmt_config.proofs.limits.listing.listings.Goals.{in-Gate, in-Slot}
+use Rattle.rmt_config.specs.StageForm.{tcam_blocks}
 
 -- the counts behind a unit
 behind : (f : Unit → List ℕ) (units : List Unit) (i : ℕ) (item unit : Unit) (counts after : List ℕ) → i < length units → item ≡ get_or units i item → item ≡ unit
@@ -28,10 +29,10 @@ loop-unit-preserved c =
     elim c.match-unit.branch [
       | in-Gate w ↦ record {
         sram = behind unit_sram units i item _ c.loop-unit.sram c.match-unit.sram lt c.unit-item.is w.in-Gate.is (still _ c.loop-unit.sram c.loop-unit.invariant.sram) w.sram-is;
-        tcam = behind unit_tcam units i item _ c.loop-unit.tcam c.match-unit.tcam lt c.unit-item.is w.in-Gate.is (still _ c.loop-unit.tcam c.loop-unit.invariant.tcam) w.tcam-is;
+        tcam = behind tcam_blocks units i item _ c.loop-unit.tcam c.match-unit.tcam lt c.unit-item.is w.in-Gate.is (still _ c.loop-unit.tcam c.loop-unit.invariant.tcam) w.tcam-is;
       }
       | in-Slot w ↦ record {
         sram = behind unit_sram units i item _ w.count_sram.new.counts c.match-unit.sram lt c.unit-item.is w.in-Slot.is (w.count_sram.ensures _ c.loop-unit.invariant.sram) w.sram-is;
-        tcam = behind unit_tcam units i item _ w.count_tcam.new.counts c.match-unit.tcam lt c.unit-item.is w.in-Slot.is (w.count_tcam.ensures _ c.loop-unit.invariant.tcam) w.tcam-is;
+        tcam = behind tcam_blocks units i item _ w.count_tcam.new.counts c.match-unit.tcam lt c.unit-item.is w.in-Slot.is (w.count_tcam.ensures _ c.loop-unit.invariant.tcam) w.tcam-is;
       }
     ]

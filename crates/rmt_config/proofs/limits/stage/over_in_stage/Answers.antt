@@ -2,10 +2,11 @@ use Rattle.std.proofs.Common.{ap, sym, ◌∙◌, length}
 use Rattle.std.specs.List.{flat_map, count_by, sum_by}
 use Rattle.std.proofs.lemmas.List.Concat.{length-flat_map}
 use Rattle.rmt_config.specs.declared.limits.total.Resource.TheVariants as resource
-use Rattle.rmt_config.specs.Resources.{unit_sram, unit_tcam, is_slot, is_gate}
+use Rattle.rmt_config.specs.Resources.{unit_sram, is_slot, is_gate}
 use Rattle.rmt_config.specs.Limits.{told}
 use Rattle.rmt_config.specs.LimitSteps.{taken_by, hit_of}
 use Rattle.rmt_config.proofs.limits.stage.over_in_stage.Goals as goal
+use Rattle.rmt_config.specs.StageForm.{tcam_blocks}
 
 pub returns-in-Sram : goal.returns-in-Sram
 returns-in-Sram c =
@@ -16,8 +17,8 @@ returns-in-Sram c =
 pub returns-in-Tcam : goal.returns-in-Tcam
 returns-in-Tcam c =
     let units = c.args.stage.now.units in
-    let sum = c.total-in-Tcam.ensures ∙ ap (λ us. told (sum_by (taken_by resource.Tcam) us)) c.as_slice-units.ensures ∙ ap told (sym (length-flat_map unit_tcam units)) in
-    c.over-in-Tcam.ensures (length (flat_map unit_tcam units)) sum ∙ sym (ap (λ limit. hit_of limit c.args.number c.args.stage.now) c.in-Tcam.is)
+    let sum = c.total-in-Tcam.ensures ∙ ap (λ us. told (sum_by (taken_by resource.Tcam) us)) c.as_slice-units.ensures ∙ ap told (sym (length-flat_map tcam_blocks units)) in
+    c.over-in-Tcam.ensures (length (flat_map tcam_blocks units)) sum ∙ sym (ap (λ limit. hit_of limit c.args.number c.args.stage.now) c.in-Tcam.is)
 
 pub returns-in-Slots : goal.returns-in-Slots
 returns-in-Slots c =

@@ -1,7 +1,7 @@
 use Rattle.std.proofs.Common.{◌∷◌, [], arith, length-append}
 use Rattle.std.proofs.lemmas.Result.{err_from_is_err_and}
-use Rattle.rmt_items.specs.Readers.{items_at}
-use Rattle.rmt_items.proofs.ItemLoops.{goes_on, ends, is_done}
+use Rattle.rmt_items.specs.Readers.{fault_of, items_at}
+use Rattle.rmt_bits.proofs.ReaderLoops.{goes_on, ends, is_done}
 use Rattle.rmt_items.proofs.reading.items.items_of.Goals as goal
 
 pub returns-in_err-item-clause-read : goal.returns-in_err-item-clause-read
@@ -10,7 +10,7 @@ returns-in_err-item-clause-read g c =
     let read = list.item_at c.args.list.now in
     let after = list.after c.args.list.now in
     let p = err_from_is_err_and c.from_residual-in_err-item.result c.from_residual-in_err-item.ensures.1 in
-    rw (p.1, p.2) (ends read after c.in_err-item.field-0.0 c.loop.items.items c.args.count c.loop.counter c.loop.least c.loop.rest.now
+    rw (p.1, p.2) (ends read after (fault_of c.in_err-item.field-0.0) c.loop.items.items c.args.count c.loop.counter c.loop.least c.loop.rest.now
     (items_at read after 0 c.args.count c.args.bytes.now) c.loop-test.true c.in_err-item.ensures c.loop.invariant.read)
 
 pub loop-preserved : goal.loop-preserved

@@ -1,6 +1,6 @@
 use Rattle.std.proofs.Common.{◌≡◌, ◌-◌, length}
 use Rattle.rmt_items.specs.Readers.{items_at}
-use Rattle.rmt_items.proofs.ItemLoops.{with_front}
+use Rattle.rmt_bits.proofs.ReaderLoops.{with_front}
 use Rattle.rmt_items.proofs.reading.items.items_of.Given as goal
 
 -- what was read, with what is still read, is the whole

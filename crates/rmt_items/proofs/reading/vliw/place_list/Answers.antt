@@ -1,7 +1,7 @@
 use Rattle.std.proofs.Common.{[], ◌∙◌, ap, arith}
 use Rattle.std.proofs.lemmas.List.{take_all}
 use Rattle.rmt_config.specs.CodeForm.{unit_places, places_of}
-use Rattle.rmt_items.proofs.ItemLoops.{put_more}
+use Rattle.rmt_items.proofs.Appending.{put_more}
 use Rattle.rmt_items.proofs.reading.vliw.place_list.Goals as goal
 
 pub loop-unit-preserved : goal.loop-unit-preserved

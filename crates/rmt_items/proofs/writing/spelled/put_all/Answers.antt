@@ -1,7 +1,7 @@
 use Rattle.std.proofs.Common.{List, ◌++◌, ◌∙◌, ap, arith}
 use Rattle.std.specs.List.{flat_map}
 use Rattle.std.proofs.lemmas.List.{take_all}
-use Rattle.rmt_items.proofs.ItemLoops.{put_more}
+use Rattle.rmt_items.proofs.Appending.{put_more}
 use Rattle.rmt_items.proofs.writing.spelled.put_all.Goals as goal
 
 pub loop-item-preserved : goal.loop-item-preserved

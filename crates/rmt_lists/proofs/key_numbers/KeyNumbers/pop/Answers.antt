@@ -1,4 +1,4 @@
-use Rattle.std.proofs.Common.{◌≡◌, ◌∙◌, ℕ, None, Option, Some, ap, sym, arith, length}
+use Rattle.std.proofs.Common.{◌≡◌, ◌∙◌, ℕ, Option, Some, ap, sym, arith, length}
 use Rattle.rmt_entries.specs.KeySets.{place_of}
 use Rattle.rmt_lists.specs.KeyNumbers.{KeyNumbers, listed, numbers_at, pairs_of, placed}
 use Rattle.rmt_lists.proofs.KeyNumberLaws.{pop_crowded_stands, pop_seen, without_first}
@@ -14,7 +14,7 @@ own c o is =
 pub invariant_of-self-in-None : goal.invariant_of-self-in-None
 invariant_of-self-in-None c =
     pop_crowded_stands c.self.inside.slots.items c.self.inside.firsts.items c.self.inside.keys.items (pairs_of c.self.inside.crowded) c.self.invariant c.args.key.now.items (pairs_of c.pop_queued.new.queues)
-    (own (goal.at.invariant_of-self-in-None c).After-own_at None c.in-None.is) c.pop_queued.ensures
+    c.pop_queued.ensures
 
 pub returns-in-Some : goal.returns-in-Some
 returns-in-Some c q =

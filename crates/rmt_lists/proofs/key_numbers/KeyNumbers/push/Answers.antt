@@ -80,34 +80,13 @@ returns-clause-pushed c q =
     ∙ ap (λ (n : KeyNumbers). numbers_at n q ++ with_number c.args.key.items c.args.number q.items) c.self.view_is
 
 pub index-slot-requires : goal.index-slot-requires
-index-slot-requires c =
-    let within = c.place_of-place.ensures.within in
-    let len = c.len.ensures in
-    omega (arith, within, len)
+index-slot-requires c = omega (arith, c.place_of-place.ensures.within, c.len.ensures)
 
 pub index-first-requires : goal.index-first-requires
-index-first-requires c =
-    let within = c.place_of-place.ensures.within in
-    let len = c.len.ensures in
-    let count = c.self.invariant.count in
-    let slots = c.self.inside.slots.ok.0 in
-    let firsts = c.self.inside.firsts.ok.0 in
-    omega (arith, within, len, count, slots, firsts)
+index-first-requires c = omega (arith, c.place_of-place.ensures.within, c.len.ensures, c.self.invariant.count, c.self.inside.slots.ok.0, c.self.inside.firsts.ok.0)
 
 pub index_mut-requires : goal.index_mut-requires
-index_mut-requires c =
-    let within = c.place_of-place.ensures.within in
-    let len = c.len.ensures in
-    let count = c.self.invariant.count in
-    let slots = c.self.inside.slots.ok.0 in
-    let firsts = c.self.inside.firsts.ok.0 in
-    omega (arith, within, len, count, slots, firsts)
+index_mut-requires c = omega (arith, c.place_of-place.ensures.within, c.len.ensures, c.self.invariant.count, c.self.inside.slots.ok.0, c.self.inside.firsts.ok.0)
 
 pub index_mut-requires-2 : goal.index_mut-requires-2
-index_mut-requires-2 c =
-    let within = c.place_of-place.ensures.within in
-    let len = c.len.ensures in
-    let count = c.self.invariant.count in
-    let slots = c.self.inside.slots.ok.0 in
-    let firsts = c.self.inside.firsts.ok.0 in
-    omega (arith, within, len, count, slots, firsts)
+index_mut-requires-2 c = omega (arith, c.place_of-place.ensures.within, c.len.ensures, c.self.invariant.count, c.self.inside.slots.ok.0, c.self.inside.firsts.ok.0)

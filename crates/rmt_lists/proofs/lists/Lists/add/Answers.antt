@@ -4,12 +4,12 @@ use Rattle.rmt_ast.specs.declared.entry.Entry.{Entry}
 use Rattle.rmt_ast.specs.declared.names.Names.{Names}
 use Rattle.rmt_ast.specs.declared.program.Kind.{Kind}
 use Rattle.rmt_ast.specs.declared.program.Test.{Test}
-use Rattle.rmt_ast.specs.Changes.{list_of}
+use Rattle.rmt_ast.specs.Changes.{list_of, key_of_entry}
 use Rattle.rmt_ast.specs.NameRules.{terms_named}
 use Rattle.rmt_entries.specs.NamedLines.{IsNamedEntry}
 use Rattle.rmt_lists.specs.declared.held.Held.{Held}
 use Rattle.rmt_lists.specs.Holding.{Holds, spelled}
-use Rattle.rmt_lists.specs.Running.{Running, key_of_entry, kind_and_size, refusal_of}
+use Rattle.rmt_lists.specs.Running.{Running, kind_and_size, refusal_of}
 use Rattle.rmt_lists.specs.Stands.{Stands, StandsFor}
 use Rattle.rmt_lists.proofs.StandLaws.{added_allowed, added_refused, held_at, named_within}
 use Rattle.rmt_lists.proofs.lists.Lists.add.Goals as goal

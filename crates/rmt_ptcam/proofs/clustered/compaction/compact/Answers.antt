@@ -1,8 +1,9 @@
 use Rattle.std.proofs.Common.{List, ℕ, ap, sym, subst, ◌∙◌}
 use Rattle.std.specs.Prelude.{map}
 use Rattle.std.specs.List.{filter}
+use Rattle.rmt_bits.specs.Members.{is_among}
 use Rattle.rmt_ptcam.specs.Adding.{Adds}
-use Rattle.rmt_ptcam.specs.Joining.{IsGood, Row, is_among, rows_of}
+use Rattle.rmt_ptcam.specs.Joining.{IsGood, Row, rows_of}
 use Rattle.rmt_ptcam.specs.Clustering.{met_states, renamed, states_kept}
 use Rattle.rmt_ptcam.proofs.CompactLaws.{compact_added, compact_good}
 use Rattle.rmt_ptcam.proofs.clustered.compaction.compact.Goals as goal

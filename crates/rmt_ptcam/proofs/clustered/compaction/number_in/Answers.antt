@@ -1,5 +1,5 @@
 use Rattle.std.proofs.Common.{◌≡◌, Bool, ℕ, cond, ap, sym, ◌∙◌, arith}
-use Rattle.rmt_ptcam.specs.Joining.{is_among}
+use Rattle.rmt_bits.specs.Members.{is_among}
 use Rattle.rmt_ptcam.proofs.CompactLaws.{number_next}
 use Rattle.rmt_ptcam.proofs.clustered.compaction.number_in.Goals.{then-is_among, else-is_among}
 use Rattle.rmt_ptcam.proofs.clustered.compaction.number_in.Goals as goal

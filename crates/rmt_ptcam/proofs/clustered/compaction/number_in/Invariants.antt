@@ -1,5 +1,5 @@
 use Rattle.std.proofs.Common.{◌≡◌, ◌≤◌}
-use Rattle.rmt_ptcam.specs.Joining.{is_among}
+use Rattle.rmt_bits.specs.Members.{is_among}
 use Rattle.rmt_ptcam.specs.Clustering.{number_in}
 use Rattle.rmt_ptcam.proofs.clustered.compaction.number_in.Given as goal
 

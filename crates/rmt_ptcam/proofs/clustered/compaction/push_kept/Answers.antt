@@ -3,12 +3,13 @@ use Rattle.std.specs.Prelude.{slice_get}
 use Rattle.std.specs.List.{filter}
 use Rattle.rmt_ptcam.specs.Types.{ParserEntry, TailOf}
 use Rattle.rmt_config.specs.Parser.{tail_of}
-use Rattle.rmt_ptcam.specs.Joining.{Row, is_among, rows_of}
+use Rattle.rmt_ptcam.specs.Joining.{Row, rows_of}
 use Rattle.rmt_ptcam.specs.Clustering.{renamed}
 use Rattle.rmt_ptcam.proofs.AddingLaws.{adds_at, all_rows, added_own, added_not, few_own, length_added, row_of}
 use Rattle.rmt_ptcam.proofs.clustered.compaction.push_kept.Goals.{then-is_among+in_ok-entry+in_ok-push_row, else-is_among}
 use Rattle.rmt_ptcam.proofs.clustered.compaction.push_kept.Goals as goal
 use Rattle.rmt_bits.proofs.ListLaws.{slice_get-seen}
+use Rattle.rmt_bits.specs.Members.{is_among}
 
 pub push_row-requires : goal.push_row-requires
 push_row-requires c =

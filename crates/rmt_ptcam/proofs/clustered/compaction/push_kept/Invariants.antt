@@ -1,7 +1,8 @@
 use Rattle.std.proofs.Common.{map, take}
 use Rattle.std.specs.List.{filter}
+use Rattle.rmt_bits.specs.Members.{is_among}
 use Rattle.rmt_ptcam.specs.Adding.{Adds}
-use Rattle.rmt_ptcam.specs.Joining.{Row, is_among, rows_of}
+use Rattle.rmt_ptcam.specs.Joining.{Row, rows_of}
 use Rattle.rmt_ptcam.specs.Clustering.{renamed}
 use Rattle.rmt_ptcam.proofs.clustered.compaction.push_kept.Given as goal
 

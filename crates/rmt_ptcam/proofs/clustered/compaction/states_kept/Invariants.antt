@@ -1,5 +1,5 @@
 use Rattle.std.proofs.Common.{◌≡◌, ◌++◌, drop}
-use Rattle.rmt_ptcam.specs.Joining.{is_among}
+use Rattle.rmt_bits.specs.Members.{is_among}
 use Rattle.rmt_ptcam.specs.Clustering.{states_kept}
 use Rattle.rmt_ptcam.proofs.clustered.compaction.states_kept.Given as goal
 

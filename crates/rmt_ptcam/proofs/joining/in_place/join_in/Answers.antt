@@ -12,28 +12,20 @@ bounds-groups-from c =
     let is : IsMade g c.args.join c.in-Some.others = made g c.args.join c.in-Some.others (sym c.in_ok-stand_in_for.ensures ∙ c.in-Some.is) in
     subst (λ k. k < length g) (sym c.from.ensures) (slice_get_within g c.args.join.state is.s is.at_n)
 
-pub put_in-requires-clause-there : goal.put_in-requires-clause-there
-put_in-requires-clause-there c =
+pub put_in-requires : goal.put_in-requires
+put_in-requires c =
     let g : List StateRows = c.args.groups.now in
     let new : StateRows = c.in-Some.others in
     let d : StateRows = c.index-groups-from.result in
-    let some : stand_in_for g c.args.join ≡ Some new = sym c.in_ok-stand_in_for.ensures ∙ c.in-Some.is in
-    let is : IsMade g c.args.join new = made g c.args.join new some in
-    let own : get_or g c.from.result d ≡ is.s = ap (λ k. get_or g k d) c.from.ensures ∙ get_or_from_slice_get g c.args.join.state is.s d is.at_n in
-    subst (λ k. k < length (get_or g c.from.result d).rows) (sym c.from-at.ensures) (subst (λ (u : StateRows). c.args.join.entry < length u.rows) (sym own) (made_low g c.requires.stand c.args.join new some))
-
-pub put_in-requires-clause-some : goal.put_in-requires-clause-some
-put_in-requires-clause-some c = made_some c.args.groups.now c.requires.stand c.args.join c.in-Some.others (sym c.in_ok-stand_in_for.ensures ∙ c.in-Some.is)
-
-pub put_in-requires-clause-same : goal.put_in-requires-clause-same
-put_in-requires-clause-same c =
-    let g : List StateRows = c.args.groups.now in
-    let new : StateRows = c.in-Some.others in
-    let d : StateRows = c.index-groups-from.result in
-    let some : stand_in_for g c.args.join ≡ Some new = sym c.in_ok-stand_in_for.ensures ∙ c.in-Some.is in
-    let is : IsMade g c.args.join new = made g c.args.join new some in
-    let own : get_or g c.from.result d ≡ is.s = ap (λ k. get_or g k d) c.from.ensures ∙ get_or_from_slice_get g c.args.join.state is.s d is.at_n in
-    subst (λ (u : StateRows). new.lookups ≡ u.lookups → map (widened_row u.lookups u.lookups) u.rows ≡ u.rows) (sym own) (made_same g c.requires.stand c.args.join new some)
+    let j = c.args.join in
+    let some : stand_in_for g j ≡ Some new = sym c.in_ok-stand_in_for.ensures ∙ c.in-Some.is in
+    let is : IsMade g j new = made g j new some in
+    let own : get_or g c.from.result d ≡ is.s = ap (λ k. get_or g k d) c.from.ensures ∙ get_or_from_slice_get g j.state is.s d is.at_n in
+    record {
+      there = subst (λ k. k < length (get_or g c.from.result d).rows) (sym c.from-at.ensures) (subst (λ (u : StateRows). j.entry < length u.rows) (sym own) (made_low g c.requires.stand j new some));
+      some = made_some g c.requires.stand j new some;
+      same = subst (λ (u : StateRows). new.lookups ≡ u.lookups → map (widened_row u.lookups u.lookups) u.rows ≡ u.rows) (sym own) (made_same g c.requires.stand j new some);
+    }
 
 pub returns-in_ok-put_in-in-Some : goal.returns-in_ok-put_in-in-Some
 returns-in_ok-put_in-in-Some c =

@@ -1,7 +1,7 @@
 use Rattle.std.proofs.Common.{◌≡◌, sym, ap, ◌∙◌, ◌-◌, Bool, ℕ, arith}
 use Rattle.std.specs.Prelude.{◌||◌, ◌&&◌, nat_le}
 use Rattle.std.specs.List.{filter, range_with_len}
-use Rattle.rmt_ptcam.specs.Joining.{is_among}
+use Rattle.rmt_bits.specs.Members.{is_among}
 use Rattle.rmt_ptcam.proofs.PlainLaws.{filter_here, filter_not}
 use Rattle.rmt_ptcam.proofs.joining.lookups.together.Goals.{then-is_together+in_ok-push, else-is_together}
 use Rattle.rmt_ptcam.proofs.TestLaws.{together_is}

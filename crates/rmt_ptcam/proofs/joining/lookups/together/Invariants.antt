@@ -1,7 +1,7 @@
 use Rattle.std.proofs.Common.{◌≡◌, ◌-◌}
 use Rattle.std.specs.Prelude.{◌||◌, ◌&&◌, nat_le}
 use Rattle.std.specs.List.{filter, range_with_len}
-use Rattle.rmt_ptcam.specs.Joining.{is_among}
+use Rattle.rmt_bits.specs.Members.{is_among}
 use Rattle.rmt_ptcam.proofs.joining.lookups.together.Given as goal
 
 abbrev pub invariant-loop-offset : goal.invariant-loop-offset

@@ -2,11 +2,11 @@ use Rattle.std.proofs.Common.{◌+◌, List, [], Some, length, refl, sym, ap, �
 use Rattle.std.specs.Prelude.{All}
 use Rattle.std.specs.List.{AllZip}
 use Rattle.std.proofs.lemmas.Option.{slice_get-get_or, slice_get_within}
+use Rattle.rmt_bits.specs.Members.{is_among}
 use Rattle.rmt_book.specs.declared.table.TableCells.{TableCells}
 use Rattle.rmt_update.specs.BookIndex.{AreApart, FindsCells}
 use Rattle.rmt_update.specs.Come.{AreOrdered, HaveCome, IsRunOf, MayHaveCome, Run, come_to}
 use Rattle.rmt_update.specs.RowIndex.{IsIndex, never}
-use Rattle.rmt_lists.specs.Running.{is_among}
 use Rattle.rmt_update.proofs.ApartLaws.{apart}
 use Rattle.rmt_update.proofs.ComeCount.{few-placed}
 use Rattle.rmt_update.proofs.PlacedIndex.{PlacedSoFar, finds-same, so-far-all, so-far-next, so-far-none}
@@ -110,20 +110,10 @@ returns-clause-few c =
     (place-some w c.args.self.now c.args.changes.now run ordered c.loop-at.at c.loop-at.placing (omega (arith, low, long)) (c.loop-at.invariant.come w run))
 
 pub index_mut-requires : goal.index_mut-requires
-index_mut-requires c =
-    let lt = c.loop-at-test.true in
-    let end = c.len-at-end.ensures in
-    let long = c.args.self.now.tables.ok.0 in
-    let own = c.loop-at.index.tables.ok.0 in
-    let count = c.loop-at.invariant.rows.count in
-    omega (arith, lt, end, long, own, count)
+index_mut-requires c = omega (arith, c.loop-at-test.true, c.len-at-end.ensures, c.args.self.now.tables.ok.0, c.loop-at.index.tables.ok.0, c.loop-at.invariant.rows.count)
 
 pub place_in-requires-clause-ordered : goal.place_in-requires-clause-ordered
 place_in-requires-clause-ordered c = subst (All AreOrdered) c.as_slice.ensures.value c.all_ordered.ensures
 
 pub place_in-requires-clause-at : goal.place_in-requires-clause-at
-place_in-requires-clause-at c =
-    let lt = c.loop-at-test.true in
-    let end = c.len-at-end.ensures in
-    let long = c.args.self.now.tables.ok.0 in
-    omega (arith, lt, end, long)
+place_in-requires-clause-at c = omega (arith, c.loop-at-test.true, c.len-at-end.ensures, c.args.self.now.tables.ok.0)

@@ -115,7 +115,4 @@ returns-clause-come c = λ w run have.
     c.loop-entry.entry-index c.loop-entry.placing c.loop-entry.index (omega (arith, low, long)) (c.loop-entry.invariant.come w run have)
 
 pub index-table-requires : goal.index-table-requires
-index-table-requires c =
-    let lt = c.requires.at in
-    let long = c.args.self.now.tables.ok.0 in
-    omega (arith, lt, long)
+index-table-requires c = omega (arith, c.requires.at, c.args.self.now.tables.ok.0)

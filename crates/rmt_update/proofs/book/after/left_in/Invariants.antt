@@ -1,9 +1,9 @@
 use Rattle.std.proofs.Common.{◌≡◌, ℕ, List}
 use Rattle.std.specs.BTreeSet.{contains}
 use Rattle.std.specs.Ordering.{nat_cmp}
+use Rattle.rmt_bits.specs.Members.{is_among}
 use Rattle.rmt_update.specs.After.{without_gone}
 use Rattle.rmt_book.specs.Numbered.{IsOrder}
-use Rattle.rmt_lists.specs.Running.{is_among}
 use Rattle.rmt_book.specs.Seen.{HaveNumbers}
 use Rattle.rmt_update.proofs.book.after.left_in.Given as goal
 

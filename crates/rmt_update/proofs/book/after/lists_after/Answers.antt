@@ -1,9 +1,9 @@
 use Rattle.std.proofs.Common.{◌≡◌, ◌∙◌, ap, length, map, subst, sym, arith}
 use Rattle.std.specs.List.{range_with_len}
 use Rattle.std.proofs.lemmas.Result.{IfOk-weaker}
+use Rattle.rmt_bits.specs.Members.{is_among}
 use Rattle.rmt_config.specs.NamesForm.{by_number}
 use Rattle.rmt_update.specs.After.{AreOrders, left_of, with_come}
-use Rattle.rmt_lists.specs.Running.{is_among}
 use Rattle.rmt_book.specs.Seen.{HaveNumbers}
 use Rattle.rmt_update.proofs.AfterLaws.{map-changed, numbers-left}
 use Rattle.rmt_update.proofs.book.after.lists_after.Goals as goal

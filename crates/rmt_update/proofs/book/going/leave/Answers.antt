@@ -2,8 +2,8 @@ use Rattle.std.proofs.Common.{refl, ◌∙◌, subst, take}
 use Rattle.std.specs.List.{AllZip}
 use Rattle.std.proofs.lemmas.List.{take_all}
 use Rattle.std.proofs.lemmas.Option.{slice_get-get_or}
+use Rattle.rmt_bits.specs.Members.{is_among}
 use Rattle.rmt_update.specs.RowIndex.{IsIndex}
-use Rattle.rmt_lists.specs.Running.{is_among}
 use Rattle.rmt_update.proofs.GoingLaws.{leaves-more, leaves-none}
 use Rattle.rmt_update.proofs.PlacedIndex.{finds-same}
 use Rattle.rmt_update.proofs.book.going.leave.Goals as goal

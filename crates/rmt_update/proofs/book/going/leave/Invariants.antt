@@ -1,7 +1,7 @@
 use Rattle.std.proofs.Common.{◌≡◌, Bool, length, take}
 use Rattle.std.specs.List.{AllZip}
+use Rattle.rmt_bits.specs.Members.{is_among}
 use Rattle.rmt_update.specs.RowIndex.{IsIndex, never}
-use Rattle.rmt_lists.specs.Running.{is_among}
 use Rattle.rmt_update.proofs.book.going.leave.Given as goal
 
 -- the entries of the numbers so far have left

@@ -7,7 +7,7 @@ use Rattle.std.proofs.lemmas.List.Elements.{All-contains, Contains-get_or}
 use Rattle.std.proofs.lemmas.Map.Lookups.{exact_unsigned}
 use Rattle.rmt_bits.proofs.MemberLaws.{Contains-from_any, list_any-Contains}
 use Rattle.rmt_bits.proofs.SearchLaws.{not_found}
-use Rattle.rmt_lists.specs.Running.{is_among}
+use Rattle.rmt_bits.specs.Members.{is_among}
 use Rattle.rmt_update.proofs.book.leaving.is_gone.Goals as goal
 
 searched : (ns : List ℕ) (n : ℕ) → AllPairs (λ (a b : ℕ). a < b) ns → (r : Result ℕ ℕ) → IsBinarySearchResult (λ m. nat_cmp m n) ns r → IsSearchInRange r (length ns) → is_ok r ≡ is_among ns n

@@ -3,7 +3,7 @@ use Rattle.std.specs.BTreeSet.{contains}
 use Rattle.std.specs.Ordering.{nat_cmp}
 use Rattle.std.proofs.lemmas.List.{take_more}
 use Rattle.std.proofs.lemmas.List.Folds.{list_any-append}
-use Rattle.rmt_lists.specs.Running.{is_among}
+use Rattle.rmt_bits.specs.Members.{is_among}
 use Rattle.rmt_config.proofs.OrderLaws.{same_number}
 use Rattle.rmt_update.proofs.book.number_set.number_set.Goals as goal
 

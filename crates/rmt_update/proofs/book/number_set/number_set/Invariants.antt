@@ -1,7 +1,7 @@
 use Rattle.std.proofs.Common.{◌≡◌, ℕ, take}
 use Rattle.std.specs.BTreeSet.{contains}
 use Rattle.std.specs.Ordering.{nat_cmp}
-use Rattle.rmt_lists.specs.Running.{is_among}
+use Rattle.rmt_bits.specs.Members.{is_among}
 use Rattle.rmt_update.proofs.book.number_set.number_set.Given as goal
 
 -- the numbers so far

@@ -13,10 +13,7 @@ kept_of-requires-clause-room c = λ a is.
     (subst (Holds c.args.table.now c.args.entry.now) (sym c.index-part.ensures) (c.requires.holds c.args.spot.part c.index-part.result.now c.requires.part) a is)
 
 pub kept_of-requires-clause-code : goal.kept_of-requires-clause-code
-kept_of-requires-clause-code c =
-    let first = c.if-part-entry.false in
-    let action = c.if-entry-ge256.false in
-    omega (arith, first, action)
+kept_of-requires-clause-code c = omega (arith, c.if-part-entry.false, c.if-entry-ge256.false)
 
 pub returns : goal.returns
 returns c =

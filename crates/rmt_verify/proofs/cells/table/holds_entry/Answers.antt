@@ -27,80 +27,53 @@ overflow_add-code c =
     let action = action_low at.program.now at.config.now at.node at.table.now at.widths.now at.entries.now c.requires.known.its_table c.args.entry.now c.requires.entry in
     record { fits = omega (arith, first, action) }
 
-pub exact_holds-requires-clause-rows : goal.exact_holds-requires-clause-rows
-exact_holds-requires-clause-rows c =
-    let config = c.args.at.now.config.now in
+pub exact_holds-requires : goal.exact_holds-requires
+exact_holds-requires c =
+    let at = c.args.at.now in
+    let config = at.config.now in
     let part = part_at c.args.part.now in
-    let own = stage_is config part c.requires.known.its_part.stands c.stage_of-stage.result.now c.stage_of-stage.ensures in
-    subst SramRows (sym (c.as_slice-in-Exact.ensures ∙ ap (λ (s : Stage). s.srows) own)) (rows_stand config part c.requires.known.its_part.stands)
-
-pub exact_holds-requires-clause-fits : goal.exact_holds-requires-clause-fits
-exact_holds-requires-clause-fits c =
-    let a = c.in-Exact in
     let slot = c.args.part.now.slot.now in
-    subst (λ ks. ExactFits slot a.width a.per a.quanta ks c.as_slice-in-Exact-3.result.now) (sym c.as_slice-in-Exact-2.ensures)
-    (subst (λ rs. ExactFits slot a.width a.per a.quanta a.keys rs) (sym c.as_slice-in-Exact-3.ensures)
-    (exact_fit c.args.at.now.config.now (part_at c.args.part.now) c.requires.known.its_part.stands a.width a.per a.quanta a.first_way a.keys a.records a.counters a.is))
-
-pub exact_holds-requires-clause-ways : goal.exact_holds-requires-clause-ways
-exact_holds-requires-clause-ways c = let a = c.in-Exact in subst WaysLow a.is c.requires.known.its_part.ways
-
-pub exact_holds-requires-clause-bits : goal.exact_holds-requires-clause-bits
-exact_holds-requires-clause-bits c = c.requires.known.its_part.bits_are
-
-pub exact_holds-requires-clause-cell : goal.exact_holds-requires-clause-cell
-exact_holds-requires-clause-cell c =
+    let known = c.requires.known in
+    let stands = known.its_part.stands in
     let a = c.in-Exact in
-    cell_below c.args.at.now.config.now (part_at c.args.part.now) c.requires.known.its_part.stands c.args.own.now (Exact a.width a.per a.quanta a.first_way a.keys a.records a.counters) c.requires.known.listed a.is
+    record {
+      rows = subst SramRows (sym (c.as_slice-in-Exact.ensures ∙ ap (λ (s : Stage). s.srows) (stage_is config part stands c.stage_of-stage.result.now c.stage_of-stage.ensures))) (rows_stand config part stands);
+      fits =
+          subst (λ ks. ExactFits slot a.width a.per a.quanta ks c.as_slice-in-Exact-3.result.now) (sym c.as_slice-in-Exact-2.ensures)
+          (subst (λ rs. ExactFits slot a.width a.per a.quanta a.keys rs) (sym c.as_slice-in-Exact-3.ensures) (exact_fit config part stands a.width a.per a.quanta a.first_way a.keys a.records a.counters a.is));
+      ways = subst WaysLow a.is known.its_part.ways;
+      cell = cell_below config part stands c.args.own.now (Exact a.width a.per a.quanta a.first_way a.keys a.records a.counters) known.listed a.is;
+      wanted =
+          wanted at.program.now config at.node at.table.now at.widths.now at.entries.now known.its_table c.args.entry.now c.requires.entry _
+          (params_read at.program.now config at.node at.table.now at.widths.now at.entries.now known.its_table c.args.entry.now c.requires.entry c.as_slice.result.now c.as_slice-2.result.now c.index-as_slice-action.result c.as_slice.ensures c.as_slice-2.ensures);
+      bits = known.its_part.bits_are;
+      whole =
+          whole at.program.now config at.node at.table.now at.widths.now at.entries.now known.its_table c.args.entry.now c.requires.entry
+          (exact_kind at.table.now.kind known.its_part.quanta a.width a.per a.quanta a.first_way a.keys a.records a.counters (subst (λ (m : Memory). HasKind at.table.now.kind known.its_part.quanta m) a.is known.its_part.kind));
+    }
 
-pub exact_holds-requires-clause-wanted : goal.exact_holds-requires-clause-wanted
-exact_holds-requires-clause-wanted c =
+pub ternary_holds-requires : goal.ternary_holds-requires
+ternary_holds-requires c =
     let at = c.args.at.now in
-    wanted at.program.now at.config.now at.node at.table.now at.widths.now at.entries.now c.requires.known.its_table c.args.entry.now c.requires.entry _
-    (params_read at.program.now at.config.now at.node at.table.now at.widths.now at.entries.now c.requires.known.its_table c.args.entry.now c.requires.entry c.as_slice.result.now c.as_slice-2.result.now c.index-as_slice-action.result c.as_slice.ensures c.as_slice-2.ensures)
-
-pub exact_holds-requires-clause-whole : goal.exact_holds-requires-clause-whole
-exact_holds-requires-clause-whole c =
-    let at = c.args.at.now in
-    let a = c.in-Exact in
-    let its = c.requires.known.its_part in
-    whole at.program.now at.config.now at.node at.table.now at.widths.now at.entries.now c.requires.known.its_table c.args.entry.now c.requires.entry
-    (exact_kind at.table.now.kind its.quanta a.width a.per a.quanta a.first_way a.keys a.records a.counters (subst (λ (m : Memory). HasKind at.table.now.kind its.quanta m) a.is its.kind))
-
-pub ternary_holds-requires-clause-rows : goal.ternary_holds-requires-clause-rows
-ternary_holds-requires-clause-rows c =
+    let config = at.config.now in
     let part = part_at c.args.part.now in
-    let own = stage_is c.args.at.now.config.now part c.requires.known.its_part.stands c.stage_of-stage.result.now c.stage_of-stage.ensures in
-    subst FormedRows (sym own) c.requires.known.its_part.stands.rows
-
-pub ternary_holds-requires-clause-values : goal.ternary_holds-requires-clause-values
-ternary_holds-requires-clause-values c =
-    let config = c.args.at.now.config.now in
-    let part = part_at c.args.part.now in
-    let own = stage_is config part c.requires.known.its_part.stands c.stage_of-stage.result.now c.stage_of-stage.ensures in
-    subst (λ (s : Stage). PrefixRows s.trows) (sym own) (prefix-rows config part c.requires.known.its_part.stands c.requires.known.its_table.memory)
-
-pub ternary_holds-requires-clause-fits : goal.ternary_holds-requires-clause-fits
-ternary_holds-requires-clause-fits c =
-    let a = c.in-Ternary in
     let slot = c.args.part.now.slot.now in
-    subst (λ ks. TernaryFits slot a.quanta ks c.as_slice-in-Ternary-2.result.now) (sym c.as_slice-in-Ternary.ensures)
-    (subst (λ rs. TernaryFits slot a.quanta a.keys rs) (sym c.as_slice-in-Ternary-2.ensures)
-    (ternary_fit c.args.at.now.config.now (part_at c.args.part.now) c.requires.known.its_part.stands a.quanta a.keys a.records a.counters a.is))
-
-pub ternary_holds-requires-clause-bits : goal.ternary_holds-requires-clause-bits
-ternary_holds-requires-clause-bits c = c.requires.known.its_part.bits_are
-
-pub ternary_holds-requires-clause-cell : goal.ternary_holds-requires-clause-cell
-ternary_holds-requires-clause-cell c =
+    let known = c.requires.known in
+    let stands = known.its_part.stands in
     let a = c.in-Ternary in
-    cell_below c.args.at.now.config.now (part_at c.args.part.now) c.requires.known.its_part.stands c.args.own.now (Ternary a.quanta a.keys a.records a.counters) c.requires.known.listed a.is
-
-pub ternary_holds-requires-clause-wanted : goal.ternary_holds-requires-clause-wanted
-ternary_holds-requires-clause-wanted c =
-    let at = c.args.at.now in
-    wanted at.program.now at.config.now at.node at.table.now at.widths.now at.entries.now c.requires.known.its_table c.args.entry.now c.requires.entry _
-    (params_read at.program.now at.config.now at.node at.table.now at.widths.now at.entries.now c.requires.known.its_table c.args.entry.now c.requires.entry c.as_slice.result.now c.as_slice-2.result.now c.index-as_slice-action.result c.as_slice.ensures c.as_slice-2.ensures)
+    let own = stage_is config part stands c.stage_of-stage.result.now c.stage_of-stage.ensures in
+    record {
+      rows = subst FormedRows (sym own) stands.rows;
+      values = subst (λ (s : Stage). PrefixRows s.trows) (sym own) (prefix-rows config part stands known.its_table.memory);
+      fits =
+          subst (λ ks. TernaryFits slot a.quanta ks c.as_slice-in-Ternary-2.result.now) (sym c.as_slice-in-Ternary.ensures)
+          (subst (λ rs. TernaryFits slot a.quanta a.keys rs) (sym c.as_slice-in-Ternary-2.ensures) (ternary_fit config part stands a.quanta a.keys a.records a.counters a.is));
+      cell = cell_below config part stands c.args.own.now (Ternary a.quanta a.keys a.records a.counters) known.listed a.is;
+      wanted =
+          wanted at.program.now config at.node at.table.now at.widths.now at.entries.now known.its_table c.args.entry.now c.requires.entry _
+          (params_read at.program.now config at.node at.table.now at.widths.now at.entries.now known.its_table c.args.entry.now c.requires.entry c.as_slice.result.now c.as_slice-2.result.now c.index-as_slice-action.result c.as_slice.ensures c.as_slice-2.ensures);
+      bits = known.its_part.bits_are;
+    }
 
 pub returns-in-Exact : goal.returns-in-Exact
 returns-in-Exact c =

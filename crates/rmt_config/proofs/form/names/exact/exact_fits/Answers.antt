@@ -22,11 +22,8 @@ returns-then-count-of c =
     table-is of c.requires.stands c.requires.kind false (list_all (stands_in_candidates of.config.now) parts) (news (divided_up (sum of.table.now.keys) 8) [] (keys_listed of.config.now parts))
     (lt-leb (length of.numbers.now) of.table.now.size c.if-count-of.true) refl (λ e. refl)
 
-pub parts_keys-requires-clause-kind : goal.parts_keys-requires-clause-kind
-parts_keys-requires-clause-kind c = c.requires.kind
-
-pub parts_keys-requires-clause-stands : goal.parts_keys-requires-clause-stands
-parts_keys-requires-clause-stands c = c.requires.stands
+pub parts_keys-requires : goal.parts_keys-requires
+parts_keys-requires c = record { kind = c.requires.kind; stands = c.requires.stands }
 
 pub returns-then-not-branch : goal.returns-then-not-branch
 returns-then-not-branch c =
@@ -44,11 +41,8 @@ returns-then-branch c =
     (sym c.if-not-branch.false ∙ c.in_ok-parts_keys.ensures.answer)
     (λ e. sym (news-by_prints size ks c.parts_keys.new.into.items prints (ap (are_new []) (sym c.as_slice.ensures.value) ∙ sym c.in_ok-all_differ.ensures ∙ c.if-branch.true)))
 
-pub parts_keys-requires-2-clause-kind : goal.parts_keys-requires-2-clause-kind
-parts_keys-requires-2-clause-kind c = c.requires.kind
-
-pub parts_keys-requires-2-clause-stands : goal.parts_keys-requires-2-clause-stands
-parts_keys-requires-2-clause-stands c = c.requires.stands
+pub parts_keys-requires-2 : goal.parts_keys-requires-2
+parts_keys-requires-2 c = record { kind = c.requires.kind; stands = c.requires.stands }
 
 pub returns-then-not-branch-2 : goal.returns-then-not-branch-2
 returns-then-not-branch-2 c =

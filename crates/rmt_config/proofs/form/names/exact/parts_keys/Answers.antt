@@ -6,14 +6,12 @@ use Rattle.rmt_config.proofs.KeyListLaws.{parts-more, parts-none, parts-stop}
 use Rattle.rmt_config.proofs.SpelledTable.{exact-at, part-added}
 use Rattle.rmt_config.proofs.form.names.exact.parts_keys.Goals as goal
 
-pub part_keys-requires-clause-stands : goal.part_keys-requires-clause-stands
-part_keys-requires-clause-stands c = (exact-at c.args.of.now c.requires.stands c.requires.kind c.loop-part.part-index c.part-item.result c.loop-part-test.true c.part-item.is).stands
-
-pub part_keys-requires-clause-kind : goal.part_keys-requires-clause-kind
-part_keys-requires-clause-kind c = (exact-at c.args.of.now c.requires.stands c.requires.kind c.loop-part.part-index c.part-item.result c.loop-part-test.true c.part-item.is).kind
-
-pub part_keys-requires-clause-ways : goal.part_keys-requires-clause-ways
-part_keys-requires-clause-ways c = (exact-at c.args.of.now c.requires.stands c.requires.kind c.loop-part.part-index c.part-item.result c.loop-part-test.true c.part-item.is).ways
+pub part_keys-requires : goal.part_keys-requires
+part_keys-requires c = record {
+  stands = (exact-at c.args.of.now c.requires.stands c.requires.kind c.loop-part.part-index c.part-item.result c.loop-part-test.true c.part-item.is).stands;
+  kind = (exact-at c.args.of.now c.requires.stands c.requires.kind c.loop-part.part-index c.part-item.result c.loop-part-test.true c.part-item.is).kind;
+  ways = (exact-at c.args.of.now c.requires.stands c.requires.kind c.loop-part.part-index c.part-item.result c.loop-part-test.true c.part-item.is).ways;
+}
 
 pub returns-then-not-branch : goal.returns-then-not-branch
 returns-then-not-branch c =

@@ -28,17 +28,15 @@ overflow_mul-rows c = omega (arith, c.from-rows.ensures)
 pub row_near-row-requires : goal.row_near-row-requires
 row_near-row-requires c = omega (arith, c.from-per.ensures, c.requires.per)
 
-pub way_of-way-requires-clause-some : goal.way_of-way-requires-clause-some
-way_of-way-requires-clause-some c = omega (arith, c.from-rows.ensures, c.requires.quanta)
-
-pub way_of-way-requires-clause-few : goal.way_of-way-requires-clause-few
-way_of-way-requires-clause-few c = omega (arith, c.from-rows.ensures)
-
-pub way_of-way-requires-clause-within : goal.way_of-way-requires-clause-within
-way_of-way-requires-clause-within c =
-    let row = row-is c.args.cell c.args.per c.from-per.result c.row_near-row.result c.from-per.ensures c.row_near-row.ensures in
-    let low = row-low c.args.cell c.args.per c.args.quanta c.requires.per c.requires.within in
-    omega (arith, c.from-rows.ensures, row, low)
+pub way_of-way-requires : goal.way_of-way-requires
+way_of-way-requires c = record {
+  some = omega (arith, c.from-rows.ensures, c.requires.quanta);
+  few = omega (arith, c.from-rows.ensures);
+  within =
+      let row = row-is c.args.cell c.args.per c.from-per.result c.row_near-row.result c.from-per.ensures c.row_near-row.ensures in
+      let low = row-low c.args.cell c.args.per c.args.quanta c.requires.per c.requires.within in
+      omega (arith, c.from-rows.ensures, row, low);
+}
 
 pub overflow_mul-result : goal.overflow_mul-result
 overflow_mul-result c = let whole = whole-within c.row_near-row.result (1024 * c.from-rows.result) c.way_of-way.result c.way_of-way.ensures.value in omega (arith, whole)

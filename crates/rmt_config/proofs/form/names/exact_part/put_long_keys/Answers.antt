@@ -19,38 +19,26 @@ read c =
     c.as_slice-bytes.ensures.value ∙ c.in_ok-put_key.ensures ∙ ap (λ (old : List ℕ). old ++ bytes_of (key_size p) (entry_at (sram_row p.rows.now) p.blocks.now p.width p.bits (record { way = place.result.way; row = place.result.row; position = place.result.position }) / 256)) c.clear.ensures.items
     ∙ ap (bytes_of (key_size p)) (key-there p (number_at p c.loop-number.number-index) place.result place.ensures.way place.ensures.row place.ensures.position)
 
-pub place_of-place-requires-clause-per : goal.place_of-place-requires-clause-per
-place_of-place-requires-clause-per c = c.requires.cells.per
+pub place_of-place-requires : goal.place_of-place-requires
+place_of-place-requires c = record {
+  per = c.requires.cells.per;
+  quanta = c.requires.cells.quanta;
+  within = c.requires.cells.within c.loop-number.number-index (record { cell = 0; number = 0 }) c.loop-number-test.true;
+}
 
-pub place_of-place-requires-clause-quanta : goal.place_of-place-requires-clause-quanta
-place_of-place-requires-clause-quanta c = c.requires.cells.quanta
+pub put_key-requires : goal.put_key-requires
+put_key-requires c = record {
+  cells = c.requires.cells;
+  four = c.place_of-place.ensures.four;
+  low = c.place_of-place.ensures.low;
+  fits =
+      let p = c.args.cells.now in
+      let entry = row_fits c.place_of-place.result.position (p.bits + 8) p.per (p.bits + 8) c.place_of-place.ensures.inside (omega arith) in
+      omega (arith, entry, c.requires.cells.fits);
+}
 
-pub place_of-place-requires-clause-within : goal.place_of-place-requires-clause-within
-place_of-place-requires-clause-within c = c.requires.cells.within c.loop-number.number-index (record { cell = 0; number = 0 }) c.loop-number-test.true
-
-pub put_key-requires-clause-cells : goal.put_key-requires-clause-cells
-put_key-requires-clause-cells c = c.requires.cells
-
-pub put_key-requires-clause-four : goal.put_key-requires-clause-four
-put_key-requires-clause-four c = c.place_of-place.ensures.four
-
-pub put_key-requires-clause-low : goal.put_key-requires-clause-low
-put_key-requires-clause-low c = c.place_of-place.ensures.low
-
-pub put_key-requires-clause-fits : goal.put_key-requires-clause-fits
-put_key-requires-clause-fits c =
-    let p = c.args.cells.now in
-    let entry = row_fits c.place_of-place.result.position (p.bits + 8) p.per (p.bits + 8) c.place_of-place.ensures.inside (omega arith) in
-    omega (arith, entry, c.requires.cells.fits)
-
-pub stands_at-requires-clause-quanta : goal.stands_at-requires-clause-quanta
-stands_at-requires-clause-quanta c = c.requires.cells.quanta
-
-pub stands_at-requires-clause-ways : goal.stands_at-requires-clause-ways
-stands_at-requires-clause-ways c = c.requires.cells.ways
-
-pub stands_at-requires-clause-four : goal.stands_at-requires-clause-four
-stands_at-requires-clause-four c = c.place_of-place.ensures.four
+pub stands_at-requires : goal.stands_at-requires
+stands_at-requires c = record { quanta = c.requires.cells.quanta; ways = c.requires.cells.ways; four = c.place_of-place.ensures.four }
 
 pub put_kept-requires : goal.put_kept-requires
 put_kept-requires c =

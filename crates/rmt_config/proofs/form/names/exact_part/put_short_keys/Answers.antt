@@ -28,14 +28,12 @@ read c =
 pub lowest-bytes-requires-clause-few : goal.lowest-bytes-requires-clause-few
 lowest-bytes-requires-clause-few c = omega (arith, c.divided_up-size.ensures, c.requires.short)
 
-pub place_of-place-requires-clause-per : goal.place_of-place-requires-clause-per
-place_of-place-requires-clause-per c = c.requires.cells.per
-
-pub place_of-place-requires-clause-quanta : goal.place_of-place-requires-clause-quanta
-place_of-place-requires-clause-quanta c = c.requires.cells.quanta
-
-pub place_of-place-requires-clause-within : goal.place_of-place-requires-clause-within
-place_of-place-requires-clause-within c = c.requires.cells.within c.loop-number.number-index (record { cell = 0; number = 0 }) c.loop-number-test.true
+pub place_of-place-requires : goal.place_of-place-requires
+place_of-place-requires c = record {
+  per = c.requires.cells.per;
+  quanta = c.requires.cells.quanta;
+  within = c.requires.cells.within c.loop-number.number-index (record { cell = 0; number = 0 }) c.loop-number-test.true;
+}
 
 pub short_key-key-requires-clause-cells : goal.short_key-key-requires-clause-cells
 short_key-key-requires-clause-cells c = c.requires.cells
@@ -52,14 +50,8 @@ short_key-key-requires-clause-fits c =
     let entry = row_fits c.place_of-place.result.position (p.bits + 8) p.per (p.bits + 8) c.place_of-place.ensures.inside (omega arith) in
     omega (arith, entry, c.requires.cells.fits)
 
-pub stands_at-requires-clause-quanta : goal.stands_at-requires-clause-quanta
-stands_at-requires-clause-quanta c = c.requires.cells.quanta
-
-pub stands_at-requires-clause-ways : goal.stands_at-requires-clause-ways
-stands_at-requires-clause-ways c = c.requires.cells.ways
-
-pub stands_at-requires-clause-four : goal.stands_at-requires-clause-four
-stands_at-requires-clause-four c = c.place_of-place.ensures.four
+pub stands_at-requires : goal.stands_at-requires
+stands_at-requires c = record { quanta = c.requires.cells.quanta; ways = c.requires.cells.ways; four = c.place_of-place.ensures.four }
 
 pub put_kept-requires : goal.put_kept-requires
 put_kept-requires c =

@@ -3,6 +3,7 @@ use Rattle.std.proofs.lemmas.Nat.{div_below, mod_below, mul-add-lt, mul-le}
 use Rattle.rmt_config.specs.declared.form.layout.CellLayout.{CellLayout}
 use Rattle.rmt_config.specs.Layouts.{IsLayout, local_of, quantum_of, unit_of}
 use Rattle.rmt_config.proofs.form.names.key_bytes.spot_of.Goals as goal
+use Rattle.rmt_config.proofs.ToldBits.{some_place}
 
 -- a cell has its place in a quantum below the cells of its ways
 local-low : (l : CellLayout) (n : ℕ) → IsLayout l → n < l.ways * l.quanta * l.way → local_of l n < l.way * l.ways
@@ -16,13 +17,10 @@ cells-few l is = let most = mul-le l.way l.ways 67108864 4 (omega (arith, is.mos
 row-few : (l : CellLayout) → IsLayout l → l.rows * l.per < 134217729
 row-few l is = let most = mul-le l.rows l.per 2048 65536 is.most_rows (omega (arith, is.most_per)) in omega (arith, most)
 
-row-some : (l : CellLayout) → IsLayout l → 0 < l.rows * l.per
-row-some l is = let least = mul-le 1 1 l.rows l.per (omega (arith, is.some_rows)) (omega (arith, is.some_per)) in omega (arith, least)
-
 unit-low : (l : CellLayout) (n : ℕ) → IsLayout l → n < l.ways * l.quanta * l.way → unit_of l (quantum_of l n) (local_of l n) < 27787264
 unit-low l n is lt =
     let inside : l.way * l.ways ≡ l.ways * l.way = omega arith in
-    let unit = div_below (local_of l n) (l.rows * l.per) l.units (row-some l is) (omega (arith, local-low l n is lt, inside, is.enough)) in
+    let unit = div_below (local_of l n) (l.rows * l.per) l.units (some_place l is) (omega (arith, local-low l n is lt, inside, is.enough)) in
     let low = mul-add-lt (quantum_of l n) l.units (local_of l n / (l.rows * l.per)) l.quanta (mod_below (n / l.way) l.quanta is.some_quanta) unit in
     let most = mul-le l.units l.quanta 262144 106 (omega (arith, is.most_units)) is.most_quanta in
     omega (arith, low, most)
@@ -37,7 +35,7 @@ pub joined-in_unit-requires : goal.joined-in_unit-requires
 joined-in_unit-requires c = omega (arith, row-few c.args.layout.now c.requires.layout.is)
 
 pub nonzero_div-local : goal.nonzero_div-local
-nonzero_div-local c = omega (arith, row-some c.args.layout.now c.requires.layout.is, c.joined-in_unit.ensures)
+nonzero_div-local c = omega (arith, some_place c.args.layout.now c.requires.layout.is, c.joined-in_unit.ensures)
 
 pub joined-requires : goal.joined-requires
 joined-requires c =

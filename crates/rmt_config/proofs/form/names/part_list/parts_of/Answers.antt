@@ -4,8 +4,8 @@ use Rattle.std.specs.List.{enumerate_from, flat_map}
 use Rattle.rmt_config.specs.Types.{Stage}
 use Rattle.rmt_config.specs.Rooms.{PartAt, parts_among}
 use Rattle.rmt_config.specs.PartsTold.{parts_at}
-use Rattle.rmt_config.proofs.SpelledLists.{drop-at}
 use Rattle.rmt_config.proofs.form.names.part_list.parts_of.Goals as goal
+use Rattle.rmt_config.proofs.RiseLaws.{one_off}
 
 -- the parts among stages from a number on
 abbrev among : ℕ → ℕ → List Stage → List PartAt
@@ -24,7 +24,7 @@ loop-at-preserved c =
     let lt = subst (λ (ss : List Stage). at < length ss) e c.loop-at-test.true in
     let is = c.stage-item.is ∙ ap (λ (ss : List Stage). get_or ss at stage) e in
     let step : before ++ among node at (drop at stages) ≡ before ++ (here ++ rest) =
-    ap (λ (ss : List Stage). before ++ among node at ss) (drop-at stages at stage lt ∙ ap (λ s. s ∷ drop (at + 1) stages) (sym is)) in
+    ap (λ (ss : List Stage). before ++ among node at ss) (one_off stages at stage lt ∙ ap (λ s. s ∷ drop (at + 1) stages) (sym is)) in
     ap (λ (ps : List PartAt). ps ++ rest) (c.in_ok-put_parts.ensures ∙ ap (λ units. before ++ parts_among node at 0 0 units) c.as_slice.ensures)
     ∙ append_assoc before here rest ∙ sym step ∙ c.loop-at.invariant
 

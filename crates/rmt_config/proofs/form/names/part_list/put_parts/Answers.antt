@@ -5,19 +5,19 @@ use Rattle.rmt_config.specs.Rooms.{PartAt, parts_among}
 use Rattle.rmt_config.specs.PartsTold.{part_at, parts_at}
 use Rattle.rmt_config.specs.Types.{GateUnit, SlotUnit, Unit}
 use Rattle.rmt_config.specs.declared.config.Unit.TheVariants.{Gate, Slot}
-use Rattle.rmt_config.proofs.SpelledLists.{drop-at}
 use Rattle.rmt_config.proofs.form.names.part_list.put_parts.Goals as goal
 use Rattle.rmt_config.proofs.form.names.part_list.put_parts.Goals.{in-Gate, in-Slot, then-from-node+in_ok-push-in-Slot, else-from-node}
+use Rattle.rmt_config.proofs.RiseLaws.{one_off}
 
 -- the parts among units from a place on
 module _ (node at : ℕ) (units : List Unit) (i first : ℕ) (item : Unit) (lt : i < length units) (is : item ≡ get_or units i item) where
   behind_gate : (g : GateUnit) → item ≡ Gate g → parts_among node at i first (drop i units) ≡ parts_among node at (i + 1) first (drop (i + 1) units)
-  behind_gate g e = ap (parts_among node at i first) (drop-at units i item lt ∙ ap (λ u. u ∷ drop (i + 1) units) (sym is ∙ e))
+  behind_gate g e = ap (parts_among node at i first) (one_off units i item lt ∙ ap (λ u. u ∷ drop (i + 1) units) (sym is ∙ e))
 
   behind_slot : (s : SlotUnit) (own : Bool) (new : List PartAt) → item ≡ Slot s → eqb s.node node ≡ own → cond own (record { stage = at; place = i; first = first; slot = s } ∷ []) [] ≡ new
       → parts_among node at i first (drop i units) ≡ new ++ parts_among node at (i + 1) (first + s.actions + 1) (drop (i + 1) units)
   behind_slot s own new e same these =
-      ap (parts_among node at i first) (drop-at units i item lt ∙ ap (λ u. u ∷ drop (i + 1) units) (sym is ∙ e))
+      ap (parts_among node at i first) (one_off units i item lt ∙ ap (λ u. u ∷ drop (i + 1) units) (sym is ∙ e))
       ∙ ap (λ b. cond b (record { stage = at; place = i; first = first; slot = s } ∷ []) [] ++ parts_among node at (i + 1) (first + s.actions + 1) (drop (i + 1) units)) same
       ∙ ap (λ (ps : List PartAt). ps ++ parts_among node at (i + 1) (first + s.actions + 1) (drop (i + 1) units)) these
 

@@ -5,9 +5,9 @@ use Rattle.rmt_config.specs.Rooms.{parts_of}
 use Rattle.rmt_config.specs.declared.form.names.part_list.Part.{Part}
 use Rattle.rmt_config.specs.PartsTold.{part_at, parts_at}
 use Rattle.rmt_config.specs.PrefixRows.{row_in, rows_of}
-use Rattle.rmt_config.proofs.SpelledLists.{drop-at}
 use Rattle.rmt_config.proofs.PrefixRows.{key-low, key-one, prefix-at, prefix-filled, prefix-full, rows-all}
 use Rattle.rmt_config.proofs.form.names.prefix.prefix_fits.Goals as goal
+use Rattle.rmt_config.proofs.RiseLaws.{one_off}
 
 pub returns-then-of : goal.returns-then-of
 returns-then-of c = prefix-full c.args.of.now c.requires.stands c.requires.kind c.requires.alone c.if-of.true
@@ -15,17 +15,13 @@ returns-then-of c = prefix-full c.args.of.now c.requires.stands c.requires.kind 
 pub bits_of-bits-requires : goal.bits_of-bits-requires
 bits_of-bits-requires c = ap (λ (ws : List ℕ). length ws) c.as_slice.ensures ∙ key-one c.args.of.now c.requires.stands c.requires.kind c.requires.alone
 
-pub put_rows-requires-clause-stands : goal.put_rows-requires-clause-stands
-put_rows-requires-clause-stands c = (prefix-at c.args.of.now c.requires.stands c.requires.kind c.requires.alone c.loop-part.part-index c.part-item.result c.loop-part-test.true c.part-item.is).stands
-
-pub put_rows-requires-clause-kind : goal.put_rows-requires-clause-kind
-put_rows-requires-clause-kind c = (prefix-at c.args.of.now c.requires.stands c.requires.kind c.requires.alone c.loop-part.part-index c.part-item.result c.loop-part-test.true c.part-item.is).kind
-
-pub put_rows-requires-clause-short : goal.put_rows-requires-clause-short
-put_rows-requires-clause-short c = (prefix-at c.args.of.now c.requires.stands c.requires.kind c.requires.alone c.loop-part.part-index c.part-item.result c.loop-part-test.true c.part-item.is).short
-
-pub put_rows-requires-clause-memory : goal.put_rows-requires-clause-memory
-put_rows-requires-clause-memory c = c.requires.stands.memory
+pub put_rows-requires : goal.put_rows-requires
+put_rows-requires c = record {
+  stands = (prefix-at c.args.of.now c.requires.stands c.requires.kind c.requires.alone c.loop-part.part-index c.part-item.result c.loop-part-test.true c.part-item.is).stands;
+  kind = (prefix-at c.args.of.now c.requires.stands c.requires.kind c.requires.alone c.loop-part.part-index c.part-item.result c.loop-part-test.true c.part-item.is).kind;
+  short = (prefix-at c.args.of.now c.requires.stands c.requires.kind c.requires.alone c.loop-part.part-index c.part-item.result c.loop-part-test.true c.part-item.is).short;
+  memory = c.requires.stands.memory;
+}
 
 pub loop-part-preserved : goal.loop-part-preserved
 loop-part-preserved c =
@@ -37,7 +33,7 @@ loop-part-preserved c =
     let here = map (row_in config (part_at part)) part.slot.now.numbers in
     let rest = rows_of config (parts_at (drop (i + 1) parts)) in
     let step : before ++ rows_of config (parts_at (drop i parts)) ≡ before ++ (here ++ rest) =
-    ap (λ (ps : List Part). before ++ rows_of config (parts_at ps)) (drop-at parts i part c.loop-part-test.true ∙ ap (λ p. p ∷ drop (i + 1) parts) (sym c.part-item.is)) in
+    ap (λ (ps : List Part). before ++ rows_of config (parts_at ps)) (one_off parts i part c.loop-part-test.true ∙ ap (λ p. p ∷ drop (i + 1) parts) (sym c.part-item.is)) in
     ap (λ rows. rows ++ rest) c.in_ok-put_rows.ensures ∙ append_assoc before here rest ∙ sym step ∙ c.loop-part.invariant
 
 pub rows_fit-requires : goal.rows_fit-requires

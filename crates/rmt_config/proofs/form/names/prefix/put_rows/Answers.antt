@@ -8,8 +8,9 @@ use Rattle.rmt_config.specs.Cells.{cells_in}
 use Rattle.rmt_config.specs.declared.form.names.prefix_rows.Row.{Row}
 use Rattle.rmt_config.specs.PartsTold.{part_at}
 use Rattle.rmt_config.specs.PrefixRows.{row_in}
-use Rattle.rmt_config.proofs.SpelledLists.{drop-at, item-passes}
+use Rattle.rmt_config.proofs.SpelledLists.{item-passes}
 use Rattle.rmt_config.proofs.form.names.prefix.put_rows.Goals as goal
+use Rattle.rmt_config.proofs.RiseLaws.{one_off}
 
 pub held_in-held-requires-clause-within : goal.held_in-held-requires-clause-within
 held_in-held-requires-clause-within c =
@@ -42,7 +43,7 @@ loop-number-preserved c =
     ∙ ap (λ n. record { key = (row (get_or items i none)).key; mask = n; number = (get_or items i none).number }) held.ensures.mask
     ∙ ap (λ (ms : List CellNumber). row (get_or ms i none)) e in
     let step : before ++ map row (drop i ns) ≡ before ++ (row (get_or ns i none) ∷ rest) =
-    ap (λ (ms : List CellNumber). before ++ map row ms) (drop-at ns i none (subst (λ (ms : List CellNumber). i < length ms) e c.loop-number-test.true)) in
+    ap (λ (ms : List CellNumber). before ++ map row ms) (one_off ns i none (subst (λ (ms : List CellNumber). i < length ms) e c.loop-number-test.true)) in
     ap (λ rows. rows ++ rest) c.in_ok-push.ensures.items ∙ append_assoc before (made ∷ []) rest ∙ ap (λ r. before ++ (r ∷ rest)) made-is ∙ sym step ∙ c.loop-number.invariant
 
 pub returns : goal.returns

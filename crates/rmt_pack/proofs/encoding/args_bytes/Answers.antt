@@ -3,8 +3,8 @@ use Rattle.std.proofs.lemmas.List.{length-replicate, with_items_is}
 use Rattle.rmt_bits.specs.Bits.{number_of}
 use Rattle.rmt_bits.proofs.ByteLaws.{number_of-cleared}
 use Rattle.rmt_config.specs.BlockCounts.{divided_up}
-use Rattle.rmt_update.proofs.book.encoded.args_bytes.Goals as goal
-use Rattle.rmt_update.proofs.book.encoded.args_bytes.Goals.{After-deref_mut}
+use Rattle.rmt_pack.proofs.encoding.args_bytes.Goals as goal
+use Rattle.rmt_pack.proofs.encoding.args_bytes.Goals.{After-deref_mut}
 
 -- how many bytes there are
 size : (c : After-deref_mut) → length c.deref_mut.result.now ≡ divided_up c.args.bits 8

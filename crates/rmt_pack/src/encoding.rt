@@ -1,38 +1,24 @@
-//! Keys, masks and data of entries as bytes, the highest first.
+//! Tests and arguments of entries side by side, as bytes.
 
 ghost use Rattle.std.specs.Prelude.{◌≡◌, slice_index, ℕ, ◌+◌, ◌*◌, ◌<◌, ◌≤◌, ◌^◌, All, IfOk, length, replicate, sum};
 ghost use Rattle.std.specs.List.{AllZip};
-ghost use Rattle.rmt_bits.specs.Bits.{number_of};
+ghost use Rattle.rmt_bits.specs.Bits.{bytes_of, number_of};
 ghost use Rattle.rmt_ast.specs.WellFormed.{Fits, IsTest};
-ghost use Rattle.rmt_config.specs.BlockCounts.{divided_up as divided_up_of};
+ghost use Rattle.rmt_config.specs.BlockCounts.{divided_up};
 ghost use Rattle.rmt_config.specs.Rooms.{args_as_one, mask_or_value, tests_as_one};
 
+use crate::format::divide_up;
+use crate::need::sum_of;
 use rmt_ast::program::Test;
 use rmt_bits::bits::bytes_of_bits;
 use std::alloc::{AllocError, Global};
 
-/// The sum of some widths.
-fn width_sum(widths: &[u8]) -> u32
-    requires { sum widths.now < 2 ^ 32 }
-    ensures { result ≡ sum widths.now }
-{
-    widths.iter().map(|width| *width as u32).sum()
-}
-
-/// How many bytes hold so many bits.
-fn byte_count(bits: u32) -> u32
-    requires { bits < 65536 }
-    ensures { result ≡ divided_up_of bits 8 }
-{
-    (bits + 7) / 8
-}
-
 /// As many bytes, all 0, as hold so many bits. The only fault is want of memory.
 fn bytes_for(alloc: Global, bits: u32) -> Result<Vec<u8>, AllocError>
     requires { bits < 65536 }
-    ensures { IfOk result (λ bytes. bytes.items ≡ replicate (divided_up_of bits 8) 0) }
+    ensures { IfOk result (λ bytes. bytes.items ≡ replicate (divided_up bits 8) 0) }
 {
-    vec![in alloc; 0; byte_count(bits) as usize]
+    vec![in alloc; 0; divide_up(bits, 8) as usize]
 }
 
 /// The mask of a test, or its value.
@@ -59,7 +45,8 @@ fn put_tests(bytes: &mut [u8], first: u32, widths: &[u8], tests: &[Test], mask: 
     }
 }
 
-/// The values, or the masks, of tests of these widths side by side, the first highest. The only fault is want of memory.
+/// The values, or the masks, of tests of these widths side by side, the first highest, as the lowest bits of bytes.
+/// The only fault is want of memory.
 pub fn tests_bytes(
     alloc: Global,
     widths: &[u8],
@@ -69,46 +56,56 @@ pub fn tests_bytes(
     requires tests { AllZip IsTest widths.now tests.now }
     requires narrow { All (λ w. w ≤ 128) widths.now }
     requires few { sum widths.now ≤ 640 }
-    ensures long { IfOk result (λ bytes. length bytes.items ≡ divided_up_of (sum widths.now) 8) }
+    ensures long { IfOk result (λ bytes. length bytes.items ≡ divided_up (sum widths.now) 8) }
     ensures number { IfOk result (λ bytes. number_of bytes.items ≡ tests_as_one (mask_or_value mask) widths.now tests.now) }
+    ensures bytes { IfOk result (λ bytes. bytes.items ≡
+        bytes_of (divided_up (sum widths.now) 8) (tests_as_one (mask_or_value mask) widths.now tests.now)) }
 {
-    let bits = width_sum(widths);
+    let bits = sum_of(widths);
     let mut bytes = bytes_for(alloc, bits)?;
-    put_tests(&mut bytes, byte_count(bits) * 8 - bits, widths, tests, mask);
+    put_tests(
+        &mut bytes,
+        divide_up(bits, 8) * 8 - bits,
+        widths,
+        tests,
+        mask,
+    );
     Ok(bytes)
 }
 
-/// Puts arguments of these widths side by side into bytes that are 0, the first from the last bit upward.
-fn put_args(bytes: &mut [u8], widths: &[u8], args: &[u128])
+/// Puts arguments of these widths side by side into bytes that are 0, the first from bit `low` upward.
+fn put_args(bytes: &mut [u8], low: u32, widths: &[u8], args: &[u128])
     requires few { length bytes.old < 2 ^ 16 }
     requires zero { number_of bytes.old ≡ 0 }
-    requires room { sum widths.now ≤ 8 * length bytes.old }
+    requires room { low + sum widths.now ≤ 8 * length bytes.old }
     requires widths { All (λ w. w ≤ 128) widths.now }
     requires fit { AllZip Fits widths.now args.now }
-    ensures { number_of bytes.new ≡ args_as_one widths.now args.now }
+    ensures { number_of bytes.new ≡ 2 ^ low * args_as_one widths.now args.now }
 {
-    let mut above = bytes.len() as u32 * 8;
+    let mut above = bytes.len() as u32 * 8 - low;
     for at in 0..widths.len() {
         above -= widths[at] as u32;
         bytes_of_bits(args[at], widths[at], bytes, above);
     }
 }
 
-/// Arguments of these widths side by side in so many bits, the first lowest. The only fault is want of memory.
+/// Arguments of these widths side by side in so many bits as bytes, the first from bit `low` upward. The only fault is
+/// want of memory.
 pub fn args_bytes(
     alloc: Global,
     bits: u32,
+    low: u32,
     widths: &[u8],
     args: &[u128],
 ) -> Result<Vec<u8>, AllocError>
     requires args { AllZip Fits widths.now args.now }
     requires narrow { All (λ w. w ≤ 128) widths.now }
     requires few { bits < 65536 }
-    requires room { sum widths.now ≤ bits }
-    ensures long { IfOk result (λ bytes. length bytes.items ≡ divided_up_of bits 8) }
-    ensures number { IfOk result (λ bytes. number_of bytes.items ≡ args_as_one widths.now args.now) }
+    requires room { low + sum widths.now ≤ bits }
+    ensures long { IfOk result (λ bytes. length bytes.items ≡ divided_up bits 8) }
+    ensures number { IfOk result (λ bytes. number_of bytes.items ≡ 2 ^ low * args_as_one widths.now args.now) }
 {
     let mut bytes = bytes_for(alloc, bits)?;
-    put_args(&mut bytes, widths, args);
+    put_args(&mut bytes, low, widths, args);
     Ok(bytes)
 }

@@ -1,9 +1,8 @@
 use Rattle.std.proofs.Common.{◌≡◌, ℕ, ◌+◌, ◌-◌, ◌*◌, ◌^◌, ◌<◌, get_or, length, take}
 use Rattle.std.specs.Prelude.{sum}
 use Rattle.rmt_bits.specs.Bits.{number_of}
-use Rattle.rmt_config.specs.Rooms.{tests_as_one}
-use Rattle.rmt_config.specs.Rooms.{mask_or_value}
-use Rattle.rmt_update.proofs.book.encoded.put_tests.Given as goal
+use Rattle.rmt_config.specs.Rooms.{mask_or_value, tests_as_one}
+use Rattle.rmt_pack.proofs.encoding.put_tests.Given as goal
 
 -- the tests so far stand at their places, and behind them only zeros
 abbrev pub invariant-loop-at : goal.invariant-loop-at
